@@ -1,0 +1,60 @@
+-- Laws of Kronecker's delta and of a test as a number.
+-- Assumes nothing.
+use mathlib.Core.Path.{_≡_, refl, sym, ap, _∙_, subst}
+use mathlib.Core.Bool.{Bool, true, false, _&&_}
+use mathlib.Core.Logic.{_≢_}
+use Prim.Native.Nat.{ℕ, zero, suc, _+_, _*_, _≤_, _<_}
+use native.Mathlib.Nat.{one-mul, zero-mul}
+use native.Mathlib.Decide.{ℕ-discrete}
+use native.Mathlib.Omega.{arith}
+use lib.Dec.{eqb}
+use borrow.Author.Tests.{eq-eqb, ne-eqb}
+use Rattle.finite.specs.Range.{bit, δ}
+
+pub bit-le : (t : Bool) → bit t ≤ 1
+bit-le true = omega arith
+bit-le false = omega arith
+
+pub bit-and : (s t : Bool) → bit (s && t) ≡ bit s * bit t
+bit-and true true = refl
+bit-and true false = refl
+bit-and false true = refl
+bit-and false false = refl
+
+pub δ-same : (a b : ℕ) → a ≡ b → δ a b ≡ 1
+unfolding δ
+δ-same a b e = rw (eq-eqb a b e)
+
+pub δ-self : (a : ℕ) → δ a a ≡ 1
+δ-self a = δ-same a a refl
+
+pub δ-other : (a b : ℕ) → a ≢ b → δ a b ≡ 0
+unfolding δ
+δ-other a b e = rw (ne-eqb a b e)
+
+pub δ-le : (a b : ℕ) → δ a b ≤ 1
+unfolding δ
+δ-le a b = bit-le (eqb a b)
+
+pub δ-sym : (a b : ℕ) → δ a b ≡ δ b a
+δ-sym a b = go (ℕ-discrete a b)
+  where
+    go : Dec (a ≡ b) → δ a b ≡ δ b a
+    go (yes e) = rw e
+    go (no e) = δ-other a b e ∙ sym (δ-other b a (λ q. e (sym q)))
+
+-- what is not 0 is at equal numbers
+pub δ-pos : (a b : ℕ) → 0 < δ a b → a ≡ b
+δ-pos a b h = go (ℕ-discrete a b)
+  where
+    go : Dec (a ≡ b) → a ≡ b
+    go (yes e) = e
+    go (no e) = absurd (omega (arith, δ-other a b e))
+
+-- a factor δ a b lets a stand for b
+pub δ-move : (f : ℕ → ℕ) (a b : ℕ) → δ a b * f a ≡ δ a b * f b
+δ-move f a b = go (ℕ-discrete a b)
+  where
+    go : Dec (a ≡ b) → δ a b * f a ≡ δ a b * f b
+    go (yes e) = rw e
+    go (no e) = rw (δ-other a b e, zero-mul, zero-mul)

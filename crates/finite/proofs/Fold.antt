@@ -1,0 +1,55 @@
+-- Laws of `foldTo`, `catTo` and `fillTo`.
+-- Assumes nothing.
+use mathlib.Core.Path.{_≡_, refl, sym, ap, _∙_}
+use mathlib.Core.List.{List, [], _∷_, _++_}
+use mathlib.Core.Logic.{⊎-elim}
+use Prim.Native.Nat.{ℕ, zero, suc, _+_, _≤_, _<_}
+use native.Mathlib.Nat.{not-suc-le-zero, eq-or-lt-of-le, le-of-suc-le-suc, add-zero, suc-add, add-suc}
+use native.Mathlib.Numerals.{add-one}
+use native.Mathlib.Omega.{arith}
+use lib.ListN.{length, getD, set, length-set}
+use lib.Seq.{sets, getD-set-same, getD-set-other}
+use Rattle.finite.specs.Range.{foldTo, catTo, fillTo}
+
+pub foldTo-none : {A : Type 0} (f : ℕ → A → A) (s : A) → foldTo 0 f s ≡ s
+unfolding foldTo
+foldTo-none f s = refl
+
+pub foldTo-more : {A : Type 0} (f : ℕ → A → A) (s : A) (n : ℕ) → foldTo (n + 1) f s ≡ f n (foldTo n f s)
+unfolding foldTo
+foldTo-more f s n = rw add-one
+
+pub catTo-none : (f : ℕ → List ℕ) → catTo 0 f ≡ []
+unfolding catTo
+catTo-none f = refl
+
+pub catTo-more : (f : ℕ → List ℕ) (n : ℕ) → catTo (n + 1) f ≡ catTo n f ++ f n
+unfolding catTo
+catTo-more f n = rw add-one
+
+-- what is written after a is written behind it
+pub sets-append : (l : List ℕ) (i : ℕ) (a b : List ℕ) → sets l i (a ++ b) ≡ sets (sets l i a) (i + length a) b
+sets-append l i [] b = rw add-zero
+sets-append l i (x ∷ a) b = rw (sets-append (set l i x) (suc i) a b, suc-add, add-suc)
+
+pub fillTo-none : (f : ℕ → ℕ) (t : List ℕ) → fillTo 0 f t ≡ t
+unfolding fillTo
+fillTo-none f t = refl
+
+pub fillTo-more : (f : ℕ → ℕ) (t : List ℕ) (n : ℕ) → fillTo (n + 1) f t ≡ set (fillTo n f t) n (f n)
+unfolding fillTo
+fillTo-more f t n = rw add-one
+
+pub fillTo-length : (f : ℕ → ℕ) (t : List ℕ) (n : ℕ) → length (fillTo n f t) ≡ length t
+unfolding fillTo
+fillTo-length f t zero = refl
+fillTo-length f t (suc n) = rw (length-set, fillTo-length f t n)
+
+pub fillTo-at : (f : ℕ → ℕ) (t : List ℕ) (n k : ℕ) → n ≤ length t → k < n → getD (fillTo n f t) k 0 ≡ f k
+unfolding fillTo
+fillTo-at f t zero k h l = absurd (not-suc-le-zero l)
+fillTo-at f t (suc n) k h l =
+    ⊎-elim
+    (λ e. ap (λ (j : ℕ). getD (fillTo (suc n) f t) j 0) e ∙ getD-set-same (fillTo n f t) n (f n) 0 (rw (fillTo-length f t n) h) ∙ sym (ap f e))
+    (λ s. getD-set-other (fillTo n f t) n k (f n) 0 (omega arith) ∙ fillTo-at f t n k (omega arith) s)
+    (eq-or-lt-of-le (le-of-suc-le-suc l))

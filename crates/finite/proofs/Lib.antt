@@ -1,0 +1,5 @@
+pub mod Delta
+pub mod Sum
+pub mod All
+pub mod Lowest
+pub mod Fold

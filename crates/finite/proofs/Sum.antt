@@ -1,0 +1,153 @@
+-- Laws of `sumTo`.
+-- Assumes nothing.
+use mathlib.Core.Path.{_≡_, refl, sym, ap, _∙_, subst}
+use mathlib.Core.Bool.{Bool, true, false}
+use mathlib.Core.Logic.{_≢_, ⊎-elim}
+use Prim.Native.Nat.{ℕ, zero, suc, _+_, _*_, _-_, _≤_, _<_, zero-le}
+use native.Mathlib.Nat.{not-suc-le-zero, eq-or-lt-of-le, le-of-suc-le-suc, add-zero, add-suc, add-assoc, zero-mul, one-mul, mul-zero, mul-add, suc-mul}
+use native.Mathlib.Numerals.{add-one}
+use native.Mathlib.Decide.{ℕ-discrete, decLt}
+use native.Mathlib.Omega.{arith}
+use lib.Dec.{ltb}
+use borrow.Author.Tests.{lt-ltb, le-ltb}
+use Rattle.finite.specs.Range.{bit, δ, sumTo}
+use Rattle.finite.proofs.Delta.{δ-self, δ-other}
+
+pub sumTo-none : (f : ℕ → ℕ) → sumTo 0 f ≡ 0
+unfolding sumTo
+sumTo-none f = refl
+
+pub sumTo-more : (f : ℕ → ℕ) (n : ℕ) → sumTo (n + 1) f ≡ sumTo n f + f n
+unfolding sumTo
+sumTo-more f n = rw add-one
+
+-- equal terms, equal sums
+pub sumTo-cong : (n : ℕ) (f g : ℕ → ℕ) → ((i : ℕ) → i < n → f i ≡ g i) → sumTo n f ≡ sumTo n g
+unfolding sumTo
+sumTo-cong zero f g h = refl
+sumTo-cong (suc n) f g h = rw (sumTo-cong n f g (λ i l. h i (omega arith)), h n (omega arith))
+
+pub sumTo-add : (n : ℕ) (f g : ℕ → ℕ) → sumTo n (λ i. f i + g i) ≡ sumTo n f + sumTo n g
+unfolding sumTo
+sumTo-add zero f g = refl
+sumTo-add (suc n) f g = rw (sumTo-add n f g) (omega arith)
+
+pub sumTo-scale : (c n : ℕ) (f : ℕ → ℕ) → sumTo n (λ i. c * f i) ≡ c * sumTo n f
+unfolding sumTo
+sumTo-scale c zero f = sym (mul-zero c)
+sumTo-scale c (suc n) f = rw (sumTo-scale c n f, mul-add)
+
+pub sumTo-const : (c n : ℕ) → sumTo n (λ i. c) ≡ n * c
+unfolding sumTo
+sumTo-const c zero = sym (zero-mul c)
+sumTo-const c (suc n) = rw (sumTo-const c n, suc-mul)
+
+pub sumTo-zero : (n : ℕ) (f : ℕ → ℕ) → ((i : ℕ) → i < n → f i ≡ 0) → sumTo n f ≡ 0
+unfolding sumTo
+sumTo-zero zero f h = refl
+sumTo-zero (suc n) f h = rw (sumTo-zero n f (λ i l. h i (omega arith)), h n (omega arith))
+
+-- the order of two sums does not matter
+pub sumTo-swap : (n m : ℕ) (f : ℕ → ℕ → ℕ) → sumTo n (λ i. sumTo m (λ j. f i j)) ≡ sumTo m (λ j. sumTo n (λ i. f i j))
+unfolding sumTo
+sumTo-swap zero m f = sym (sumTo-zero m (λ j. 0) (λ i l. refl))
+sumTo-swap (suc n) m f = rw (sumTo-swap n m f) (sym (sumTo-add m (λ j. sumTo n (λ i. f i j)) (f n)))
+
+-- one index
+pub sumTo-at : (n j : ℕ) (f : ℕ → ℕ) → j < n → sumTo n (λ i. δ i j * f i) ≡ f j
+unfolding sumTo
+sumTo-at zero j f h = absurd (not-suc-le-zero h)
+sumTo-at (suc n) j f h = ⊎-elim last (λ l. earlier l (sumTo-at n j f l)) (eq-or-lt-of-le (le-of-suc-le-suc h))
+  where
+    last : j ≡ n → sumTo n (λ i. δ i j * f i) + δ n j * f n ≡ f j
+    last e =
+        rw (sumTo-zero n (λ i. δ i j * f i) (λ i l. rw (δ-other i j (omega arith)) (zero-mul (f i))))
+        (rw (e, δ-self n, one-mul (f n)) (omega arith))
+
+    earlier : j < n → sumTo n (λ i. δ i j * f i) ≡ f j → sumTo n (λ i. δ i j * f i) + δ n j * f n ≡ f j
+    earlier l ih = rw (ih, δ-other n j (omega arith), zero-mul (f n)) (add-zero (f j))
+
+pub sumTo-mono : (n : ℕ) (f g : ℕ → ℕ) → ((i : ℕ) → i < n → f i ≤ g i) → sumTo n f ≤ sumTo n g
+unfolding sumTo
+sumTo-mono zero f g h = omega arith
+sumTo-mono (suc n) f g h = omega (arith, sumTo-mono n f g (λ i l. h i (omega arith)), h n (omega arith))
+
+-- one smaller term among terms that are no larger makes the sum smaller
+pub sumTo-strict : (n : ℕ) (f g : ℕ → ℕ) → ((i : ℕ) → i < n → f i ≤ g i) → (j : ℕ) → j < n → f j < g j → sumTo n f < sumTo n g
+unfolding sumTo
+sumTo-strict zero f g h j l s = absurd (not-suc-le-zero l)
+sumTo-strict (suc n) f g h j l s =
+    ⊎-elim
+    (λ e. let t : f n < g n = rw e at s in omega (arith, sumTo-mono n f g (λ i m. h i (omega arith))))
+    (λ m. omega (arith, sumTo-strict n f g (λ i k. h i (omega arith)) j m s, h n (omega arith)))
+    (eq-or-lt-of-le (le-of-suc-le-suc l))
+
+-- a smaller sum has a smaller term
+pub sumTo-less : (n : ℕ) (f g : ℕ → ℕ) → sumTo n f < sumTo n g → (i : ℕ) × (i < n) × (f i < g i)
+unfolding sumTo
+sumTo-less zero f g h = absurd (omega arith)
+sumTo-less (suc n) f g h = go (decLt (f n) (g n)) (sumTo-less n f g)
+  where
+    go : Dec (f n < g n) → (sumTo n f < sumTo n g → (i : ℕ) × (i < n) × (f i < g i)) → (i : ℕ) × (i < suc n) × (f i < g i)
+    go (yes l) ih = (n, omega arith, l)
+    go (no l) ih = let r = ih (omega arith) in (r .0, omega (arith, r .1), r .2)
+
+-- equal sums of terms that are no larger have equal terms
+pub sumTo-tight : (n : ℕ) (f g : ℕ → ℕ) → ((i : ℕ) → i < n → f i ≤ g i) → sumTo n f ≡ sumTo n g → (i : ℕ) → i < n → f i ≡ g i
+sumTo-tight n f g h e i l = go (decLt (f i) (g i))
+  where
+    go : Dec (f i < g i) → f i ≡ g i
+    go (yes s) = absurd (omega (arith, sumTo-strict n f g h i l s))
+    go (no s) = omega (arith, h i l)
+
+-- a term is at most the sum
+pub sumTo-term : (n : ℕ) (f : ℕ → ℕ) (j : ℕ) → j < n → f j ≤ sumTo n f
+unfolding sumTo
+sumTo-term zero f j l = absurd (not-suc-le-zero l)
+sumTo-term (suc n) f j l =
+    ⊎-elim (λ e. rw e (omega arith)) (λ m. omega (arith, sumTo-term n f j m)) (eq-or-lt-of-le (le-of-suc-le-suc l))
+
+-- a longer sum is no smaller
+pub sumTo-longer : (n k : ℕ) (f : ℕ → ℕ) → sumTo n f ≤ sumTo (n + k) f
+unfolding sumTo
+sumTo-longer n zero f = rw add-zero (omega arith)
+sumTo-longer n (suc k) f = rw add-suc (omega (arith, sumTo-longer n k f))
+
+pub sumTo-le : (n m : ℕ) (f : ℕ → ℕ) → n ≤ m → sumTo n f ≤ sumTo m f
+sumTo-le n m f h = let e : m ≡ n + (m - n) = omega arith in rw e (sumTo-longer n (m - n) f)
+
+-- a sum in two parts
+pub sumTo-split : (n k : ℕ) (f : ℕ → ℕ) → sumTo (n + k) f ≡ sumTo n f + sumTo k (λ i. f (n + i))
+unfolding sumTo
+sumTo-split n zero f = rw (add-zero, add-zero)
+sumTo-split n (suc k) f = rw (add-suc, sumTo-split n k f) (add-assoc (sumTo n f) (sumTo k (λ i. f (n + i))) (f (n + k)))
+
+-- how many numbers below n are below p
+pub sumTo-below : (n p : ℕ) → p ≤ n → sumTo n (λ v. bit (ltb v p)) ≡ p
+unfolding sumTo
+sumTo-below zero p h = omega arith
+sumTo-below (suc n) p h = ⊎-elim whole (λ l. part l (sumTo-below n p (omega arith))) (eq-or-lt-of-le h)
+  where
+    all : (m : ℕ) → m ≤ p → sumTo m (λ v. bit (ltb v p)) ≡ m
+    all zero l = refl
+    all (suc m) l = rw (all m (omega arith), lt-ltb m p (omega arith)) (add-one m)
+
+    whole : p ≡ suc n → sumTo n (λ v. bit (ltb v p)) + bit (ltb n p) ≡ p
+    whole e = rw (all n (omega arith), lt-ltb n p (omega arith)) (omega arith)
+
+    part : p < suc n → sumTo n (λ v. bit (ltb v p)) ≡ p → sumTo n (λ v. bit (ltb v p)) + bit (ltb n p) ≡ p
+    part l ih = rw (ih, le-ltb n p (omega arith)) (add-zero p)
+
+-- a symmetric sum with an empty diagonal is twice its lower triangle
+pub sumTo-triangle : (n : ℕ) (f : ℕ → ℕ → ℕ) → ((v w : ℕ) → v < n → w < n → f v w ≡ f w v) → ((v : ℕ) → v < n → f v v ≡ 0)
+    → sumTo n (λ v. sumTo n (f v)) ≡ 2 * sumTo n (λ v. sumTo v (f v))
+unfolding sumTo
+sumTo-triangle zero f s d = refl
+sumTo-triangle (suc n) f s d =
+    rw (
+      sumTo-add n (λ v. sumTo n (f v)) (λ v. f v n),
+      sumTo-triangle n f (λ v w l m. s v w (omega arith) (omega arith)) (λ v l. d v (omega arith)),
+      sumTo-cong n (λ v. f v n) (f n) (λ v l. s v n (omega arith) (omega arith)),
+      d n (omega arith),
+    )
+    (omega arith)
