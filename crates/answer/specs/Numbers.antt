@@ -1,0 +1,78 @@
+-- Document 01's number of each cause, and the number and values of each case of each answer.
+-- Assumes nothing.
+use Prim.Native.Nat.{ℕ}
+use Rattle.answer.specs.declared.Cause.{Cause}
+use Rattle.answer.specs.declared.Cause.the-variants.{Length as LengthCause, Invalid, Phase, BlockLength, Record, BlockNumber, Conflict, JournalFull, OddDiagonal, UnevenRow, OverfullCell, TooManyVertices, VertexNumber, SameVertex, Linked, CellFull, NotLinked, OutputLength, EdgeList, DegreeAbove}
+use Rattle.answer.specs.declared.Refusal.{Refusal}
+use Rattle.answer.specs.declared.ClearAnswer.{ClearAnswer}
+use Rattle.answer.specs.declared.ClearAnswer.the-variants as Clear
+use Rattle.answer.specs.declared.TakeAnswer.{TakeAnswer}
+use Rattle.answer.specs.declared.TakeAnswer.the-variants as Take
+use Rattle.answer.specs.declared.LengthAnswer.{LengthAnswer}
+use Rattle.answer.specs.declared.LengthAnswer.the-variants as Len
+use Rattle.answer.specs.declared.LayOutAnswer.{LayOutAnswer}
+use Rattle.answer.specs.declared.LayOutAnswer.the-variants as LayOut
+use Rattle.answer.specs.declared.FiguresAnswer.{FiguresAnswer}
+use Rattle.answer.specs.declared.FiguresAnswer.the-variants as Figs
+
+-- the numbers of document 01's table
+abbrev pub numberOf : Cause → ℕ
+numberOf LengthCause = 1
+numberOf Invalid = 2
+numberOf Phase = 3
+numberOf BlockLength = 4
+numberOf Record = 5
+numberOf BlockNumber = 6
+numberOf Conflict = 7
+numberOf JournalFull = 8
+numberOf OddDiagonal = 9
+numberOf UnevenRow = 10
+numberOf OverfullCell = 11
+numberOf TooManyVertices = 12
+numberOf VertexNumber = 13
+numberOf SameVertex = 14
+numberOf Linked = 15
+numberOf CellFull = 16
+numberOf NotLinked = 17
+numberOf OutputLength = 18
+numberOf EdgeList = 19
+numberOf DegreeAbove = 20
+
+-- An answer in numbers: 0 and its values where the call did its work, else the refusal's number and its two places.
+-- What is not named is 0.
+pub record Numbers : Type 0 where
+  pub number : ℕ
+  pub first : ℕ
+  pub second : ℕ
+  pub third : ℕ
+  pub fourth : ℕ
+  pub fifth : ℕ
+
+abbrev pub refused : Refusal → Numbers
+refused r = record { number = numberOf (r .cause); first = r .first; second = r .second; third = 0; fourth = 0; fifth = 0 }
+
+abbrev pub done : ℕ → ℕ → Numbers
+done a b = record { number = 0; first = a; second = b; third = 0; fourth = 0; fifth = 0 }
+
+abbrev pub clearNumbers : ClearAnswer → Numbers
+clearNumbers Clear.Cleared = done 0 0
+clearNumbers (Clear.Refused r) = refused r
+
+-- first: 0 taken, 1 held; second: the number of the next block where it was taken
+abbrev pub takeNumbers : TakeAnswer → Numbers
+takeNumbers (Take.Taken next) = done 0 next
+takeNumbers Take.Held = done 1 0
+takeNumbers (Take.Refused r) = refused r
+
+abbrev pub lengthNumbers : LengthAnswer → Numbers
+lengthNumbers (Len.Length n) = done n 0
+lengthNumbers (Len.Refused r) = refused r
+
+abbrev pub layOutNumbers : LayOutAnswer → Numbers
+layOutNumbers (LayOut.LaidOut n) = done n 0
+layOutNumbers (LayOut.Refused r) = refused r
+
+abbrev pub figuresNumbers : FiguresAnswer → Numbers
+figuresNumbers (Figs.Reported f) =
+    record { number = 0; first = f .phase; second = f .blocks; third = f .vertices; fourth = f .wanted; fifth = f .laid }
+figuresNumbers (Figs.Refused r) = refused r

@@ -1,0 +1,20 @@
+-- Refusals as values, and the chain of checks that document 01's table is.
+-- Assumes nothing.
+use mathlib.Core.Bool.{Bool, true, false}
+use Prim.Native.Nat.{ℕ}
+use Rattle.answer.specs.declared.Cause.{Cause}
+use Rattle.answer.specs.declared.Refusal.{Refusal}
+use Rattle.answer.specs.declared.Verdict.{Verdict}
+use Rattle.answer.specs.declared.Verdict.the-variants.{Go, Stop}
+
+abbrev pub refusal : Cause → ℕ → ℕ → Refusal
+refusal c a b = record { cause = c; first = a; second = b }
+
+abbrev pub stop : Cause → Verdict
+stop c = Stop (refusal c 0 0)
+
+-- Unless the test holds, the refusal; else the rest. A chain of these reads like document 01's table, top to bottom.
+module _ {A : Type 0} where
+  abbrev pub unless : Bool → A → A → A
+  unless true refused rest = rest
+  unless false refused rest = refused

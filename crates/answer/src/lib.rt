@@ -1,0 +1,95 @@
+// What the entries answer. specs/Numbers.antt gives document 01's number and values for each case.
+ghost use mathlib.Core.Path.{_≡_};
+ghost use Rattle.answer.specs.Refusals.{refusal, stop};
+
+// Why a call is refused: one case for each number of document 01's table.
+pub enum Cause {
+    Length,
+    Invalid,
+    Phase,
+    BlockLength,
+    Record,
+    BlockNumber,
+    Conflict,
+    JournalFull,
+    OddDiagonal,
+    UnevenRow,
+    OverfullCell,
+    TooManyVertices,
+    VertexNumber,
+    SameVertex,
+    Linked,
+    CellFull,
+    NotLinked,
+    OutputLength,
+    EdgeList,
+    DegreeAbove,
+}
+
+// A cause with two places, 0 where none is named.
+pub struct Refusal {
+    pub cause: Cause,
+    pub first: usize,
+    pub second: usize,
+}
+
+// Whether a call may go on.
+pub enum Verdict {
+    Go,
+    Stop(Refusal),
+}
+
+pub enum ClearAnswer {
+    Cleared,
+    Refused(Refusal),
+}
+
+// Taking a block: taken, with the number of the next block; held already; or refused.
+pub enum TakeAnswer {
+    Taken(usize),
+    Held,
+    Refused(Refusal),
+}
+
+// The length of a held block.
+pub enum LengthAnswer {
+    Length(usize),
+    Refused(Refusal),
+}
+
+// Laying out: the number of vertices.
+pub enum LayOutAnswer {
+    LaidOut(usize),
+    Refused(Refusal),
+}
+
+pub struct Figures {
+    pub phase: usize,
+    pub blocks: usize,
+    pub vertices: usize,
+    pub wanted: usize,
+    pub laid: usize,
+}
+
+pub enum FiguresAnswer {
+    Reported(Figures),
+    Refused(Refusal),
+}
+
+// The refusal of a cause at two places.
+pub fn refuse(cause: Cause, first: usize, second: usize) -> Refusal
+    ensures { λ r. ⌜ r ≡ refusal cause first second ⌝ }
+{
+    Refusal {
+        cause,
+        first,
+        second,
+    }
+}
+
+// The verdict that refuses, with no place named.
+pub fn stopped(cause: Cause) -> Verdict
+    ensures { λ r. ⌜ r ≡ stop cause ⌝ }
+{
+    Verdict::Stop(refuse(cause, 0, 0))
+}

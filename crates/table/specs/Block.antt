@@ -1,0 +1,68 @@
+-- Blocks and records (document 01, "Blocks and records"), and what a block adds to the joint degree matrix.
+-- Assumes nothing.
+use mathlib.Core.Bool.{Bool, _&&_, _||_, not, cond}
+use mathlib.Core.List.{List}
+use Prim.Native.Nat.{ℕ, _+_, _*_, _/_, _%_}
+use lib.Dec.{eqb, ltb, leb}
+use lib.ListN.{length, getD}
+use Rattle.finite.specs.Range.{sumTo, lowest}
+use Rattle.graph.specs.Tests.{leastDegree, mostDegree}
+use Rattle.table.specs.declared.degree.Degree.{Degree}
+use Rattle.table.specs.declared.degree.MadeDegree.{MadeDegree}
+use Rattle.table.specs.declared.degree.MadeDegree.the-variants.{Made, OutOfRange}
+
+-- bytes of a record, and the most bytes of a block
+abbrev pub recordSize : ℕ
+recordSize = 4
+
+abbrev pub blockMost : ℕ
+blockMost = 64
+
+-- a degree runs from 1 to 40
+abbrev pub isDegree : ℕ → Bool
+isDegree x = leb leastDegree x && leb x mostDegree
+
+-- the degree of a record byte, or none
+abbrev pub madeDegree : ℕ → MadeDegree
+madeDegree x = cond (isDegree x) (Made (record { 0 = x })) OutOfRange
+
+-- a block of n bytes: 1 to 16 whole records
+abbrev pub blockLength : ℕ → Bool
+blockLength n = ltb 0 n && leb n blockMost && eqb (n % recordSize) 0
+
+-- record i of the block b: k, l, and the count, low byte first
+abbrev pub records : List ℕ → ℕ
+records b = length b / recordSize
+
+abbrev pub recordK : List ℕ → ℕ → ℕ
+recordK b i = getD b (recordSize * i) 0
+
+abbrev pub recordL : List ℕ → ℕ → ℕ
+recordL b i = getD b (recordSize * i + 1) 0
+
+abbrev pub recordCount : List ℕ → ℕ → ℕ
+recordCount b i = getD b (recordSize * i + 2) 0 + 256 * getD b (recordSize * i + 3) 0
+
+-- both are degrees, and k ≤ l
+abbrev pub goodRecord : List ℕ → ℕ → Bool
+goodRecord b i = isDegree (recordK b i) && isDegree (recordL b i) && leb (recordK b i) (recordL b i)
+
+-- the first record that is not good; the number of records where all are
+abbrev pub firstBad : List ℕ → ℕ
+firstBad b = lowest 0 (records b) (λ i. not (goodRecord b i))
+
+-- a block that 4 and 5 let pass
+abbrev pub wellFormed : List ℕ → Bool
+wellFormed b = blockLength (length b) && eqb (firstBad b) (records b)
+
+-- (k, l) is the pair (a, b), in either order
+abbrev pub samePair : ℕ → ℕ → ℕ → ℕ → Bool
+samePair k l a b = (eqb k a && eqb l b) || (eqb k b && eqb l a)
+
+-- What record i adds to cell (k, l): its count where (k, l) is its pair in either order, so to the diagonal once.
+abbrev pub recordCell : List ℕ → ℕ → ℕ → ℕ → ℕ
+recordCell b i k l = cond (samePair k l (recordK b i) (recordL b i)) (recordCount b i) 0
+
+-- what the block adds to cell (k, l)
+abbrev pub blockCell : List ℕ → ℕ → ℕ → ℕ
+blockCell b k l = sumTo (records b) (λ i. recordCell b i k l)

@@ -1,0 +1,45 @@
+-- A joint degree matrix as the code keeps it: one number for each pair of degrees, in either order, in an array of 41 × 41.
+-- Assumes nothing.
+use mathlib.Core.Bool.{Bool, _&&_, cond}
+use mathlib.Core.List.{List}
+use Prim.Native.Nat.{ℕ, _+_, _*_, _≤_, min, max}
+use lib.Dec.{ltb}
+use lib.ListN.{getD, set, replicate}
+use Rattle.finite.specs.Range.{foldTo}
+use Rattle.graph.specs.Tests.{degrees}
+use Rattle.table.specs.Block.{records, recordK, recordL, recordCount}
+
+-- how many numbers the array has
+abbrev pub cellsSize : ℕ
+cellsSize = 1681
+
+-- where the cell of k and l stands, in either order
+abbrev pub place : ℕ → ℕ → ℕ
+place k l = min k l * degrees + max k l
+
+-- the matrix that an array holds; cells of degree 41 and above are 0
+abbrev pub matrixOf : List ℕ → ℕ → ℕ → ℕ
+matrixOf c k l = cond (ltb k degrees && ltb l degrees) (getD c (place k l) 0) 0
+
+abbrev pub noCells : List ℕ
+noCells = replicate cellsSize 0
+
+-- the array c with record i of the block b added
+abbrev pub addRecord : List ℕ → ℕ → List ℕ → List ℕ
+addRecord b i c = set c (place (recordK b i) (recordL b i)) (getD c (place (recordK b i) (recordL b i)) 0 + recordCount b i)
+
+-- the array c with all records of the block b added
+abbrev pub addBlock : List ℕ → List ℕ → List ℕ
+addBlock b c = foldTo (records b) (addRecord b) c
+
+-- no number of the array is above m
+abbrev pub AtMost : ℕ → List ℕ → Type 0
+AtMost m c = (p : ℕ) → getD c p 0 ≤ m
+
+-- the most that 64 blocks of 16 records can add to one cell: 64 × 16 × 65,535
+abbrev pub cellSumMost : ℕ
+cellSumMost = 67107840
+
+-- the most that a block can add to one cell: 16 × 65,535
+abbrev pub blockSumMost : ℕ
+blockSumMost = 1048560

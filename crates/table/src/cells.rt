@@ -1,0 +1,61 @@
+// The joint degree matrix as an array: one number for each pair of degrees, in either order.
+ghost use mathlib.Core.Path.{_≡_};
+ghost use mathlib.Core.Bool.{true};
+ghost use Prim.Native.Nat.{ℕ, _+_, _*_, _≤_, _<_};
+ghost use lib.ListN.{length};
+ghost use Rattle.graph.specs.Tests.{degrees};
+ghost use Rattle.table.specs.Block.{recordSize, blockMost, goodRecord, records, firstBad};
+ghost use Rattle.table.specs.Cells.{matrixOf, place, addRecord, addBlock, AtMost, cellSumMost, blockSumMost};
+
+// The degrees are the numbers 1 to DEGREES - 1.
+pub const DEGREES: usize = 41;
+
+pub const CELLS: usize = 1681;
+
+// A count as a number.
+pub fn wide32(x: u32) -> usize
+    ensures { λ r. ⌜ (r ≡ x) × (r < 4294967296) ⌝ }
+{
+    x as usize
+}
+
+pub fn place_of(k: usize, l: usize) -> usize
+    requires { ⌜ (k < degrees) × (l < degrees) ⌝ }
+    ensures { λ r. ⌜ (r ≡ place k l) × (r < 1681) ⌝ }
+{
+    if k <= l {
+        return k * DEGREES + l;
+    }
+    l * DEGREES + k
+}
+
+// Cell (k, l), which is also cell (l, k).
+pub fn cell(cells: &[u32; 1681], k: usize, l: usize) -> usize
+    requires { ⌜ (k < degrees) × (l < degrees) ⌝ }
+    ensures { λ r. ⌜ (r ≡ matrixOf (now (cells .entry)) k l) × (r < 4294967296) ⌝ }
+{
+    wide32(cells[place_of(k, l)])
+}
+
+pub fn add_record(cells: &mut [u32; 1681], block: &[u8], i: usize)
+    requires { ⌜ (recordSize * i + recordSize ≤ length (now block)) × (goodRecord (now block) i ≡ true) × AtMost (cellSumMost) (now cells) ⌝ }
+    ensures { λ _. ⌜ now (cells .exit) ≡ addRecord (now (block .entry)) i (now (cells .entry)) ⌝ }
+{
+    let at = crate::record::RECORD_SIZE * i;
+    let k = crate::record::wide(block[at]);
+    let l = crate::record::wide(block[at + 1]);
+    let p = place_of(k, l);
+    let sum = wide32(cells[p]) + crate::record::record_count(block, i);
+    cells[p] = sum as u32;
+}
+
+// Adds every record of a block whose records are all good.
+pub fn add_block(cells: &mut [u32; 1681], block: &[u8])
+    requires { ⌜ (length (now block) ≤ blockMost) × (firstBad (now block) ≡ records (now block)) × ((m : ℕ) × (m + blockSumMost ≤ cellSumMost) × AtMost m (now cells)) ⌝ }
+    ensures { λ _. ⌜ now (cells .exit) ≡ addBlock (now (block .entry)) (now (cells .entry)) ⌝ }
+{
+    let n = block.len() / crate::record::RECORD_SIZE;
+    for i in 0..n {
+        add_record(cells, block, i);
+    }
+}

@@ -1,0 +1,183 @@
+// Document 01's tests 9 to 12 on a matrix, D(k), N, and the degree of each vertex.
+ghost use mathlib.Core.Path.{_≡_};
+ghost use Prim.Native.Nat.{ℕ, _+_, _*_, _≤_, _<_};
+ghost use lib.ListN.{length};
+ghost use Rattle.graph.specs.Tests.{degrees, rowSum, count, odd, uneven, overfull, firstOdd, firstUneven, firstOverfull, firstOverfullIn};
+ghost use Rattle.table.specs.Cells.{matrixOf, AtMost, cellSumMost};
+ghost use Rattle.table.specs.Layout.{vertices, wanted, countsOf, classesOf, layoutVerdict, mostVertices};
+use crate::cells::DEGREES;
+use crate::cells::cell;
+use crate::degree::Degree;
+use answer::Cause;
+use answer::Verdict;
+use answer::refuse;
+use answer::stopped;
+
+pub const MOST_VERTICES: usize = 200;
+
+fn is_odd(cells: &[u32; 1681], k: usize) -> bool
+    requires { ⌜ k < degrees ⌝ }
+    ensures { λ r. ⌜ r ≡ odd (matrixOf (now (cells .entry))) k ⌝ }
+{
+    cell(cells, k, k) % 2 != 0
+}
+
+fn first_odd(cells: &[u32; 1681]) -> usize
+    ensures { λ r. ⌜ r ≡ firstOdd (matrixOf (now (cells .entry))) ⌝ }
+{
+    let mut k = 1;
+    while k < DEGREES {
+        if is_odd(cells, k) {
+            return k;
+        }
+        k += 1;
+    }
+    k
+}
+
+// S(k)
+fn row_sum(cells: &[u32; 1681], k: usize) -> usize
+    requires { ⌜ (k < degrees) × AtMost cellSumMost (now cells) ⌝ }
+    ensures { λ r. ⌜ (r ≡ rowSum (matrixOf (now (cells .entry))) k) × (r ≤ degrees * cellSumMost) ⌝ }
+{
+    let mut sum = 0;
+    for l in 0..DEGREES {
+        sum += cell(cells, k, l);
+    }
+    sum
+}
+
+fn is_uneven(cells: &[u32; 1681], k: usize) -> bool
+    requires { ⌜ (0 < k) × (k < degrees) × AtMost cellSumMost (now cells) ⌝ }
+    ensures { λ r. ⌜ r ≡ uneven (matrixOf (now (cells .entry))) k ⌝ }
+{
+    row_sum(cells, k) % k != 0
+}
+
+fn first_uneven(cells: &[u32; 1681]) -> usize
+    requires { ⌜ AtMost cellSumMost (now cells) ⌝ }
+    ensures { λ r. ⌜ r ≡ firstUneven (matrixOf (now (cells .entry))) ⌝ }
+{
+    let mut k = 1;
+    while k < DEGREES {
+        if is_uneven(cells, k) {
+            return k;
+        }
+        k += 1;
+    }
+    k
+}
+
+// D(k)
+fn count_of(cells: &[u32; 1681], k: usize) -> usize
+    requires { ⌜ (k < degrees) × AtMost cellSumMost (now cells) ⌝ }
+    ensures { λ r. ⌜ (r ≡ count (matrixOf (now (cells .entry))) k) × (r ≤ degrees * cellSumMost) ⌝ }
+{
+    if k == 0 {
+        return 0;
+    }
+    row_sum(cells, k) / k
+}
+
+// All D(k), by degree.
+pub fn counts(cells: &[u32; 1681]) -> [usize; 41]
+    requires { ⌜ AtMost cellSumMost (now cells) ⌝ }
+    ensures { λ r. ⌜ r ≡ countsOf (matrixOf (now (cells .entry))) ⌝ }
+{
+    let mut t = [0usize; 41];
+    for k in 0..DEGREES {
+        t[k] = count_of(cells, k);
+    }
+    t
+}
+
+// Cell (k, l) is above its most.
+fn is_overfull(cells: &[u32; 1681], counts: &[usize; 41], k: usize, l: usize) -> bool
+    requires { ⌜ (k < degrees) × (l < degrees) × AtMost cellSumMost (now cells) × (now counts ≡ countsOf (matrixOf (now cells))) ⌝ }
+    ensures { λ r. ⌜ r ≡ overfull (matrixOf (now (cells .entry))) k l ⌝ }
+{
+    let d = counts[k];
+    if k == l {
+        if d == 0 {
+            return 0 < cell(cells, k, l);
+        }
+        return d * (d - 1) < cell(cells, k, l);
+    }
+    d * counts[l] < cell(cells, k, l)
+}
+
+fn first_overfull_in(cells: &[u32; 1681], counts: &[usize; 41], k: usize) -> usize
+    requires { ⌜ (k < degrees) × AtMost cellSumMost (now cells) × (now counts ≡ countsOf (matrixOf (now cells))) ⌝ }
+    ensures { λ r. ⌜ r ≡ firstOverfullIn (matrixOf (now (cells .entry))) k ⌝ }
+{
+    let mut l = 1;
+    while l < DEGREES {
+        if is_overfull(cells, counts, k, l) {
+            return l;
+        }
+        l += 1;
+    }
+    l
+}
+
+fn first_overfull(cells: &[u32; 1681], counts: &[usize; 41]) -> usize
+    requires { ⌜ AtMost cellSumMost (now cells) × (now counts ≡ countsOf (matrixOf (now cells))) ⌝ }
+    ensures { λ r. ⌜ r ≡ firstOverfull (matrixOf (now (cells .entry))) ⌝ }
+{
+    let mut k = 1;
+    while k < DEGREES {
+        if first_overfull_in(cells, counts, k) < DEGREES {
+            return k;
+        }
+        k += 1;
+    }
+    k
+}
+
+// N
+pub fn vertex_count(cells: &[u32; 1681], counts: &[usize; 41]) -> usize
+    requires { ⌜ AtMost cellSumMost (now cells) × (now counts ≡ countsOf (matrixOf (now cells))) ⌝ }
+    ensures { λ r. ⌜ r ≡ vertices (matrixOf (now (cells .entry))) ⌝ }
+{
+    let mut n = 0;
+    for k in 0..DEGREES {
+        n += counts[k];
+    }
+    n
+}
+
+// Half the sum of all cells.
+pub fn edges_wanted(cells: &[u32; 1681]) -> usize
+    requires { ⌜ AtMost cellSumMost (now cells) ⌝ }
+    ensures { λ r. ⌜ r ≡ wanted (matrixOf (now (cells .entry))) ⌝ }
+{
+    let mut sum = 0;
+    for k in 0..DEGREES {
+        sum += row_sum(cells, k);
+    }
+    sum / 2
+}
+
+// The tests 9 to 12, each over all cells before the next begins.
+pub fn layout_check(cells: &[u32; 1681], counts: &[usize; 41]) -> Verdict
+    requires { ⌜ AtMost cellSumMost (now cells) × (now counts ≡ countsOf (matrixOf (now cells))) ⌝ }
+    ensures { λ r. ⌜ r ≡ layoutVerdict (matrixOf (now (cells .entry))) ⌝ }
+{
+    let odd = first_odd(cells);
+    if odd != DEGREES {
+        return Verdict::Stop(refuse(Cause::OddDiagonal, odd, odd));
+    }
+    let uneven = first_uneven(cells);
+    if uneven != DEGREES {
+        return Verdict::Stop(refuse(Cause::UnevenRow, uneven, 0));
+    }
+    let k = first_overfull(cells, counts);
+    if k != DEGREES {
+        let l = first_overfull_in(cells, counts, k);
+        return Verdict::Stop(refuse(Cause::OverfullCell, k, l));
+    }
+    if MOST_VERTICES < vertex_count(cells, counts) {
+        return stopped(Cause::TooManyVertices);
+    }
+    Verdict::Go
+}

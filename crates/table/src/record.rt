@@ -1,0 +1,56 @@
+// Records of a block.
+ghost use mathlib.Core.Path.{_≡_};
+ghost use Prim.Native.Nat.{_+_, _*_, _≤_, _<_};
+ghost use lib.ListN.{length};
+ghost use Rattle.table.specs.Block.{recordSize, blockLength, recordCount, goodRecord, records, firstBad};
+
+pub const RECORD_SIZE: usize = 4;
+
+pub const BLOCK_MOST: usize = 64;
+
+// A byte as a number.
+pub fn wide(x: u8) -> usize
+    ensures { λ r. ⌜ (r ≡ x) × (r < 256) ⌝ }
+{
+    x as usize
+}
+
+// Whether a block may have n bytes.
+pub fn block_length(n: usize) -> bool
+    ensures { λ r. ⌜ r ≡ blockLength n ⌝ }
+{
+    (0 < n) & (n <= BLOCK_MOST) & (n % RECORD_SIZE == 0)
+}
+
+pub fn record_count(block: &[u8], i: usize) -> usize
+    requires { ⌜ recordSize * i + recordSize ≤ length (now block) ⌝ }
+    ensures { λ r. ⌜ (r ≡ recordCount (now (block .entry)) i) × (r ≤ 65535) ⌝ }
+{
+    let at = RECORD_SIZE * i;
+    wide(block[at + 2]) + 256 * wide(block[at + 3])
+}
+
+pub fn good_record(block: &[u8], i: usize) -> bool
+    requires { ⌜ recordSize * i + recordSize ≤ length (now block) ⌝ }
+    ensures { λ r. ⌜ r ≡ goodRecord (now (block .entry)) i ⌝ }
+{
+    let at = RECORD_SIZE * i;
+    let k = block[at];
+    let l = block[at + 1];
+    crate::degree::is_degree(k) & crate::degree::is_degree(l) & (k <= l)
+}
+
+// The first record that is not good, or the number of records.
+pub fn first_bad(block: &[u8]) -> usize
+    ensures { λ r. ⌜ r ≡ firstBad (now (block .entry)) ⌝ }
+{
+    let n = block.len() / RECORD_SIZE;
+    let mut i = 0;
+    while i < n {
+        if !good_record(block, i) {
+            return i;
+        }
+        i += 1;
+    }
+    i
+}
