@@ -1,0 +1,147 @@
+// The journal in lent bytes (document 01: the book): its check, the sum of its blocks, storing one more.
+ghost use mathlib.Core.Path.{_≡_};
+ghost use mathlib.Core.Bool.{true, _&&_};
+ghost use lib.Dec.{eqb};
+ghost use Rattle.finite.specs.Range.{allTo};
+ghost use Rattle.slices.specs.Slices.{allZero};
+ghost use mathlib.Core.List.{_∷_};
+ghost use Prim.Native.Nat.{ℕ, _+_, _*_, _≤_, _<_};
+ghost use lib.ListN.{length};
+ghost use Rattle.table.specs.Block.{blockMost, blockLength, records, firstBad};
+ghost use Rattle.table.specs.Cells.{matrixOf, AtMost, cellSumMost};
+ghost use Rattle.journal.specs.Journal.{journalSize, mostBlocks, slotSize, slotAt, slotLength, blockAt, slotRest, slotOk, journalOk, jdmOf, sameBlock, stored, laid, phase, blocks};
+
+use slices::{all_zero, same_bytes, wide};
+use table::record::{block_length, first_bad, BLOCK_MOST, RECORD_SIZE};
+
+pub const JOURNAL_SIZE: usize = 4162;
+pub const MOST_BLOCKS: usize = 64;
+pub const SLOT_SIZE: usize = 65;
+
+pub fn phase_of(journal: &[u8]) -> usize
+    requires { ⌜ length (now journal) ≡ journalSize ⌝ }
+    ensures { λ r. ⌜ (r ≡ phase (now (journal .entry))) × (r < 256) ⌝ }
+{
+    wide(journal[0])
+}
+
+pub fn block_count(journal: &[u8]) -> usize
+    requires { ⌜ length (now journal) ≡ journalSize ⌝ }
+    ensures { λ r. ⌜ (r ≡ blocks (now (journal .entry))) × (r < 256) ⌝ }
+{
+    wide(journal[1])
+}
+
+// The length byte of slot i.
+pub fn slot_length(journal: &[u8], i: usize) -> usize
+    requires { ⌜ (length (now journal) ≡ journalSize) × (i < mostBlocks) ⌝ }
+    ensures { λ r. ⌜ (r ≡ slotLength (now (journal .entry)) i) × (r < 256) ⌝ }
+{
+    wide(journal[2 + SLOT_SIZE * i])
+}
+
+// The block of slot i, a part of the journal itself.
+pub fn block_part(journal: &[u8], i: usize) -> &[u8]
+    requires { ⌜ (length (now journal) ≡ journalSize) × (i < mostBlocks) × (slotLength (now journal) i ≤ blockMost) ⌝ }
+    ensures { λ r. ⌜ now r ≡ blockAt (now (journal .entry)) i ⌝ }
+{
+    let n = slot_length(journal, i);
+    let from = 3 + SLOT_SIZE * i;
+    let to = from + n;
+    &journal[from..to]
+}
+
+// The bytes of slot i behind its block are 0.
+fn rest_is_zero(journal: &[u8], i: usize) -> bool
+    requires { ⌜ (length (now journal) ≡ journalSize) × (i < mostBlocks) × (slotLength (now journal) i ≤ blockMost) ⌝ }
+    ensures { λ r. ⌜ r ≡ allZero (slotRest (now (journal .entry)) i) ⌝ }
+{
+    let n = slot_length(journal, i);
+    let from = 3 + SLOT_SIZE * i + n;
+    let to = 3 + SLOT_SIZE * i + BLOCK_MOST;
+    all_zero(&journal[from..to])
+}
+
+// Slot i holds a block that 4 and 5 let pass.
+fn block_ok(journal: &[u8], i: usize) -> bool
+    requires { ⌜ (length (now journal) ≡ journalSize) × (i < mostBlocks) × (slotLength (now journal) i ≤ blockMost) ⌝ }
+    ensures { λ r. ⌜ r ≡ blockLength (slotLength (now (journal .entry)) i) && eqb (firstBad (blockAt (now (journal .entry)) i)) (records (blockAt (now (journal .entry)) i)) ⌝ }
+{
+    let part = block_part(journal, i);
+    block_length(slot_length(journal, i)) & (first_bad(part) == part.len() / RECORD_SIZE)
+}
+
+fn slot_ok(journal: &[u8], i: usize) -> bool
+    requires { ⌜ (length (now journal) ≡ journalSize) × (i < mostBlocks) ⌝ }
+    ensures { λ r. ⌜ r ≡ slotOk (now (journal .entry)) i ⌝ }
+{
+    let n = slot_length(journal, i);
+    if BLOCK_MOST < n {
+        return false;
+    }
+    if i < block_count(journal) {
+        return block_ok(journal, i) & rest_is_zero(journal, i);
+    }
+    (n == 0) & rest_is_zero(journal, i)
+}
+
+// Every slot is as it should be.
+fn slots_ok(journal: &[u8]) -> bool
+    requires { ⌜ length (now journal) ≡ journalSize ⌝ }
+    ensures { λ r. ⌜ r ≡ allTo mostBlocks (slotOk (now (journal .entry))) ⌝ }
+{
+    for i in 0..MOST_BLOCKS {
+        if !slot_ok(journal, i) {
+            return false;
+        }
+    }
+    true
+}
+
+// The journal is as document 01 lays it down.
+pub fn journal_ok(journal: &[u8]) -> bool
+    requires { ⌜ length (now journal) ≡ journalSize ⌝ }
+    ensures { λ r. ⌜ r ≡ journalOk (now (journal .entry)) ⌝ }
+{
+    (phase_of(journal) <= 1) & (block_count(journal) <= MOST_BLOCKS) & slots_ok(journal)
+}
+
+// The joint degree matrix of all blocks.
+pub fn cells_of(journal: &[u8]) -> [u32; 1681]
+    requires { ⌜ (length (now journal) ≡ journalSize) × (journalOk (now journal) ≡ true) ⌝ }
+    ensures { λ r. ⌜ (matrixOf r ≡ jdmOf (now (journal .entry))) × AtMost cellSumMost r ⌝ }
+{
+    let mut cells = [0u32; 1681];
+    for i in 0..block_count(journal) {
+        table::cells::add_block(&mut cells, block_part(journal, i));
+    }
+    cells
+}
+
+// Block i of the journal is this block.
+pub fn is_block(journal: &[u8], i: usize, block: &[u8]) -> bool
+    requires { ⌜ (length (now journal) ≡ journalSize) × (i < mostBlocks) × (slotLength (now journal) i ≤ blockMost) ⌝ }
+    ensures { λ r. ⌜ r ≡ sameBlock (now (journal .entry)) i (now (block .entry)) ⌝ }
+{
+    same_bytes(block_part(journal, i), block)
+}
+
+// Writes the block into the next slot and counts it.
+pub fn store_block(journal: &mut [u8], block: &[u8])
+    requires { ⌜ (length (now journal) ≡ journalSize) × (blocks (now journal) < mostBlocks) × (length (now block) ≤ blockMost) ⌝ }
+    ensures { λ _. ⌜ now (journal .exit) ≡ stored (now (journal .entry)) (now (block .entry)) ⌝ }
+{
+    let i = block_count(journal);
+    let at = 2 + SLOT_SIZE * i;
+    journal[at] = block.len() as u8;
+    slices::copy_in(journal, at + 1, block);
+    journal[1] = (i + 1) as u8;
+}
+
+// Phase 1.
+pub fn set_laid(journal: &mut [u8])
+    requires { ⌜ length (now journal) ≡ journalSize ⌝ }
+    ensures { λ _. ⌜ now (journal .exit) ≡ laid (now (journal .entry)) ⌝ }
+{
+    journal[0] = 1;
+}
