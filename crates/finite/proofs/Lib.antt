@@ -3,4 +3,3 @@ pub mod Sum
 pub mod All
 pub mod Lowest
 pub mod Fold
-pub mod Double

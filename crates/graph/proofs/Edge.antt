@@ -10,9 +10,9 @@ use native.Mathlib.Omega.{arith}
 use Rattle.finite.specs.Range.{δ, sumTo}
 use Rattle.finite.proofs.Delta.{δ-same, δ-self, δ-other, δ-sym}
 use Rattle.finite.proofs.Sum.{sumTo-cong}
-use Rattle.finite.proofs.Double.{double-cong}
 use Rattle.graph.specs.Graph.{Graph, Simple, degree, edges, jdm, atEdge, AddsEdge, addEdge, removeEdge, SameOn}
 use Rattle.graph.specs.Target.{Partial}
+use Rattle.graph.proofs.Matrix.{jdm-cong}
 
 -- the place (v, w) is one of the edge x – y, either way round, or another
 pub data Place (x y v w : ℕ) : Type 0 where
@@ -86,8 +86,7 @@ removeEdge-adds n E x y xn yn s e h v w l m = go (place x y v w)
 -- the same graph on the vertices has the same figures
 module _ (n : ℕ) (E E′ : Graph) (same : SameOn n E E′) where
   pub jdm-same : (cls : ℕ → ℕ) (k l : ℕ) → jdm n cls E′ k l ≡ jdm n cls E k l
-  unfolding jdm
-  jdm-same cls k l = double-cong n (λ v. δ (cls v) k) (λ w. δ (cls w) l) E′ E same
+  jdm-same cls k l = jdm-cong n cls E′ E same k l
 
   pub degree-same : (v : ℕ) → v < n → degree n E′ v ≡ degree n E v
   degree-same v l = sumTo-cong n (E′ v) (E v) (λ w. same v w l)

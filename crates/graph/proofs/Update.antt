@@ -7,16 +7,34 @@ use native.Mathlib.Nat.{mul-one, mul-comm}
 use native.Mathlib.Omega.{arith}
 use Rattle.finite.specs.Range.{δ, sumTo}
 use Rattle.finite.proofs.Delta.{δ-sym}
-use Rattle.finite.proofs.Sum.{sumTo-cong, sumTo-add, sumTo-scale, sumTo-at, sumTo-triangle}
-use Rattle.finite.proofs.Double.{double-cong, double-add, double-point}
+use Rattle.finite.proofs.Sum.{sumTo-cong, sumTo-add, sumTo-at, sumTo-point, sumTo-triangle}
 use Rattle.graph.specs.Graph.{Graph, Simple, degree, edges, jdm, atEdge, AddsEdge}
 use Rattle.graph.specs.Theorems.{Updated, AddingUpdates, RemovingUpdates}
+use Rattle.graph.proofs.Matrix.{jdm-cong, jdm-add}
 use Rattle.graph.proofs.Edge.{Place, forth, back, elsewhere, place, atEdge-sym, atEdge-here, atEdge-back, atEdge-loop}
+-- the concrete functions and equal graphs
+pub use Rattle.graph.proofs.Edge.{addEdge-adds, removeEdge-adds, jdm-same, degree-same, edges-same, simple-same, partial-same}
 
 -- each edge is counted at both its ends
 pub handshake : (n : ℕ) (E : Graph) → Simple n E → sumTo n (degree n E) ≡ 2 * edges n E
 unfolding edges
 handshake n E s = sumTo-triangle n E (s .symmetric) (s .loopless)
+
+-- the matrix of a single place
+jdm-point : (n : ℕ) (cls : ℕ → ℕ) (x y : ℕ) → x < n → y < n → (k l : ℕ) → jdm n cls (λ v w. δ v x * δ w y) k l ≡ δ k (cls x) * δ l (cls y)
+unfolding jdm
+jdm-point n cls x y xn yn k l =
+    sumTo-cong n (λ v. δ (cls v) k * sumTo n (λ w. δ (cls w) l * (δ v x * δ w y))) (λ v. δ (cls v) k * (δ v x * δ (cls y) l))
+    (λ v h. ap (λ (c : ℕ). δ (cls v) k * c) (row v))
+    ∙ sumTo-point n x (δ (cls y) l) (λ v. δ (cls v) k) xn
+    ∙ ap₂ _*_ (δ-sym (cls x) k) (δ-sym (cls y) l)
+  where
+    row : (v : ℕ) → sumTo n (λ w. δ (cls w) l * (δ v x * δ w y)) ≡ δ v x * δ (cls y) l
+    row v =
+        sumTo-cong n (λ w. δ (cls w) l * (δ v x * δ w y)) (λ w. δ (cls w) l * (δ w y * δ v x))
+        (λ w h. ap (λ (c : ℕ). δ (cls w) l * c) (mul-comm (δ v x) (δ w y)))
+        ∙ sumTo-point n y (δ v x) (λ w. δ (cls w) l) yn
+        ∙ mul-comm (δ (cls y) l) (δ v x)
 
 -- a sum over one row or column of the edge's place
 one-place : (n y c : ℕ) → y < n → sumTo n (λ w. c * δ w y) ≡ c
@@ -29,20 +47,12 @@ one-vertex n y h = sumTo-cong n (λ w. δ w y) (λ w. δ w y * 1) (λ w l. sym (
 module _ (n : ℕ) (E E′ : Graph) (x y : ℕ) (adds : AddsEdge n E x y E′) (xn : x < n) (yn : y < n) where
   -- the cells are linear in the edges
   pub jdm-adds : (cls : ℕ → ℕ) (k l : ℕ) → jdm n cls E′ k l ≡ jdm n cls E k l + atEdge (cls x) (cls y) k l
-  unfolding jdm
   jdm-adds cls k l =
-      double-cong n K L E′ (λ v w. E v w + atEdge x y v w) adds
-      ∙ double-add n K L E (atEdge x y)
-      ∙ ap (λ (c : ℕ). sumTo n (λ v. K v * sumTo n (λ w. L w * E v w)) + c)
-      (double-add n K L (λ v w. δ v x * δ w y) (λ v w. δ v y * δ w x)
-      ∙ ap₂ _+_ (double-point n K L x y xn yn) (double-point n K L y x yn xn)
-      ∙ rw (δ-sym k (cls x), δ-sym l (cls y), δ-sym k (cls y), δ-sym l (cls x)))
-    where
-      K : ℕ → ℕ
-      K v = δ (cls v) k
-
-      L : ℕ → ℕ
-      L w = δ (cls w) l
+      jdm-cong n cls E′ (λ v w. E v w + atEdge x y v w) adds k l
+      ∙ jdm-add n cls E (atEdge x y) k l
+      ∙ ap (λ (c : ℕ). jdm n cls E k l + c)
+      (jdm-add n cls (λ v w. δ v x * δ w y) (λ v w. δ v y * δ w x) k l
+      ∙ ap₂ _+_ (jdm-point n cls x y xn yn k l) (jdm-point n cls y x yn xn k l))
 
   pub degree-adds : (v : ℕ) → v < n → degree n E′ v ≡ degree n E v + (δ v x + δ v y)
   degree-adds v l =
