@@ -1,1 +1,4 @@
 pub mod Matrix
+pub mod Necessary
+pub mod OpenPair
+pub mod Complete
