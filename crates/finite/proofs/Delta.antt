@@ -64,8 +64,8 @@ pub δ-less : (a b x y : ℕ) → δ a b * x < δ a b * y → (a ≡ b) × (x < 
 δ-less a b x y h = go (ℕ-discrete a b)
   where
     go : Dec (a ≡ b) → (a ≡ b) × (x < y)
-    go (yes e) = (e, rw (δ-same a b e, one-mul, one-mul) at h)
-    go (no e) = absurd (lt-irrefl 0 (rw (δ-other a b e, zero-mul, zero-mul) at h))
+    go (yes e) = (e, rw (δ-same a b e, one-mul x, one-mul y) at h)
+    go (no e) = absurd (lt-irrefl 0 (rw (δ-other a b e, zero-mul x, zero-mul y) at h))
 
 pub δ-square : (a b : ℕ) → δ a b * δ a b ≡ δ a b
 δ-square a b = go (ℕ-discrete a b)

@@ -1,3 +1,6 @@
 pub mod Matrix
+pub mod Necessary
+pub mod OpenPair
+pub mod Complete
 pub mod Edge
 pub mod Update
