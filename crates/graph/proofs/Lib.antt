@@ -4,3 +4,4 @@ pub mod OpenPair
 pub mod Complete
 pub mod Edge
 pub mod Update
+pub mod Stubs
