@@ -5,3 +5,4 @@ pub mod Complete
 pub mod Edge
 pub mod Update
 pub mod Stubs
+pub mod Choice
