@@ -6,3 +6,4 @@ pub mod Edge
 pub mod Update
 pub mod Stubs
 pub mod Choice
+pub mod Switch
