@@ -1,9 +1,9 @@
 -- The choices of the neighbour switch exist and are right: b, which stands in for a, and t, whose edge moves from a to b.
 -- Assumes nothing.
-use mathlib.Core.Path.{_≡_, refl, sym, ap, ap₂, _∙_}
-use mathlib.Core.Bool.{Bool, true, false, _&&_, not, cond}
+use mathlib.Core.Path.{_≡_, ap, _∙_}
+use mathlib.Core.Bool.{true, false, _&&_, not, cond}
 use mathlib.Core.Logic.{_≢_}
-use Prim.Native.Nat.{ℕ, _+_, _*_, _≤_, _<_}
+use Prim.Native.Nat.{ℕ, _+_, _*_, _<_}
 use native.Mathlib.Nat.{one-mul, zero-mul}
 use native.Mathlib.Decide.{ℕ-discrete, decLt}
 use native.Mathlib.Omega.{arith}
@@ -12,11 +12,11 @@ use borrow.Author.Tests.{ltb-true, ltb-false, lt-ltb, le-ltb, eqb-true, eqb-fals
 use Rattle.finite.specs.Range.{δ, sumTo, lowest}
 use Rattle.finite.proofs.Delta.{δ-same, δ-self, δ-other}
 use Rattle.finite.proofs.Sum.{sumTo-add, sumTo-at, sumTo-less}
-use Rattle.finite.proofs.All.{and-left, and-right, and-both}
+use Rattle.finite.proofs.All.{and-left, and-right}
 use Rattle.finite.proofs.Lowest.{lowest-holds, lowest-found}
-use Rattle.graph.specs.Graph.{Graph, Simple, degree, jdm}
+use Rattle.graph.specs.Graph.{Graph, Simple, degree}
 use Rattle.graph.specs.Target.{Target, Partial, Open}
-use Rattle.graph.specs.Switch.{unsaturated, canSubstitute, orElse, substitute, canTransfer, transfer}
+use Rattle.graph.specs.Switch.{unsaturated, canSubstitute, substitute, canTransfer, transfer}
 use Rattle.graph.specs.Theorems.{Choices}
 use Rattle.graph.proofs.Stubs.{spare}
 

@@ -4,11 +4,11 @@
 use mathlib.Core.Path.{_≡_, refl, sym, ap, _∙_}
 use mathlib.Core.Logic.{_≢_}
 use Prim.Native.Nat.{ℕ, _+_, _-_, _*_, _≤_, _<_}
-use native.Mathlib.Nat.{mul-comm, add-comm, one-mul, mul-one, zero-mul, mul-zero}
+use native.Mathlib.Nat.{mul-comm, add-comm, zero-mul, mul-zero}
 use native.Mathlib.Decide.{ℕ-discrete}
 use native.Mathlib.Omega.{arith}
 use Rattle.finite.specs.Range.{δ, sumTo}
-use Rattle.finite.proofs.Delta.{δ-same, δ-self, δ-other, δ-sym}
+use Rattle.finite.proofs.Delta.{δ-self, δ-other}
 use Rattle.finite.proofs.Sum.{sumTo-cong}
 use Rattle.graph.specs.Graph.{Graph, Simple, degree, edges, jdm, atEdge, AddsEdge, addEdge, removeEdge, SameOn}
 use Rattle.graph.specs.Target.{Partial}

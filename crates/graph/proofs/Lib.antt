@@ -7,3 +7,4 @@ pub mod Update
 pub mod Stubs
 pub mod Choice
 pub mod Switch
+pub mod Join

@@ -1,14 +1,14 @@
 -- The neighbour switch works, for all degrees together (point 4 of specs/Theorems.antt): it keeps every cell and moves one edge
 -- from the saturated vertex a to b, so that a can be linked to o.
 -- Assumes nothing.
-use mathlib.Core.Path.{_≡_, refl, sym, ap, _∙_}
+use mathlib.Core.Path.{_≡_, sym, ap, _∙_}
 use mathlib.Core.Logic.{_≢_}
-use Prim.Native.Nat.{ℕ, _+_, _*_, _≤_, _<_}
+use Prim.Native.Nat.{ℕ, _+_, _≤_, _<_}
 use native.Mathlib.Decide.{ℕ-discrete}
 use native.Mathlib.Omega.{arith}
 use Rattle.finite.specs.Range.{δ}
 use Rattle.finite.proofs.Delta.{δ-self, δ-other}
-use Rattle.graph.specs.Graph.{Graph, Simple, degree, edges, jdm, atEdge}
+use Rattle.graph.specs.Graph.{Graph, Simple, degree, jdm, atEdge}
 use Rattle.graph.specs.Target.{Partial, Open}
 use Rattle.graph.specs.Switch.{Switched}
 use Rattle.graph.specs.Theorems.{Updated, Choices, Kept, SwitchWorks}
@@ -61,7 +61,13 @@ module _ (n C : ℕ) (cls deg : ℕ → ℕ) (T : ℕ → ℕ → ℕ) (E : Grap
   -- neither end of the new edge is a
   unlinked : E′ a o ≡ 0
   unlinked =
-      omega (arith, switched .added a o (pair .first) (pair .second), switched .removed a o (pair .first) (pair .second), pair .unlinked, go (place b t a o))
+      omega (
+        arith,
+        switched .added a o (pair .first) (pair .second),
+        switched .removed a o (pair .first) (pair .second),
+        pair .unlinked,
+        go (place b t a o),
+      )
     where
       go : Place b t a o → atEdge b t a o ≡ 0
       go (forth p q) = absurd (chosen .b-other (sym p))
