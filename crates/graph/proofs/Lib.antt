@@ -2,3 +2,5 @@ pub mod Matrix
 pub mod Necessary
 pub mod OpenPair
 pub mod Complete
+pub mod Numbering
+pub mod Existence
