@@ -21,11 +21,11 @@ Joinable =
     (E′ : Graph) × Partial n C cls deg T E′ × (edges n E′ ≡ edges n E + 1)
     × ((k l : ℕ) → jdm n cls E′ k l ≡ jdm n cls E k l + atEdge (cls v) (cls w) k l)
 
-module _ (n C : ℕ) (cls deg : ℕ → ℕ) (T : ℕ → ℕ → ℕ) where
-  -- the sum of the cells of a matrix
-  abbrev cells : (ℕ → ℕ → ℕ) → ℕ
-  cells M = sumTo C (λ k. sumTo C (M k))
+-- the sum of the cells of a matrix
+abbrev cells : ℕ → (ℕ → ℕ → ℕ) → ℕ
+cells C M = sumTo C (λ k. sumTo C (M k))
 
+module _ (joinable : Joinable) (n C : ℕ) (cls deg : ℕ → ℕ) (T : ℕ → ℕ → ℕ) (target : Target n C cls deg T) where
   abbrev Reached : Type 0
   Reached = (E : Graph) × Partial n C cls deg T E × ((k l : ℕ) → k < C → l < C → jdm n cls E k l ≡ T k l)
 
@@ -38,16 +38,14 @@ module _ (n C : ℕ) (cls deg : ℕ → ℕ) (T : ℕ → ℕ → ℕ) where
       }
 
   -- no cell is above its target, so with all of the sum every cell is there
-  full : (E : Graph) → Partial n C cls deg T E → cells T ≤ cells (jdm n cls E) → Reached
+  full : (E : Graph) → Partial n C cls deg T E → cells C T ≤ cells C (jdm n cls E) → Reached
   full E part h =
       (E, part, sumTo-tight₂ C C (jdm n cls E) T (part .within) (omega (arith, sumTo-mono₂ C C (jdm n cls E) T (part .within))))
 
-module _ (joinable : Joinable) where
   -- one edge more in a short cell
-  step : (n C : ℕ) (cls deg : ℕ → ℕ) (T : ℕ → ℕ → ℕ) → Target n C cls deg T → (E : Graph) → Partial n C cls deg T E
-      → cells n C cls deg T (jdm n cls E) < cells n C cls deg T T
-      → (E′ : Graph) × Partial n C cls deg T E′ × (cells n C cls deg T (jdm n cls E) < cells n C cls deg T (jdm n cls E′))
-  step n C cls deg T target E part h =
+  step : (E : Graph) → Partial n C cls deg T E → cells C (jdm n cls E) < cells C T
+      → (E′ : Graph) × Partial n C cls deg T E′ × (cells C (jdm n cls E) < cells C (jdm n cls E′))
+  step E part h =
       let s = sumTo-less₂ C C (jdm n cls E) T h in
       let o = short-has-open-pair n C cls deg T E target part (s .0) (s .1) (s .2) (s .3) (s .4) in
       let j = joinable n C cls deg T E (o .0) (o .1) target part (o .5) in (
@@ -62,17 +60,18 @@ module _ (joinable : Joinable) where
       more v w k l p q E′ f = rw (f k l, p, q, δ-self k, δ-self l) (omega arith)
 
   -- m bounds what is missing
-  reach : (n C : ℕ) (cls deg : ℕ → ℕ) (T : ℕ → ℕ → ℕ) → Target n C cls deg T → (m : ℕ) (E : Graph) → Partial n C cls deg T E
-      → cells n C cls deg T T ≤ cells n C cls deg T (jdm n cls E) + m → Reached n C cls deg T
-  reach n C cls deg T target zero E part h = full n C cls deg T E part (omega arith)
-  reach n C cls deg T target (suc m) E part h = go (decLt (cells n C cls deg T (jdm n cls E)) (cells n C cls deg T T)) (reach n C cls deg T target m)
+  reach : (m : ℕ) (E : Graph) → Partial n C cls deg T E → cells C T ≤ cells C (jdm n cls E) + m → Reached
+  reach zero E part h = full E part (omega arith)
+  reach (suc m) E part h = go (decLt (cells C (jdm n cls E)) (cells C T)) (reach m)
     where
-      go : Dec (cells n C cls deg T (jdm n cls E) < cells n C cls deg T T)
-          → ((E : Graph) → Partial n C cls deg T E → cells n C cls deg T T ≤ cells n C cls deg T (jdm n cls E) + m → Reached n C cls deg T)
-          → Reached n C cls deg T
-      go (yes l) again = let s = step n C cls deg T target E part l in again (s .0) (s .1) (omega (arith, s .2))
-      go (no l) again = full n C cls deg T E part (omega arith)
+      go : Dec (cells C (jdm n cls E) < cells C T)
+          → ((E : Graph) → Partial n C cls deg T E → cells C T ≤ cells C (jdm n cls E) + m → Reached) → Reached
+      go (yes l) again = let s = step E part l in again (s .0) (s .1) (omega (arith, s .2))
+      go (no l) again = full E part (omega arith)
 
+  reached : Reached
+  reached = reach (cells C T) empty empty-partial (omega arith)
+
+module _ (joinable : Joinable) where
   pub target-reached : TargetReached
-  target-reached n C cls deg T target =
-      reach n C cls deg T target (cells n C cls deg T T) empty (empty-partial n C cls deg T) (omega arith)
+  target-reached = reached joinable

@@ -4,3 +4,5 @@ pub mod OpenPair
 pub mod Complete
 pub mod Numbering
 pub mod Existence
+pub mod Passes
+pub mod Realizability
