@@ -1,13 +1,13 @@
 -- Every target is reached by some graph: from the empty one, as long as a cell is short an open pair of it is joined.
 -- Assumes nothing.
-use mathlib.Core.Path.{_≡_, refl, sym, _∙_}
-use Prim.Native.Nat.{ℕ, zero, suc, _+_, _*_, _≤_, _<_, zero-le}
+use mathlib.Core.Path.{_≡_, refl}
+use Prim.Native.Nat.{ℕ, zero, suc, _+_, _≤_, _<_, zero-le}
 use native.Mathlib.Decide.{decLt}
 use native.Mathlib.Omega.{arith}
-use Rattle.finite.specs.Range.{δ, sumTo}
+use Rattle.finite.specs.Range.{sumTo}
 use Rattle.finite.proofs.Delta.{δ-self}
 use Rattle.finite.proofs.Sum.{sumTo-zero, sumTo-mono₂, sumTo-strict₂, sumTo-less₂, sumTo-tight₂}
-use Rattle.graph.specs.Graph.{Graph, Simple, degree, edges, jdm, atEdge, empty}
+use Rattle.graph.specs.Graph.{Graph, edges, jdm, atEdge, empty}
 use Rattle.graph.specs.Target.{Target, Partial, Open}
 use Rattle.graph.specs.Theorems.{TargetReached}
 use Rattle.graph.proofs.Matrix.{jdm-empty}

@@ -1,12 +1,10 @@
 -- Laws of equation (1), the joint degree matrix, as a function of the graph and of the classes.
 -- Assumes nothing.
-use mathlib.Core.Path.{_≡_, refl, sym, ap, _∙_}
-use mathlib.Core.Bool.{true, false, cond}
+use mathlib.Core.Path.{_≡_, refl, sym, _∙_}
 use mathlib.Core.Logic.{_≢_}
 use Prim.Native.Nat.{ℕ, zero, suc, _+_, _-_, _*_, _≤_, _<_}
-use native.Mathlib.Nat.{add-zero, mul-zero, mul-one, mul-comm, mul-add, mul-left-comm, mul-le-mul-left, mul-suc, zero-mul}
+use native.Mathlib.Nat.{mul-zero, mul-one, mul-comm, mul-add, mul-left-comm, mul-le-mul-left, mul-suc, zero-mul}
 use native.Mathlib.Omega.{arith}
-use lib.Dec.{eqb}
 use borrow.Author.Tests.{eq-eqb, ne-eqb}
 use Rattle.finite.specs.Range.{δ, sumTo}
 use Rattle.finite.proofs.Delta.{δ-other, δ-less, δ-square}

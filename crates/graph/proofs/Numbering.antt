@@ -1,7 +1,6 @@
 -- The numbering of the vertices by rising class: where each class lies, and that it has its size.
 -- Assumes nothing.
-use mathlib.Core.Path.{_≡_, refl, sym, _∙_}
-use mathlib.Core.Bool.{true, false}
+use mathlib.Core.Path.{_≡_, refl}
 use mathlib.Core.Logic.{_↔_}
 use Prim.Native.Nat.{ℕ, zero, suc, _+_, _≤_, _<_, zero-le}
 use native.Mathlib.Numerals.{add-one}
@@ -9,7 +8,7 @@ use native.Mathlib.Decide.{decLt}
 use native.Mathlib.Omega.{arith}
 use lib.Dec.{ltb}
 use borrow.Author.Tests.{ltb-true, ltb-false, lt-ltb, le-ltb}
-use Rattle.finite.specs.Range.{bit, δ, sumTo, lowest}
+use Rattle.finite.specs.Range.{bit, δ, sumTo}
 use Rattle.finite.proofs.Delta.{δ-same, δ-other}
 use Rattle.finite.proofs.Sum.{sumTo-none, sumTo-more, sumTo-cong, sumTo-add, sumTo-le, sumTo-below}
 use Rattle.finite.proofs.Lowest.{lowest-le, lowest-before, lowest-holds, lowest-found, lowest-only}

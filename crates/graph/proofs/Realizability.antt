@@ -1,17 +1,17 @@
 -- A table is the joint degree matrix of a simple graph of some size if and only if it passes the tests 9, 10 and 11.
 -- Assumes nothing.
-use mathlib.Core.Path.{_≡_, refl, sym, ap, _∙_}
+use mathlib.Core.Path.{_≡_, sym, ap, _∙_}
 use mathlib.Core.Bool.{true}
-use mathlib.Core.Logic.{_↔_, ⊎-elim}
-use Prim.Native.Nat.{ℕ, _+_, _*_, _/_, _%_, _≤_, _<_}
-use native.Mathlib.Nat.{eq-zero-or-pos, add-zero, zero-mul, mul-one, div-add-mod, mul-mod-left, mul-div-cancel}
+use mathlib.Core.Logic.{⊎-elim}
+use Prim.Native.Nat.{ℕ, _+_, _*_, _<_}
+use native.Mathlib.Nat.{eq-zero-or-pos, add-zero, div-add-mod, mul-mod-left, mul-div-cancel}
 use native.Mathlib.Decide.{decLt}
 use native.Mathlib.Omega.{arith}
-use Rattle.finite.specs.Range.{δ, sumTo}
+use Rattle.finite.specs.Range.{δ}
 use Rattle.finite.proofs.Delta.{δ-move}
 use Rattle.finite.proofs.Sum.{sumTo-cong, sumTo-const, sumTo-scale-right, sumTo-mono, sumTo-split, sumTo-zero}
 use Rattle.graph.specs.Graph.{Graph, Simple, degree, size, jdm, ownJdm}
-use Rattle.graph.specs.Target.{cellMost, Target, Partial}
+use Rattle.graph.specs.Target.{Target, Partial}
 use Rattle.graph.specs.Numbering.{total, classOf}
 use Rattle.graph.specs.Tests.{mostDegree, degrees, rowSum, count, passes, Table}
 use Rattle.graph.specs.Theorems.{Realized, Realizability, Necessary}
@@ -49,7 +49,7 @@ module _ (T : ℕ → ℕ → ℕ) (table : Table T) where
         }
       where
         row-0 : (k : ℕ) → k ≡ 0 → rowSum T k ≡ k * count T k
-        row-0 k e = rw (sumTo-zero degrees (T k) (λ l q. none-of-0 k l e), e, zero-mul (0 / 0))
+        row-0 k e = rw (sumTo-zero degrees (T k) (λ l q. none-of-0 k l e), e)
 
         row : (k : ℕ) → 0 < k → k < degrees → rowSum T k ≡ k * count T k
         row k a p = sym (rw (passed .rows k a p, add-zero (k * count T k)) at (div-add-mod (rowSum T k) k))
