@@ -1,5 +1,5 @@
 -- Every target is reached by some graph: from the empty one, as long as a cell is short an open pair of it is joined.
--- Assumes nothing.
+-- Assumes `Joinable`, as a parameter: that an open pair can be joined.
 use mathlib.Core.Path.{_≡_, refl}
 use Prim.Native.Nat.{ℕ, zero, suc, _+_, _≤_, _<_, zero-le}
 use native.Mathlib.Decide.{decLt}

@@ -1,5 +1,5 @@
 -- A table is the joint degree matrix of a simple graph of some size if and only if it passes the tests 9, 10 and 11.
--- Assumes nothing.
+-- Assumes `Joinable`, as a parameter: that an open pair can be joined.
 use mathlib.Core.Path.{_≡_, sym, ap, _∙_}
 use mathlib.Core.Bool.{true}
 use mathlib.Core.Logic.{⊎-elim}
