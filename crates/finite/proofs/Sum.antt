@@ -127,6 +127,31 @@ sumTo-tight n f g h e i l = go (decLt (f i) (g i))
     go (yes s) = absurd (omega (arith, sumTo-strict n f g h i l s))
     go (no s) = omega (arith, h i l)
 
+-- the same of sums over pairs
+pub sumTo-mono₂ : (n m : ℕ) (f g : ℕ → ℕ → ℕ) → ((i j : ℕ) → i < n → j < m → f i j ≤ g i j)
+    → sumTo n (λ i. sumTo m (f i)) ≤ sumTo n (λ i. sumTo m (g i))
+sumTo-mono₂ n m f g h =
+    sumTo-mono n (λ i. sumTo m (f i)) (λ i. sumTo m (g i)) (λ i l. sumTo-mono m (f i) (g i) (λ j k. h i j l k))
+
+pub sumTo-strict₂ : (n m : ℕ) (f g : ℕ → ℕ → ℕ) → ((i j : ℕ) → i < n → j < m → f i j ≤ g i j)
+    → (i j : ℕ) → i < n → j < m → f i j < g i j → sumTo n (λ i. sumTo m (f i)) < sumTo n (λ i. sumTo m (g i))
+sumTo-strict₂ n m f g h i j l k s =
+    sumTo-strict n (λ i. sumTo m (f i)) (λ i. sumTo m (g i)) (λ i l. sumTo-mono m (f i) (g i) (λ j k. h i j l k))
+    i l (sumTo-strict m (f i) (g i) (λ j k. h i j l k) j k s)
+
+pub sumTo-less₂ : (n m : ℕ) (f g : ℕ → ℕ → ℕ) → sumTo n (λ i. sumTo m (f i)) < sumTo n (λ i. sumTo m (g i))
+    → (i j : ℕ) × (i < n) × (j < m) × (f i j < g i j)
+sumTo-less₂ n m f g h =
+    let a = sumTo-less n (λ i. sumTo m (f i)) (λ i. sumTo m (g i)) h in
+    let b = sumTo-less m (f (a .0)) (g (a .0)) (a .2) in
+    (a .0, b .0, a .1, b .1, b .2)
+
+pub sumTo-tight₂ : (n m : ℕ) (f g : ℕ → ℕ → ℕ) → ((i j : ℕ) → i < n → j < m → f i j ≤ g i j)
+    → sumTo n (λ i. sumTo m (f i)) ≡ sumTo n (λ i. sumTo m (g i)) → (i j : ℕ) → i < n → j < m → f i j ≡ g i j
+sumTo-tight₂ n m f g h e i j l k =
+    sumTo-tight m (f i) (g i) (λ j k. h i j l k)
+    (sumTo-tight n (λ i. sumTo m (f i)) (λ i. sumTo m (g i)) (λ i l. sumTo-mono m (f i) (g i) (λ j k. h i j l k)) e i l) j k
+
 -- a term is at most the sum
 pub sumTo-term : (n : ℕ) (f : ℕ → ℕ) (j : ℕ) → j < n → f j ≤ sumTo n f
 unfolding sumTo

@@ -1,13 +1,12 @@
 -- A graph whose cells are all full has each vertex at its degree; where a class is a degree, its own matrix is the target.
 -- Assumes nothing.
-use mathlib.Core.Path.{_≡_, refl, sym, _∙_}
+use mathlib.Core.Path.{_≡_, sym, _∙_}
 use Prim.Native.Nat.{ℕ, _*_, _≤_, _<_}
 use native.Mathlib.Nat.{one-mul, mul-comm, mul-le-mul-left}
 use Rattle.finite.specs.Range.{δ, sumTo}
 use Rattle.finite.proofs.Delta.{δ-self, δ-move}
 use Rattle.finite.proofs.Sum.{sumTo-cong, sumTo-scale-right, sumTo-tight}
-use Rattle.graph.specs.Graph.{Graph, degree, size, jdm}
-use Rattle.graph.specs.Target.{Target, Partial}
+use Rattle.graph.specs.Graph.{degree, size, jdm}
 use Rattle.graph.specs.Theorems.{CompleteIsExact, CompleteHasTarget}
 use Rattle.graph.proofs.Matrix.{jdm-classes}
 use Rattle.graph.proofs.Necessary.{necessary-always}

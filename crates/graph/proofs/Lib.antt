@@ -8,3 +8,7 @@ pub mod Stubs
 pub mod Choice
 pub mod Switch
 pub mod Join
+pub mod Numbering
+pub mod Existence
+pub mod Passes
+pub mod Realizability

@@ -1,17 +1,15 @@
 -- Laws of equation (1), the joint degree matrix, as a function of the graph and of the classes.
 -- Assumes nothing.
-use mathlib.Core.Path.{_≡_, refl, sym, ap, _∙_}
-use mathlib.Core.Bool.{true, false, cond}
+use mathlib.Core.Path.{_≡_, refl, sym, _∙_}
 use mathlib.Core.Logic.{_≢_}
 use Prim.Native.Nat.{ℕ, zero, suc, _+_, _-_, _*_, _≤_, _<_}
-use native.Mathlib.Nat.{add-zero, mul-zero, mul-one, mul-comm, mul-add, mul-left-comm, mul-le-mul-left, mul-suc, zero-mul}
+use native.Mathlib.Nat.{mul-zero, mul-one, mul-comm, mul-add, mul-left-comm, mul-le-mul-left, mul-suc, zero-mul}
 use native.Mathlib.Omega.{arith}
-use lib.Dec.{eqb}
 use borrow.Author.Tests.{eq-eqb, ne-eqb}
 use Rattle.finite.specs.Range.{δ, sumTo}
 use Rattle.finite.proofs.Delta.{δ-other, δ-less, δ-square}
 use Rattle.finite.proofs.Sum.{sumTo-cong, sumTo-cong₂, sumTo-add, sumTo-scale, sumTo-scale-right, sumTo-swap, sumTo-at, sumTo-zero, sumTo-mono, sumTo-less}
-use Rattle.graph.specs.Graph.{Graph, size, jdm}
+use Rattle.graph.specs.Graph.{Graph, size, jdm, empty}
 use Rattle.graph.specs.Target.{cellMost}
 
 module _ (n : ℕ) (cls : ℕ → ℕ) where
@@ -103,6 +101,12 @@ module _ (n : ℕ) (cls : ℕ → ℕ) where
       sumTo-zero n (λ v. δ (cls v) k * sumTo n (λ w. δ (cls w) l * E v w))
       (λ v p. rw (δ-other (cls v) k (h v p)) (zero-mul (sumTo n (λ w. δ (cls w) l * E v w))))
 
+pub jdm-empty : (n : ℕ) (cls : ℕ → ℕ) (k l : ℕ) → jdm n cls empty k l ≡ 0
+jdm-empty n cls k l =
+    jdm-pairs n cls empty k l
+    ∙ sumTo-zero n (λ v. sumTo n (λ w. δ (cls v) k * (δ (cls w) l * 0)))
+    (λ v p. sumTo-zero n (λ w. δ (cls v) k * (δ (cls w) l * 0)) (λ w q. rw (mul-zero (δ (cls w) l)) (mul-zero (δ (cls v) k))))
+
 -- the matrix depends on the classes of the vertices alone
 pub jdm-classes : (n : ℕ) (cls cls′ : ℕ → ℕ) (E : Graph) → ((v : ℕ) → v < n → cls v ≡ cls′ v)
     → (k l : ℕ) → jdm n cls E k l ≡ jdm n cls′ E k l
@@ -122,3 +126,7 @@ cellMost-same D k = rw (eq-eqb k k refl) (go (D k))
     go : (d : ℕ) → d * (d - 1) + d ≡ d * d
     go zero = refl
     go (suc d) = let e : suc d - 1 ≡ d = omega arith in rw e (sym (mul-suc (suc d) d))
+
+-- it depends on the two sizes alone
+pub cellMost-cong : (D D′ : ℕ → ℕ) (k l : ℕ) → D k ≡ D′ k → D l ≡ D′ l → cellMost D k l ≡ cellMost D′ k l
+cellMost-cong D D′ k l p q = rw (p, q)

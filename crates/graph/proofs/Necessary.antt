@@ -1,6 +1,6 @@
 -- What holds of the joint degree matrix of every simple graph, at every classification of its vertices.
 -- Assumes nothing.
-use mathlib.Core.Path.{_≡_, refl, sym, ap, _∙_}
+use mathlib.Core.Path.{_≡_, ap, _∙_}
 use Prim.Native.Nat.{ℕ, _+_, _*_, _%_, _≤_, _<_}
 use native.Mathlib.Nat.{mul-zero, mul-left-comm, mul-mod-right}
 use native.Mathlib.Decide.{ℕ-discrete}

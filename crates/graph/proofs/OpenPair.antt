@@ -1,14 +1,14 @@
 -- A short cell has an open pair: two different unlinked vertices of its classes.
 -- Assumes nothing.
-use mathlib.Core.Path.{_≡_, refl, sym, _∙_}
+use mathlib.Core.Path.{_≡_, sym, _∙_}
 use mathlib.Core.Logic.{_≢_}
-use Prim.Native.Nat.{ℕ, _+_, _*_, _≤_, _<_}
+use Prim.Native.Nat.{ℕ, _+_, _<_}
 use native.Mathlib.Decide.{ℕ-discrete, decLt}
 use native.Mathlib.Omega.{arith}
 use Rattle.finite.specs.Range.{δ}
 use Rattle.finite.proofs.Delta.{δ-same}
-use Rattle.graph.specs.Graph.{Graph, Simple, size, jdm}
-use Rattle.graph.specs.Target.{cellMost, Target, Partial, Open}
+use Rattle.graph.specs.Graph.{Graph, size, jdm}
+use Rattle.graph.specs.Target.{Target, Partial, Open}
 use Rattle.graph.specs.Theorems.{ShortHasOpenPair}
 use Rattle.graph.proofs.Matrix.{jdm-add, jdm-less, jdm-ones, jdm-diagonal, cellMost-other, cellMost-same}
 
