@@ -1,5 +1,5 @@
 -- Every target is reached by some graph: from the empty one, as long as a cell is short an open pair of it is joined.
--- Assumes `Joinable`, as a parameter: that an open pair can be joined.
+-- Assumes nothing.
 use mathlib.Core.Path.{_≡_, refl}
 use Prim.Native.Nat.{ℕ, zero, suc, _+_, _≤_, _<_, zero-le}
 use native.Mathlib.Decide.{decLt}
@@ -7,25 +7,28 @@ use native.Mathlib.Omega.{arith}
 use Rattle.finite.specs.Range.{sumTo}
 use Rattle.finite.proofs.Delta.{δ-self}
 use Rattle.finite.proofs.Sum.{sumTo-zero, sumTo-mono₂, sumTo-strict₂, sumTo-less₂, sumTo-tight₂}
-use Rattle.graph.specs.Graph.{Graph, edges, jdm, atEdge, empty}
+use Rattle.graph.specs.Graph.{Graph, jdm, atEdge, empty}
 use Rattle.graph.specs.Target.{Target, Partial, Open}
+use Rattle.graph.specs.Switch.{join}
 use Rattle.graph.specs.Theorems.{TargetReached}
 use Rattle.graph.proofs.Matrix.{jdm-empty}
 use Rattle.graph.proofs.OpenPair.{short-has-open-pair}
+use Rattle.graph.proofs.Join.{join-works, joined-exists}
 
 -- an open pair can be joined
-abbrev pub Joinable : Type 0
-Joinable =
-    (n C : ℕ) (cls deg : ℕ → ℕ) (T : ℕ → ℕ → ℕ) (E : Graph) (v w : ℕ) →
+pub joinable : (n C : ℕ) (cls deg : ℕ → ℕ) (T : ℕ → ℕ → ℕ) (E : Graph) (v w : ℕ) →
     Target n C cls deg T → Partial n C cls deg T E → Open n cls T E v w →
-    (E′ : Graph) × Partial n C cls deg T E′ × (edges n E′ ≡ edges n E + 1)
-    × ((k l : ℕ) → jdm n cls E′ k l ≡ jdm n cls E k l + atEdge (cls v) (cls w) k l)
+    (E′ : Graph) × Partial n C cls deg T E′ × ((k l : ℕ) → jdm n cls E′ k l ≡ jdm n cls E k l + atEdge (cls v) (cls w) k l)
+joinable n C cls deg T E v w target partial pair =
+    let E′ = join n cls deg E v w in
+    let a = join-works n C cls deg T E v w target partial pair E′ (joined-exists n C cls deg T target E v w partial pair) in
+    (E′, a .partial, a .cells)
 
 -- the sum of the cells of a matrix
 abbrev cells : ℕ → (ℕ → ℕ → ℕ) → ℕ
 cells C M = sumTo C (λ k. sumTo C (M k))
 
-module _ (joinable : Joinable) (n C : ℕ) (cls deg : ℕ → ℕ) (T : ℕ → ℕ → ℕ) (target : Target n C cls deg T) where
+module _ (n C : ℕ) (cls deg : ℕ → ℕ) (T : ℕ → ℕ → ℕ) (target : Target n C cls deg T) where
   abbrev Reached : Type 0
   Reached = (E : Graph) × Partial n C cls deg T E × ((k l : ℕ) → k < C → l < C → jdm n cls E k l ≡ T k l)
 
@@ -51,8 +54,8 @@ module _ (joinable : Joinable) (n C : ℕ) (cls deg : ℕ → ℕ) (T : ℕ → 
       let j = joinable n C cls deg T E (o .0) (o .1) target part (o .5) in (
         j .0,
         j .1,
-        sumTo-strict₂ C C (jdm n cls E) (jdm n cls (j .0)) (λ k l p q. omega (arith, j .3 k l)) (s .0) (s .1) (s .2) (s .3)
-            (more (o .0) (o .1) (s .0) (s .1) (o .2) (o .3) (j .0) (j .3)),
+        sumTo-strict₂ C C (jdm n cls E) (jdm n cls (j .0)) (λ k l p q. omega (arith, j .2 k l)) (s .0) (s .1) (s .2) (s .3)
+            (more (o .0) (o .1) (s .0) (s .1) (o .2) (o .3) (j .0) (j .2)),
       )
     where
       more : (v w k l : ℕ) → cls v ≡ k → cls w ≡ l → (E′ : Graph)
@@ -72,6 +75,5 @@ module _ (joinable : Joinable) (n C : ℕ) (cls deg : ℕ → ℕ) (T : ℕ → 
   reached : Reached
   reached = reach (cells C T) empty empty-partial (omega arith)
 
-module _ (joinable : Joinable) where
-  pub target-reached : TargetReached
-  target-reached = reached joinable
+pub target-reached : TargetReached
+target-reached = reached

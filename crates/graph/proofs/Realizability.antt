@@ -1,5 +1,5 @@
 -- A table is the joint degree matrix of a simple graph of some size if and only if it passes the tests 9, 10 and 11.
--- Assumes `Joinable`, as a parameter: that an open pair can be joined.
+-- Assumes nothing.
 use mathlib.Core.Path.{_≡_, sym, ap, _∙_}
 use mathlib.Core.Bool.{true}
 use mathlib.Core.Logic.{⊎-elim}
@@ -19,7 +19,7 @@ use Rattle.graph.proofs.Matrix.{jdm-none, cellMost-cong}
 use Rattle.graph.proofs.Necessary.{necessary-always}
 use Rattle.graph.proofs.Complete.{complete-is-exact, complete-has-target}
 use Rattle.graph.proofs.Numbering.{classOf-below, classOf-size}
-use Rattle.graph.proofs.Existence.{Joinable, target-reached}
+use Rattle.graph.proofs.Existence.{target-reached}
 use Rattle.graph.proofs.Passes.{Passed, passes-passed}
 
 module _ (T : ℕ → ℕ → ℕ) (table : Table T) where
@@ -34,7 +34,7 @@ module _ (T : ℕ → ℕ → ℕ) (table : Table T) where
     abbrev degreeOf : ℕ → ℕ
     degreeOf = classOf degrees (count T)
 
-    table-target : Target vertices degrees degreeOf (λ k. k) T
+    pub table-target : Target vertices degrees degreeOf (λ k. k) T
     table-target =
         record {
           classed = classOf-below degrees (count T);
@@ -110,15 +110,14 @@ module _ (T : ℕ → ℕ → ℕ) (table : Table T) where
               rw (← (same k l), ← (cellMost-cong (size n (degree n E)) (count T) k l (counted k a) (counted l b))) (necessary .fits k l);
         }
 
-module _ (joinable : Joinable) where
-  pub realizability : Realizability
-  realizability T table = (forth, back)
-    where
-      forth : passes T ≡ true → Realized T
-      forth h =
-          let passed = passes-passed T .0 h in
-          let r = target-reached joinable (vertices T table passed) degrees (degreeOf T table passed) (λ k. k) T (table-target T table passed) in
-          (vertices T table passed, r .0, r .1 .simple, cells T table passed (r .0) (r .1) (r .2))
+pub realizability : Realizability
+realizability T table = (forth, back)
+  where
+    forth : passes T ≡ true → Realized T
+    forth h =
+        let passed = passes-passed T .0 h in
+        let r = target-reached (vertices T table passed) degrees (degreeOf T table passed) (λ k. k) T (table-target T table passed) in
+        (vertices T table passed, r .0, r .1 .simple, cells T table passed (r .0) (r .1) (r .2))
 
-      back : Realized T → passes T ≡ true
-      back r = passes-passed T .1 (graph-passed T table (r .0) (r .1) (r .2) (r .3))
+    back : Realized T → passes T ≡ true
+    back r = passes-passed T .1 (graph-passed T table (r .0) (r .1) (r .2) (r .3))

@@ -10,12 +10,18 @@ ghost use lib.ListN.{length};
 ghost use Rattle.table.specs.Block.{blockMost, blockLength, records, firstBad};
 ghost use Rattle.table.specs.Cells.{matrixOf, AtMost, cellSumMost};
 ghost use Rattle.journal.specs.Journal.{journalSize, mostBlocks, slotSize, slotAt, slotLength, blockAt, slotRest, slotOk, journalOk, jdmOf, sameBlock, stored, laid, phase, blocks};
-
-use slices::{all_zero, same_bytes, wide};
-use table::record::{block_length, first_bad, BLOCK_MOST, RECORD_SIZE};
+use slices::all_zero;
+use slices::same_bytes;
+use slices::wide;
+use table::record::BLOCK_MOST;
+use table::record::RECORD_SIZE;
+use table::record::block_length;
+use table::record::first_bad;
 
 pub const JOURNAL_SIZE: usize = 4162;
+
 pub const MOST_BLOCKS: usize = 64;
+
 pub const SLOT_SIZE: usize = 65;
 
 pub fn phase_of(journal: &[u8]) -> usize
