@@ -4,7 +4,7 @@ use mathlib.Core.Path.{_≡_, refl, sym, ap, _∙_, subst}
 use mathlib.Core.Bool.{Bool, true, false, _&&_}
 use mathlib.Core.Logic.{_≢_}
 use Prim.Native.Nat.{ℕ, zero, suc, _+_, _*_, _≤_, _<_}
-use native.Mathlib.Nat.{one-mul, zero-mul}
+use native.Mathlib.Nat.{one-mul, zero-mul, lt-irrefl}
 use native.Mathlib.Decide.{ℕ-discrete}
 use native.Mathlib.Omega.{arith}
 use lib.Dec.{eqb}
@@ -58,3 +58,18 @@ pub δ-move : (f : ℕ → ℕ) (a b : ℕ) → δ a b * f a ≡ δ a b * f b
     go : Dec (a ≡ b) → δ a b * f a ≡ δ a b * f b
     go (yes e) = rw e
     go (no e) = rw (δ-other a b e, zero-mul, zero-mul)
+
+-- what is smaller under a factor δ a b is smaller, and at equal numbers
+pub δ-less : (a b x y : ℕ) → δ a b * x < δ a b * y → (a ≡ b) × (x < y)
+δ-less a b x y h = go (ℕ-discrete a b)
+  where
+    go : Dec (a ≡ b) → (a ≡ b) × (x < y)
+    go (yes e) = (e, rw (δ-same a b e, one-mul x, one-mul y) at h)
+    go (no e) = absurd (lt-irrefl 0 (rw (δ-other a b e, zero-mul x, zero-mul y) at h))
+
+pub δ-square : (a b : ℕ) → δ a b * δ a b ≡ δ a b
+δ-square a b = go (ℕ-discrete a b)
+  where
+    go : Dec (a ≡ b) → δ a b * δ a b ≡ δ a b
+    go (yes e) = rw (δ-same a b e)
+    go (no e) = rw (δ-other a b e)

@@ -4,14 +4,14 @@ use mathlib.Core.Path.{_≡_, refl, sym, ap, _∙_, subst}
 use mathlib.Core.Bool.{Bool, true, false}
 use mathlib.Core.Logic.{_≢_, ⊎-elim}
 use Prim.Native.Nat.{ℕ, zero, suc, _+_, _*_, _-_, _≤_, _<_, zero-le}
-use native.Mathlib.Nat.{not-suc-le-zero, eq-or-lt-of-le, le-of-suc-le-suc, add-zero, add-suc, add-assoc, zero-mul, one-mul, mul-zero, mul-add, suc-mul}
+use native.Mathlib.Nat.{not-suc-le-zero, eq-or-lt-of-le, le-of-suc-le-suc, add-zero, add-suc, add-assoc, zero-mul, one-mul, mul-zero, mul-add, mul-comm, mul-left-comm, suc-mul}
 use native.Mathlib.Numerals.{add-one}
 use native.Mathlib.Decide.{ℕ-discrete, decLt}
 use native.Mathlib.Omega.{arith}
 use lib.Dec.{ltb}
 use borrow.Author.Tests.{lt-ltb, le-ltb}
 use Rattle.finite.specs.Range.{bit, δ, sumTo}
-use Rattle.finite.proofs.Delta.{δ-self, δ-other}
+use Rattle.finite.proofs.Delta.{δ-self, δ-other, δ-sym}
 
 pub sumTo-none : (f : ℕ → ℕ) → sumTo 0 f ≡ 0
 unfolding sumTo
@@ -27,6 +27,11 @@ unfolding sumTo
 sumTo-cong zero f g h = refl
 sumTo-cong (suc n) f g h = rw (sumTo-cong n f g (λ i l. h i (omega arith)), h n (omega arith))
 
+pub sumTo-cong₂ : (n m : ℕ) (f g : ℕ → ℕ → ℕ) → ((i j : ℕ) → i < n → j < m → f i j ≡ g i j)
+    → sumTo n (λ i. sumTo m (f i)) ≡ sumTo n (λ i. sumTo m (g i))
+sumTo-cong₂ n m f g h =
+    sumTo-cong n (λ i. sumTo m (f i)) (λ i. sumTo m (g i)) (λ i l. sumTo-cong m (f i) (g i) (λ j k. h i j l k))
+
 pub sumTo-add : (n : ℕ) (f g : ℕ → ℕ) → sumTo n (λ i. f i + g i) ≡ sumTo n f + sumTo n g
 unfolding sumTo
 sumTo-add zero f g = refl
@@ -36,6 +41,9 @@ pub sumTo-scale : (c n : ℕ) (f : ℕ → ℕ) → sumTo n (λ i. c * f i) ≡ 
 unfolding sumTo
 sumTo-scale c zero f = sym (mul-zero c)
 sumTo-scale c (suc n) f = rw (sumTo-scale c n f, mul-add)
+
+pub sumTo-scale-right : (c n : ℕ) (f : ℕ → ℕ) → sumTo n (λ i. f i * c) ≡ sumTo n f * c
+sumTo-scale-right c n f = sumTo-cong n (λ i. f i * c) (λ i. c * f i) (λ i l. mul-comm (f i) c) ∙ sumTo-scale c n f ∙ mul-comm c (sumTo n f)
 
 pub sumTo-const : (c n : ℕ) → sumTo n (λ i. c) ≡ n * c
 unfolding sumTo
@@ -67,6 +75,15 @@ sumTo-at (suc n) j f h = ⊎-elim last (λ l. earlier l (sumTo-at n j f l)) (eq-
     earlier : j < n → sumTo n (λ i. δ i j * f i) ≡ f j → sumTo n (λ i. δ i j * f i) + δ n j * f n ≡ f j
     earlier l ih = rw (ih, δ-other n j (omega arith), zero-mul (f n)) (add-zero (f j))
 
+-- a sum that is 0 but at one index
+pub sumTo-point : (n j c : ℕ) (f : ℕ → ℕ) → j < n → sumTo n (λ i. f i * (δ i j * c)) ≡ f j * c
+sumTo-point n j c f h =
+    sumTo-cong n (λ i. f i * (δ i j * c)) (λ i. δ i j * (f i * c)) (λ i l. mul-left-comm (f i) (δ i j) c) ∙ sumTo-at n j (λ i. f i * c) h
+
+-- of the weights δ j i only the one at j counts
+pub sumTo-only : (n j c : ℕ) → j < n → sumTo n (λ i. δ j i * c) ≡ c
+sumTo-only n j c h = sumTo-cong n (λ i. δ j i * c) (λ i. δ i j * c) (λ i l. ap (λ (d : ℕ). d * c) (δ-sym j i)) ∙ sumTo-at n j (λ i. c) h
+
 pub sumTo-mono : (n : ℕ) (f g : ℕ → ℕ) → ((i : ℕ) → i < n → f i ≤ g i) → sumTo n f ≤ sumTo n g
 unfolding sumTo
 sumTo-mono zero f g h = omega arith
@@ -81,6 +98,16 @@ sumTo-strict (suc n) f g h j l s =
     (λ e. let t : f n < g n = rw e at s in omega (arith, sumTo-mono n f g (λ i m. h i (omega arith))))
     (λ m. omega (arith, sumTo-strict n f g (λ i k. h i (omega arith)) j m s, h n (omega arith)))
     (eq-or-lt-of-le (le-of-suc-le-suc l))
+
+-- what one term is smaller by, among terms that are no larger, the sum is smaller by
+pub sumTo-gap : (n : ℕ) (f g : ℕ → ℕ) → ((i : ℕ) → i < n → f i ≤ g i) → (j c : ℕ) → j < n → f j + c ≤ g j → sumTo n f + c ≤ sumTo n g
+sumTo-gap n f g h j c l s =
+    rw (← (sumTo-at n j (λ i. c) l), ← (sumTo-add n f (λ i. δ i j * c)))
+    (sumTo-mono n (λ i. f i + δ i j * c) g (λ i m. term i m (ℕ-discrete i j)))
+  where
+    term : (i : ℕ) → i < n → Dec (i ≡ j) → f i + δ i j * c ≤ g i
+    term i m (yes e) = rw (e, δ-self j, one-mul c) s
+    term i m (no e) = rw (δ-other i j e, zero-mul c, add-zero (f i)) (h i m)
 
 -- a smaller sum has a smaller term
 pub sumTo-less : (n : ℕ) (f g : ℕ → ℕ) → sumTo n f < sumTo n g → (i : ℕ) × (i < n) × (f i < g i)
@@ -99,6 +126,31 @@ sumTo-tight n f g h e i l = go (decLt (f i) (g i))
     go : Dec (f i < g i) → f i ≡ g i
     go (yes s) = absurd (omega (arith, sumTo-strict n f g h i l s))
     go (no s) = omega (arith, h i l)
+
+-- the same of sums over pairs
+pub sumTo-mono₂ : (n m : ℕ) (f g : ℕ → ℕ → ℕ) → ((i j : ℕ) → i < n → j < m → f i j ≤ g i j)
+    → sumTo n (λ i. sumTo m (f i)) ≤ sumTo n (λ i. sumTo m (g i))
+sumTo-mono₂ n m f g h =
+    sumTo-mono n (λ i. sumTo m (f i)) (λ i. sumTo m (g i)) (λ i l. sumTo-mono m (f i) (g i) (λ j k. h i j l k))
+
+pub sumTo-strict₂ : (n m : ℕ) (f g : ℕ → ℕ → ℕ) → ((i j : ℕ) → i < n → j < m → f i j ≤ g i j)
+    → (i j : ℕ) → i < n → j < m → f i j < g i j → sumTo n (λ i. sumTo m (f i)) < sumTo n (λ i. sumTo m (g i))
+sumTo-strict₂ n m f g h i j l k s =
+    sumTo-strict n (λ i. sumTo m (f i)) (λ i. sumTo m (g i)) (λ i l. sumTo-mono m (f i) (g i) (λ j k. h i j l k))
+    i l (sumTo-strict m (f i) (g i) (λ j k. h i j l k) j k s)
+
+pub sumTo-less₂ : (n m : ℕ) (f g : ℕ → ℕ → ℕ) → sumTo n (λ i. sumTo m (f i)) < sumTo n (λ i. sumTo m (g i))
+    → (i j : ℕ) × (i < n) × (j < m) × (f i j < g i j)
+sumTo-less₂ n m f g h =
+    let a = sumTo-less n (λ i. sumTo m (f i)) (λ i. sumTo m (g i)) h in
+    let b = sumTo-less m (f (a .0)) (g (a .0)) (a .2) in
+    (a .0, b .0, a .1, b .1, b .2)
+
+pub sumTo-tight₂ : (n m : ℕ) (f g : ℕ → ℕ → ℕ) → ((i j : ℕ) → i < n → j < m → f i j ≤ g i j)
+    → sumTo n (λ i. sumTo m (f i)) ≡ sumTo n (λ i. sumTo m (g i)) → (i j : ℕ) → i < n → j < m → f i j ≡ g i j
+sumTo-tight₂ n m f g h e i j l k =
+    sumTo-tight m (f i) (g i) (λ j k. h i j l k)
+    (sumTo-tight n (λ i. sumTo m (f i)) (λ i. sumTo m (g i)) (λ i l. sumTo-mono m (f i) (g i) (λ j k. h i j l k)) e i l) j k
 
 -- a term is at most the sum
 pub sumTo-term : (n : ℕ) (f : ℕ → ℕ) (j : ℕ) → j < n → f j ≤ sumTo n f

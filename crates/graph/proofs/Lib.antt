@@ -1,0 +1,14 @@
+pub mod Matrix
+pub mod Necessary
+pub mod OpenPair
+pub mod Complete
+pub mod Edge
+pub mod Update
+pub mod Stubs
+pub mod Choice
+pub mod Switch
+pub mod Join
+pub mod Numbering
+pub mod Existence
+pub mod Passes
+pub mod Realizability

@@ -1,0 +1,123 @@
+-- A table is the joint degree matrix of a simple graph of some size if and only if it passes the tests 9, 10 and 11.
+-- Assumes nothing.
+use mathlib.Core.Path.{_≡_, sym, ap, _∙_}
+use mathlib.Core.Bool.{true}
+use mathlib.Core.Logic.{⊎-elim}
+use Prim.Native.Nat.{ℕ, _+_, _*_, _<_}
+use native.Mathlib.Nat.{eq-zero-or-pos, add-zero, div-add-mod, mul-mod-left, mul-div-cancel}
+use native.Mathlib.Decide.{decLt}
+use native.Mathlib.Omega.{arith}
+use Rattle.finite.specs.Range.{δ}
+use Rattle.finite.proofs.Delta.{δ-move}
+use Rattle.finite.proofs.Sum.{sumTo-cong, sumTo-const, sumTo-scale-right, sumTo-mono, sumTo-split, sumTo-zero}
+use Rattle.graph.specs.Graph.{Graph, Simple, degree, size, jdm, ownJdm}
+use Rattle.graph.specs.Target.{Target, Partial}
+use Rattle.graph.specs.Numbering.{total, classOf}
+use Rattle.graph.specs.Tests.{mostDegree, degrees, rowSum, count, passes, Table}
+use Rattle.graph.specs.Theorems.{Realized, Realizability, Necessary}
+use Rattle.graph.proofs.Matrix.{jdm-none, cellMost-cong}
+use Rattle.graph.proofs.Necessary.{necessary-always}
+use Rattle.graph.proofs.Complete.{complete-is-exact, complete-has-target}
+use Rattle.graph.proofs.Numbering.{classOf-below, classOf-size}
+use Rattle.graph.proofs.Existence.{target-reached}
+use Rattle.graph.proofs.Passes.{Passed, passes-passed}
+
+module _ (T : ℕ → ℕ → ℕ) (table : Table T) where
+  none-of-0 : (k l : ℕ) → k ≡ 0 → T k l ≡ 0
+  none-of-0 k l e = rw e (table .none-of-0 l)
+
+  -- A table that passes is a target, its vertices numbered by degree.
+  module _ (passed : Passed T) where
+    abbrev vertices : ℕ
+    vertices = total degrees (count T)
+
+    abbrev degreeOf : ℕ → ℕ
+    degreeOf = classOf degrees (count T)
+
+    pub table-target : Target vertices degrees degreeOf (λ k. k) T
+    table-target =
+        record {
+          classed = classOf-below degrees (count T);
+          symmetric = λ k l p q. table .symmetric k l;
+          even = λ k p. ⊎-elim (λ e. rw (none-of-0 k k e)) (λ a. passed .even k a p) (eq-zero-or-pos k);
+          rows = λ k p. rw (classOf-size degrees (count T) k p) (⊎-elim (row-0 k) (λ a. row k a p) (eq-zero-or-pos k));
+          fits = λ k l p q.
+              rw (cellMost-cong (size vertices degreeOf) (count T) k l (classOf-size degrees (count T) k p) (classOf-size degrees (count T) l q))
+              (⊎-elim (λ e. omega (arith, none-of-0 k l e))
+              (λ a. ⊎-elim (λ e. omega (arith, table .symmetric k l, none-of-0 l k e)) (λ b. passed .fits k l a p b q) (eq-zero-or-pos l))
+              (eq-zero-or-pos k));
+        }
+      where
+        row-0 : (k : ℕ) → k ≡ 0 → rowSum T k ≡ k * count T k
+        row-0 k e = rw (sumTo-zero degrees (T k) (λ l q. none-of-0 k l e), e)
+
+        row : (k : ℕ) → 0 < k → k < degrees → rowSum T k ≡ k * count T k
+        row k a p = sym (rw (passed .rows k a p, add-zero (k * count T k)) at (div-add-mod (rowSum T k) k))
+
+    module _ (E : Graph) (part : Partial vertices degrees degreeOf (λ k. k) T E)
+        (full : (k l : ℕ) → k < degrees → l < degrees → jdm vertices degreeOf E k l ≡ T k l) where
+      -- no vertex has a degree past the table's
+      low : (v : ℕ) → v < vertices → degree vertices E v < degrees
+      low v p = rw (complete-is-exact vertices degrees degreeOf (λ k. k) T E table-target part full v p) (classOf-below degrees (count T) v p)
+
+      past : (k l : ℕ) → mostDegree < k → ownJdm vertices E k l ≡ 0
+      past k l a = jdm-none vertices (degree vertices E) E k l (λ v p e. absurd (omega (arith, low v p)))
+
+      cells : (k l : ℕ) → ownJdm vertices E k l ≡ T k l
+      cells k l = go (decLt k degrees) (decLt l degrees)
+        where
+          go : Dec (k < degrees) → Dec (l < degrees) → ownJdm vertices E k l ≡ T k l
+          go (yes p) (yes q) = complete-has-target vertices degrees degreeOf T E table-target part full k l p q
+          go (yes p) (no q) =
+              necessary-always vertices degrees (degree vertices E) E (part .simple) low .symmetric k l
+              ∙ past l k (omega arith)
+              ∙ sym (table .none-above l k (omega arith))
+              ∙ table .symmetric l k
+          go (no p) d = past k l (omega arith) ∙ sym (table .none-above k l (omega arith))
+
+  -- The table of a graph passes.
+  module _ (n : ℕ) (E : Graph) (simple : Simple n E) (same : (k l : ℕ) → ownJdm n E k l ≡ T k l) where
+    -- a number past all degrees of the graph and of the table
+    abbrev past-all : ℕ
+    past-all = degrees + n
+
+    degree-below : (v : ℕ) → v < n → degree n E v < past-all
+    degree-below v p = omega (arith, sumTo-mono n (E v) (λ w. 1) (λ w q. simple .binary v w p q), sumTo-const 1 n)
+
+    necessary : Necessary n past-all (degree n E) E
+    necessary = necessary-always n past-all (degree n E) E simple degree-below
+
+    row : (k : ℕ) → rowSum T k ≡ size n (degree n E) k * k
+    row k =
+        sym (sumTo-split degrees n (T k) ∙ ap (λ (r : ℕ). rowSum T k + r) (sumTo-zero n (λ i. T k (degrees + i)) above) ∙ add-zero (rowSum T k))
+        ∙ sym (sumTo-cong past-all (ownJdm n E k) (T k) (λ l q. same k l))
+        ∙ necessary .rows k
+        ∙ sumTo-cong n (λ v. δ (degree n E v) k * degree n E v) (λ v. δ (degree n E v) k * k) (λ v p. δ-move (λ d. d) (degree n E v) k)
+        ∙ sumTo-scale-right k n (λ v. δ (degree n E v) k)
+      where
+        above : (i : ℕ) → i < n → T k (degrees + i) ≡ 0
+        above i q = table .symmetric k (degrees + i) ∙ table .none-above (degrees + i) k (omega arith)
+
+    counted : (k : ℕ) → 0 < k → size n (degree n E) k ≡ count T k
+    counted k a = rw (row k) (sym (mul-div-cancel (size n (degree n E) k) a))
+
+    graph-passed : Passed T
+    graph-passed =
+        record {
+          even = λ k a p. rw (← (same k k)) (necessary .even k);
+          rows = λ k a p. rw (row k) (mul-mod-left (size n (degree n E) k) k);
+          fits = λ k l a p b q.
+              rw (← (same k l), ← (cellMost-cong (size n (degree n E)) (count T) k l (counted k a) (counted l b))) (necessary .fits k l);
+        }
+
+pub realizability : Realizability
+realizability T table = (forth, back)
+  where
+    forth : passes T ≡ true → Realized T
+    forth h =
+        let passed = passes-passed T .0 h in
+        let r = target-reached (vertices T table passed) degrees (degreeOf T table passed) (λ k. k) T (table-target T table passed) in
+        (vertices T table passed, r .0, r .1 .simple, cells T table passed (r .0) (r .1) (r .2))
+
+    back : Realized T → passes T ≡ true
+    back r = passes-passed T .1 (graph-passed T table (r .0) (r .1) (r .2) (r .3))
