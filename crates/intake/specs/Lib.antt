@@ -1,0 +1,5 @@
+pub mod Clear
+pub mod Take
+pub mod Held
+pub mod LayOut
+pub mod Figures

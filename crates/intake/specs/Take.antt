@@ -1,0 +1,46 @@
+-- Taking a block (document 01, "Blocks and records", "When a call says no").
+-- Assumes nothing.
+use mathlib.Core.Bool.{cond}
+use mathlib.Core.List.{List}
+use Prim.Native.Nat.{ℕ, _+_}
+use lib.Dec.{eqb, ltb, leb}
+use lib.ListN.{length}
+use Rattle.answer.specs.Refusals.{refusal, unless}
+use Rattle.answer.specs.declared.Cause.the-variants.{Length, Invalid, Phase, BlockLength, Record, BlockNumber, Conflict, JournalFull}
+use Rattle.answer.specs.declared.TakeAnswer.{TakeAnswer}
+use Rattle.answer.specs.declared.TakeAnswer.the-variants.{Taken, Held, Refused}
+use Rattle.table.specs.Block.{blockLength, records, firstBad}
+use Rattle.journal.specs.Journal.{mostBlocks, phase, blocks, sameBlock, stored}
+use Rattle.state.specs.Valid.{lengthsOk, valid}
+
+-- a low number: the block held under it, or a conflict
+abbrev pub takeHeld : List ℕ → ℕ → List ℕ → TakeAnswer
+takeHeld j number b = unless (sameBlock j number b) (Refused (refusal Conflict 0 0)) Held
+
+-- the next number: a new block
+abbrev pub takeNew : List ℕ → TakeAnswer
+takeNew j =
+    unless (eqb (phase j) 0) (Refused (refusal Phase 0 0))
+    (unless (ltb (blocks j) mostBlocks) (Refused (refusal JournalFull 0 0))
+    (Taken (blocks j + 1)))
+
+-- a well-formed block on a valid state
+abbrev pub takeNumbered : List ℕ → ℕ → List ℕ → TakeAnswer
+takeNumbered j number b =
+    unless (leb number (blocks j)) (Refused (refusal BlockNumber 0 0))
+    (cond (ltb number (blocks j)) (takeHeld j number b) (takeNew j))
+
+-- the checks 1, 2, 4, 5, 6, then for a low number 7 or held, then 3, 8, taken
+abbrev pub takeAnswer : List ℕ → List ℕ → ℕ → List ℕ → TakeAnswer
+takeAnswer j g number b =
+    unless (lengthsOk j g) (Refused (refusal Length 0 0))
+    (unless (valid j g) (Refused (refusal Invalid 0 0))
+    (unless (blockLength (length b)) (Refused (refusal BlockLength 0 0))
+    (unless (eqb (firstBad b) (records b)) (Refused (refusal Record (firstBad b) 0))
+    (takeNumbered j number b))))
+
+-- the journal afterwards
+abbrev pub takeJournal : TakeAnswer → List ℕ → List ℕ → List ℕ
+takeJournal (Taken next) j b = stored j b
+takeJournal Held j b = j
+takeJournal (Refused r) j b = j
