@@ -14,6 +14,14 @@ use Rattle.answer.specs.declared.LayOutAnswer.{LayOutAnswer}
 use Rattle.answer.specs.declared.LayOutAnswer.the-variants as LayOut
 use Rattle.answer.specs.declared.FiguresAnswer.{FiguresAnswer}
 use Rattle.answer.specs.declared.FiguresAnswer.the-variants as Figs
+use Rattle.answer.specs.declared.AddAnswer.{AddAnswer}
+use Rattle.answer.specs.declared.AddAnswer.the-variants as Add
+use Rattle.answer.specs.declared.RemoveAnswer.{RemoveAnswer}
+use Rattle.answer.specs.declared.RemoveAnswer.the-variants as Remove
+use Rattle.answer.specs.declared.CompleteAnswer.{CompleteAnswer}
+use Rattle.answer.specs.declared.CompleteAnswer.the-variants as Complete
+use Rattle.answer.specs.declared.WrittenAnswer.{WrittenAnswer}
+use Rattle.answer.specs.declared.WrittenAnswer.the-variants as Write
 
 -- the numbers of document 01's table
 abbrev pub numberOf : Cause → ℕ
@@ -76,3 +84,20 @@ abbrev pub figuresNumbers : FiguresAnswer → Numbers
 figuresNumbers (Figs.Reported f) =
     record { number = 0; first = f .phase; second = f .blocks; third = f .vertices; fourth = f .wanted; fifth = f .laid }
 figuresNumbers (Figs.Refused r) = refused r
+
+abbrev pub addNumbers : AddAnswer → Numbers
+addNumbers (Add.Added switches) = done switches 0
+addNumbers (Add.Refused r) = refused r
+
+abbrev pub removeNumbers : RemoveAnswer → Numbers
+removeNumbers Remove.Removed = done 0 0
+removeNumbers (Remove.Refused r) = refused r
+
+-- first: the edges added (document 01: joins); second: the switches
+abbrev pub completeNumbers : CompleteAnswer → Numbers
+completeNumbers (Complete.Completed joins switches) = done joins switches
+completeNumbers (Complete.Refused r) = refused r
+
+abbrev pub writtenNumbers : WrittenAnswer → Numbers
+writtenNumbers (Write.Written n) = done n 0
+writtenNumbers (Write.Refused r) = refused r

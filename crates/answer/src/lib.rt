@@ -76,6 +76,29 @@ pub enum FiguresAnswer {
     Refused(Refusal),
 }
 
+// Adding an edge: the switches made.
+pub enum AddAnswer {
+    Added(usize),
+    Refused(Refusal),
+}
+
+pub enum RemoveAnswer {
+    Removed,
+    Refused(Refusal),
+}
+
+// Completing: the edges added and the switches made.
+pub enum CompleteAnswer {
+    Completed(usize, usize),
+    Refused(Refusal),
+}
+
+// Writing to an output: the written length.
+pub enum WrittenAnswer {
+    Written(usize),
+    Refused(Refusal),
+}
+
 // The refusal of a cause at two places.
 pub fn refuse(cause: Cause, first: usize, second: usize) -> Refusal
     ensures { λ r. ⌜ r ≡ refusal cause first second ⌝ }

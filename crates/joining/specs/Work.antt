@@ -1,0 +1,45 @@
+-- What the code of joining keeps beside the matrix, and what it may rely on.
+-- Assumes nothing.
+use mathlib.Core.Path.{_≡_}
+use mathlib.Core.Bool.{Bool, false, _&&_, not, cond}
+use mathlib.Core.List.{List}
+use Prim.Native.Nat.{ℕ, _≤_, _<_}
+use lib.Dec.{eqb, ltb}
+use lib.ListN.{length, getD, replicate}
+use Rattle.finite.specs.Range.{fillTo}
+use Rattle.graph.specs.Graph.{degree}
+use Rattle.graph.specs.Target.{Target, Partial, Open}
+use Rattle.graph.specs.Switch.{unsaturated}
+use Rattle.graph.specs.Tests.{degrees}
+use Rattle.table.specs.Layout.{mostVertices}
+use Rattle.adjacency.specs.Adjacency.{adjacencySize, edge}
+use Rattle.joining.specs.Join.{own, transferAt}
+
+-- the class of each vertex, as an array has it
+abbrev pub classAt : List ℕ → ℕ → ℕ
+classAt classes v = getD classes v 0
+
+-- the degrees of the n vertices, in an array of 200 with zeros behind them
+abbrev pub degreesOf : ℕ → List ℕ → List ℕ
+degreesOf n g = fillTo n (degree n (edge g)) (replicate mostVertices 0)
+
+-- v and w may be joined: g is a partial graph of some table, and the pair is open
+pub record Joinable (n : ℕ) (cls : ℕ → ℕ) (g : List ℕ) (v w : ℕ) : Type 0 where
+  pub table : ℕ → ℕ → ℕ
+  pub sized : length g ≡ adjacencySize
+  pub few : n ≤ mostVertices
+  pub target : Target n degrees cls own table
+  pub partial : Partial n degrees cls own table (edge g)
+  pub pair : Open n cls table (edge g) v w
+
+-- every vertex below `from` that has a's class is saturated, so the search for a substitute may begin there
+abbrev pub SaturatedBelow : ℕ → (ℕ → ℕ) → List ℕ → ℕ → ℕ → Type 0
+SaturatedBelow n cls g a from = (i : ℕ) → i < from → cls i ≡ cls a → unsaturated n cls own (edge g) i ≡ false
+
+-- the substitute test on the arrays
+abbrev pub canSubstituteIn : List ℕ → List ℕ → ℕ → ℕ → ℕ → Bool
+canSubstituteIn classes held k other b = eqb (getD classes b 0) k && ltb (getD held b 0) (getD classes b 0) && not (eqb b other)
+
+-- the vertex that the switch of v cut off from v; n where v was not switched
+abbrev pub freed : ℕ → (ℕ → ℕ) → List ℕ → ℕ → ℕ → ℕ
+freed n cls g v w = cond (unsaturated n cls own (edge g) v) n (transferAt n cls g v w)

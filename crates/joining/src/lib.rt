@@ -1,0 +1,138 @@
+// Joining two vertices of the adjacency matrix, with at most two neighbour switches. The classes of the vertices and the
+// degrees they have so far stand in arrays beside the matrix.
+ghost use mathlib.Core.Path.{_≡_};
+ghost use mathlib.Core.Bool.{true, false, cond};
+ghost use Prim.Native.Nat.{ℕ, _+_, _-_, _*_, _≤_, _<_};
+ghost use lib.Dec.{ltb};
+ghost use lib.ListN.{length, getD, set};
+ghost use Rattle.finite.specs.Range.{lowest};
+ghost use Rattle.graph.specs.Switch.{canTransfer, transfer, orElse};
+ghost use Rattle.adjacency.specs.Adjacency.{adjacencySize, side, edge, setEdge};
+ghost use Rattle.joining.specs.Join.{switchBytes, relieveBytes, relieveCount, joinBytes, joinCount};
+ghost use Rattle.joining.specs.Work.{classAt, degreesOf, Joinable, SaturatedBelow, canSubstituteIn, freed};
+
+use adjacency::{set_edge, SIDE};
+use slices::wide;
+
+// What joining did: the switches, and the vertex that the switch of v cut off from v (n where there was none).
+pub struct JoinDone {
+    pub switches: usize,
+    pub freed: usize,
+}
+
+// The degrees of the n vertices.
+pub fn degrees(adjacency: &[u8], n: usize) -> [usize; 200]
+    requires { ⌜ (length (now adjacency) ≡ adjacencySize) × (n ≤ side) ⌝ }
+    ensures { λ r. ⌜ r ≡ degreesOf n (now (adjacency .entry)) ⌝ }
+{
+    let mut t = [0usize; 200];
+    for v in 0..n {
+        t[v] = adjacency::degree_of(adjacency, n, v);
+    }
+    t
+}
+
+fn can_substitute(classes: &[u8; 200], held: &[usize; 200], k: usize, other: usize, b: usize) -> bool
+    requires { ⌜ b < side ⌝ }
+    ensures { λ r. ⌜ r ≡ canSubstituteIn (now (classes .entry)) (now (held .entry)) k other b ⌝ }
+{
+    let c = wide(classes[b]);
+    (c == k) & (held[b] < c) & (b != other)
+}
+
+// The lowest such vertex of from, .., n - 1; n where there is none.
+fn substitute_from(classes: &[u8; 200], held: &[usize; 200], n: usize, k: usize, other: usize, from: usize) -> usize
+    requires { ⌜ (n ≤ side) × (from ≤ n) ⌝ }
+    ensures { λ r. ⌜ r ≡ lowest from n (canSubstituteIn (now (classes .entry)) (now (held .entry)) k other) ⌝ }
+{
+    let mut b = from;
+    while b < n {
+        if can_substitute(classes, held, k, other, b) {
+            return b;
+        }
+        b += 1;
+    }
+    b
+}
+
+// Document 01's b: the lowest such vertex, else the other named one.
+fn choose_substitute(classes: &[u8; 200], held: &[usize; 200], n: usize, k: usize, other: usize, from: usize) -> usize
+    requires { ⌜ (n ≤ side) × (from ≤ n) ⌝ }
+    ensures { λ r. ⌜ r ≡ orElse n other (lowest from n (canSubstituteIn (now (classes .entry)) (now (held .entry)) k other)) ⌝ }
+{
+    let b = substitute_from(classes, held, n, k, other, from);
+    if b < n {
+        return b;
+    }
+    other
+}
+
+fn can_transfer(adjacency: &[u8], a: usize, b: usize, t: usize) -> bool
+    requires { ⌜ (length (now adjacency) ≡ adjacencySize) × (a < side) × (b < side) × (t < side) ⌝ }
+    ensures { λ r. ⌜ r ≡ canTransfer (edge (now (adjacency .entry))) a b t ⌝ }
+{
+    (t != b) & (adjacency[a * SIDE + t] == 1) & (adjacency[b * SIDE + t] == 0)
+}
+
+// Document 01's t: the lowest vertex, not b, linked to a and not to b.
+fn choose_transfer(adjacency: &[u8], n: usize, a: usize, b: usize) -> usize
+    requires { ⌜ (length (now adjacency) ≡ adjacencySize) × (n ≤ side) × (a < side) × (b < side) ⌝ }
+    ensures { λ r. ⌜ r ≡ transfer n (edge (now (adjacency .entry))) a b ⌝ }
+{
+    let mut t = 0;
+    while t < n {
+        if can_transfer(adjacency, a, b, t) {
+            return t;
+        }
+        t += 1;
+    }
+    t
+}
+
+// Makes room at a: a neighbour switch if it is saturated. The vertex cut off from a; n where there was no switch.
+fn relieve(adjacency: &mut [u8], held: &mut [usize; 200], classes: &[u8; 200], n: usize, a: usize, other: usize, from: usize) -> usize
+    requires { ⌜ Joinable n (classAt (now classes)) (now adjacency) a other × (now held ≡ degreesOf n (now adjacency)) × (from ≤ n) × ((i : ℕ) → i < from → classAt (now classes) i ≡ classAt (now classes) a → (i ≡ other → ⊥) → getD (now classes) i 0 ≤ getD (now held) i 0) ⌝ }
+    ensures { λ r. ⌜ r ≡ freed n (classAt (now (classes .entry))) (now (adjacency .entry)) a other ⌝ }
+    ensures { λ _. ⌜ now (adjacency .exit) ≡ relieveBytes n (classAt (now (classes .entry))) (now (adjacency .entry)) a other ⌝ }
+    ensures { λ _. ⌜ now (held .exit) ≡ degreesOf n (relieveBytes n (classAt (now (classes .entry))) (now (adjacency .entry)) a other) ⌝ }
+{
+    let k = wide(classes[a]);
+    if held[a] < k {
+        return n;
+    }
+    let b = choose_substitute(classes, held, n, k, other, from);
+    let t = choose_transfer(adjacency, n, a, b);
+    set_edge(adjacency, a, t, 0);
+    set_edge(adjacency, b, t, 1);
+    held[a] -= 1;
+    held[b] += 1;
+    t
+}
+
+// Joins v and w.
+pub fn join(adjacency: &mut [u8], held: &mut [usize; 200], classes: &[u8; 200], n: usize, v: usize, w: usize, from_v: usize, from_w: usize) -> JoinDone
+    requires { ⌜ Joinable n (classAt (now classes)) (now adjacency) v w × (now held ≡ degreesOf n (now adjacency)) × (from_v ≤ n) × (from_w ≤ n) × SaturatedBelow n (classAt (now classes)) (now adjacency) v from_v × SaturatedBelow n (classAt (now classes)) (now adjacency) w from_w ⌝ }
+    ensures { λ r. ⌜ (r .switches ≡ joinCount n (classAt (now (classes .entry))) (now (adjacency .entry)) v w) × (r .freed ≡ freed n (classAt (now (classes .entry))) (now (adjacency .entry)) v w) ⌝ }
+    ensures { λ _. ⌜ now (adjacency .exit) ≡ joinBytes n (classAt (now (classes .entry))) (now (adjacency .entry)) v w ⌝ }
+    ensures { λ _. ⌜ now (held .exit) ≡ degreesOf n (joinBytes n (classAt (now (classes .entry))) (now (adjacency .entry)) v w) ⌝ }
+{
+    let x = relieve(adjacency, held, classes, n, v, w, from_v);
+    let y = relieve(adjacency, held, classes, n, w, v, from_w);
+    set_edge(adjacency, v, w, 1);
+    held[v] += 1;
+    held[w] += 1;
+    JoinDone {
+        switches: switch_count(n, x) + switch_count(n, y),
+        freed: x,
+    }
+}
+
+// 1 where a vertex was cut off, else 0.
+fn switch_count(n: usize, cut: usize) -> usize
+    ensures { λ r. ⌜ (r ≡ cond (ltb cut n) 1 0) × (r ≤ 1) ⌝ }
+{
+    if cut < n {
+        return 1;
+    }
+    0
+}

@@ -1,0 +1,2 @@
+pub mod EdgeList
+pub mod Survey
