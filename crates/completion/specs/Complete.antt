@@ -1,0 +1,68 @@
+-- Completing (document 01: finish): while a cell is short, the pair of specs/Choice.antt is joined.
+-- Assumes nothing.
+use mathlib.Core.Bool.{cond}
+use mathlib.Core.List.{List}
+use Prim.Native.Nat.{ℕ, zero, suc, _+_}
+use lib.Dec.{eqb, ltb}
+use Rattle.answer.specs.Refusals.{refusal, unless}
+use Rattle.answer.specs.declared.Cause.the-variants.{Length, Invalid, Phase}
+use Rattle.answer.specs.declared.CompleteAnswer.{CompleteAnswer}
+use Rattle.answer.specs.declared.CompleteAnswer.the-variants.{Completed, Refused}
+use Rattle.graph.specs.Tests.{degrees}
+use Rattle.journal.specs.Journal.{phase, jdmOf}
+use Rattle.state.specs.Valid.{lengthsOk, valid}
+use Rattle.state.specs.Laid.{vertexCount, degreeAt}
+use Rattle.joining.specs.Join.{joinBytes, joinCount}
+use Rattle.completion.specs.Choice.{shortK, shortL, openV, openW}
+
+-- a matrix with the edges added and the switches made so far
+pub record Ran : Type 0 where
+  pub adjacency : List ℕ
+  pub joins : ℕ
+  pub switches : ℕ
+
+-- one pair v – w joined
+abbrev pub joined : ℕ → (ℕ → ℕ) → Ran → ℕ → ℕ → Ran
+joined n cls s v w =
+    record {
+      adjacency = joinBytes n cls (s .adjacency) v w;
+      joins = s .joins + 1;
+      switches = s .switches + joinCount n cls (s .adjacency) v w;
+    }
+
+-- the next pair joined: the lowest open pair of the lowest short cell
+abbrev pub next : ℕ → (ℕ → ℕ) → (ℕ → ℕ → ℕ) → Ran → Ran
+next n cls T s =
+    let g = s .adjacency in
+    let k = shortK n cls T g in
+    let l = shortL n cls T g k in
+    let v = openV n cls g k l in
+    joined n cls s v (openW n cls g k l v)
+
+-- at most `fuel` joins, while a cell is short
+unfoldable pub run : ℕ → ℕ → (ℕ → ℕ) → (ℕ → ℕ → ℕ) → Ran → Ran
+run zero n cls T s = s
+run (suc fuel) n cls T s =
+    let r = run fuel n cls T (next n cls T s) in
+    cond (ltb (shortK n cls T (s .adjacency)) degrees) r s
+
+-- no layout has more edges: 200 vertices of degree at most 40
+abbrev pub mostEdges : ℕ
+mostEdges = 4000
+
+-- a laid state completed
+abbrev pub completed : List ℕ → List ℕ → Ran
+completed j g = run mostEdges (vertexCount j) (degreeAt j) (jdmOf j) (record { adjacency = g; joins = 0; switches = 0 })
+
+-- the checks 1, 2, 3
+abbrev pub completeAnswer : List ℕ → List ℕ → CompleteAnswer
+completeAnswer j g =
+    unless (lengthsOk j g) (Refused (refusal Length 0 0))
+    (unless (valid j g) (Refused (refusal Invalid 0 0))
+    (unless (eqb (phase j) 1) (Refused (refusal Phase 0 0))
+    (Completed (completed j g .joins) (completed j g .switches))))
+
+-- the matrix afterwards
+abbrev pub completeAdjacency : CompleteAnswer → List ℕ → List ℕ → List ℕ
+completeAdjacency (Completed joins switches) j g = completed j g .adjacency
+completeAdjacency (Refused r) j g = g

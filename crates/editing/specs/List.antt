@@ -1,0 +1,39 @@
+-- Listing the edges (document 01: list): 2 bytes an edge, v then w, v < w, ascending by v then w.
+-- Assumes nothing.
+use mathlib.Core.Bool.{_&&_, cond}
+use mathlib.Core.List.{List, [], _∷_}
+use Prim.Native.Nat.{ℕ}
+use lib.Dec.{eqb, ltb, leb}
+use lib.ListN.{length}
+use lib.Seq.{sets}
+use Rattle.finite.specs.Range.{catTo}
+use Rattle.answer.specs.Refusals.{refusal, unless}
+use Rattle.answer.specs.declared.Cause.the-variants.{Length, Invalid, Phase, OutputLength}
+use Rattle.answer.specs.declared.WrittenAnswer.{WrittenAnswer}
+use Rattle.answer.specs.declared.WrittenAnswer.the-variants.{Written, Refused}
+use Rattle.journal.specs.Journal.{phase}
+use Rattle.adjacency.specs.Adjacency.{edge}
+use Rattle.state.specs.Valid.{lengthsOk, valid}
+use Rattle.state.specs.Laid.{vertexCount}
+
+-- the bytes of the edge v – w, where it is one and v < w
+abbrev pub edgeBytes : List ℕ → ℕ → ℕ → List ℕ
+edgeBytes g v w = cond (ltb v w && eqb (edge g v w) 1) (v ∷ w ∷ []) []
+
+-- the edge list of the first n vertices
+abbrev pub listBytes : ℕ → List ℕ → List ℕ
+listBytes n g = catTo n (λ v. catTo n (edgeBytes g v))
+
+-- the checks 1, 2, 3, 18, for an output of m bytes
+abbrev pub listAnswer : List ℕ → List ℕ → ℕ → WrittenAnswer
+listAnswer j g m =
+    unless (lengthsOk j g) (Refused (refusal Length 0 0))
+    (unless (valid j g) (Refused (refusal Invalid 0 0))
+    (unless (eqb (phase j) 1) (Refused (refusal Phase 0 0))
+    (unless (leb (length (listBytes (vertexCount j) g)) m) (Refused (refusal OutputLength 0 0))
+    (Written (length (listBytes (vertexCount j) g))))))
+
+-- the output afterwards: the list, and behind it what was there
+abbrev pub listOutput : WrittenAnswer → List ℕ → List ℕ → List ℕ → List ℕ
+listOutput (Written n) j g out = sets out 0 (listBytes (vertexCount j) g)
+listOutput (Refused r) j g out = out

@@ -1,0 +1,29 @@
+-- A laid state's graph: what follows from the summed table alone, and its cells so far.
+-- Assumes nothing.
+use mathlib.Core.Bool.{Bool}
+use mathlib.Core.List.{List}
+use Prim.Native.Nat.{ℕ}
+use lib.Dec.{ltb}
+use Rattle.graph.specs.Graph.{jdm, edges}
+use Rattle.table.specs.Layout.{vertices, vertexDegree}
+use Rattle.journal.specs.Journal.{jdmOf}
+use Rattle.adjacency.specs.Adjacency.{edge}
+
+-- N, and the degree of vertex v
+abbrev pub vertexCount : List ℕ → ℕ
+vertexCount j = vertices (jdmOf j)
+
+abbrev pub degreeAt : List ℕ → ℕ → ℕ
+degreeAt j = vertexDegree (jdmOf j)
+
+-- cell (k, l) of the edges so far: equation (1) at the degrees laid out
+abbrev pub cellAt : List ℕ → List ℕ → ℕ → ℕ → ℕ
+cellAt j g = jdm (vertexCount j) (degreeAt j) (edge g)
+
+-- the cell is below the table (document 01: it is short)
+abbrev pub isShort : List ℕ → List ℕ → ℕ → ℕ → Bool
+isShort j g k l = ltb (cellAt j g k l) (jdmOf j k l)
+
+-- how many edges the matrix holds
+abbrev pub edgeTotal : List ℕ → List ℕ → ℕ
+edgeTotal j g = edges (vertexCount j) (edge g)
