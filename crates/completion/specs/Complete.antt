@@ -1,9 +1,10 @@
 -- Completing (document 01: finish): while a cell is short, the pair of specs/Choice.antt is joined.
 -- Assumes nothing.
-use mathlib.Core.Bool.{cond}
+use mathlib.Core.Bool.{Bool}
 use mathlib.Core.List.{List}
-use Prim.Native.Nat.{ℕ, zero, suc, _+_}
+use Prim.Native.Nat.{ℕ, _+_}
 use lib.Dec.{eqb, ltb}
+use Rattle.finite.specs.Range.{iterate}
 use Rattle.answer.specs.Refusals.{refusal, unless}
 use Rattle.answer.specs.declared.Cause.the-variants.{Length, Invalid, Phase}
 use Rattle.answer.specs.declared.CompleteAnswer.{CompleteAnswer}
@@ -39,12 +40,13 @@ next n cls T s =
     let v = openV n cls g k l in
     joined n cls s v (openW n cls g k l v)
 
+-- some cell is short
+abbrev pub isIncomplete : ℕ → (ℕ → ℕ) → (ℕ → ℕ → ℕ) → Ran → Bool
+isIncomplete n cls T s = ltb (shortK n cls T (s .adjacency)) degrees
+
 -- at most `fuel` joins, while a cell is short
-unfoldable pub run : ℕ → ℕ → (ℕ → ℕ) → (ℕ → ℕ → ℕ) → Ran → Ran
-run zero n cls T s = s
-run (suc fuel) n cls T s =
-    let r = run fuel n cls T (next n cls T s) in
-    cond (ltb (shortK n cls T (s .adjacency)) degrees) r s
+abbrev pub run : ℕ → ℕ → (ℕ → ℕ) → (ℕ → ℕ → ℕ) → Ran → Ran
+run fuel n cls T s = iterate fuel (isIncomplete n cls T) (next n cls T) s
 
 -- no layout has more edges: 200 vertices of degree at most 40
 abbrev pub mostEdges : ℕ

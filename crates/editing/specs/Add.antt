@@ -22,7 +22,7 @@ addLaid j g v w =
     (unless (not (eqb v w)) (Refused (refusal SameVertex 0 0))
     (unless (eqb (edge g v w) 0) (Refused (refusal Linked 0 0))
     (unless (isShort j g (degreeAt j v) (degreeAt j w))
-        (Refused (refusal CellFull (min (degreeAt j v) (degreeAt j w)) (max (degreeAt j v) (degreeAt j w))))
+    (Refused (refusal CellFull (min (degreeAt j v) (degreeAt j w)) (max (degreeAt j v) (degreeAt j w))))
     (Added (joinCount (vertexCount j) (degreeAt j) g v w))))))
 
 -- the checks 1, 2, 3, 13, 14, 15, 16

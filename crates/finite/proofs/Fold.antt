@@ -1,15 +1,16 @@
--- Laws of `foldTo`, `catTo` and `fillTo`.
+-- Laws of `foldTo`, `catTo`, `fillTo` and `iterate`.
 -- Assumes nothing.
 use mathlib.Core.Path.{_≡_, refl, sym, ap, _∙_}
+use mathlib.Core.Bool.{Bool, true, false, cond}
 use mathlib.Core.List.{List, [], _∷_, _++_}
 use mathlib.Core.Logic.{⊎-elim}
-use Prim.Native.Nat.{ℕ, zero, suc, _+_, _≤_, _<_}
+use Prim.Native.Nat.{ℕ, zero, suc, _+_, _-_, _≤_, _<_}
 use native.Mathlib.Nat.{not-suc-le-zero, eq-or-lt-of-le, le-of-suc-le-suc, add-zero, suc-add, add-suc}
 use native.Mathlib.Numerals.{add-one}
 use native.Mathlib.Omega.{arith}
 use lib.ListN.{length, getD, set, length-set}
 use lib.Seq.{sets, getD-set-same, getD-set-other}
-use Rattle.finite.specs.Range.{foldTo, catTo, fillTo}
+use Rattle.finite.specs.Range.{foldTo, catTo, fillTo, iterate}
 
 pub foldTo-none : {A : Type 0} (f : ℕ → A → A) (s : A) → foldTo 0 f s ≡ s
 unfolding foldTo
@@ -53,3 +54,20 @@ fillTo-at f t (suc n) k h l =
     (λ e. ap (λ (j : ℕ). getD (fillTo (suc n) f t) j 0) e ∙ getD-set-same (fillTo n f t) n (f n) 0 (rw (fillTo-length f t n) h) ∙ sym (ap f e))
     (λ s. getD-set-other (fillTo n f t) n k (f n) 0 (omega arith) ∙ fillTo-at f t n k (omega arith) s)
     (eq-or-lt-of-le (le-of-suc-le-suc l))
+
+module _ {A : Type 0} (m i : ℕ) (p : A → Bool) (f : A → A) (s : A) where
+  pub iterate-next : i < m → p s ≡ true → iterate (m - i) p f s ≡ iterate (m - (i + 1)) p f (f s)
+  unfolding iterate
+  iterate-next h t = let e : m - i ≡ suc (m - suc i) = omega arith in rw (add-one, e, t)
+
+  pub iterate-stop : p s ≡ false → iterate m p f s ≡ s
+  unfolding iterate
+  iterate-stop t = go m
+    where
+      go : (m : ℕ) → iterate m p f s ≡ s
+      go zero = refl
+      go (suc m) = rw t
+
+  pub iterate-end : m ≤ i → iterate (m - i) p f s ≡ s
+  unfolding iterate
+  iterate-end h = let e : m - i ≡ 0 = omega arith in rw e

@@ -49,3 +49,8 @@ catTo (suc n) f = catTo n f ++ f n
 unfoldable pub fillTo : ℕ → (ℕ → ℕ) → List ℕ → List ℕ
 fillTo zero f t = t
 fillTo (suc n) f t = set (fillTo n f t) n (f n)
+
+-- at most `fuel` steps of f, while p holds
+unfoldable pub iterate : {A : Type 0} → ℕ → (A → Bool) → (A → A) → A → A
+iterate zero p f s = s
+iterate (suc fuel) p f s = let r = iterate fuel p f (f s) in cond (p s) r s

@@ -12,3 +12,4 @@ pub mod Numbering
 pub mod Existence
 pub mod Passes
 pub mod Realizability
+pub mod Completion

@@ -13,10 +13,23 @@ ghost use Rattle.intake.specs.Held.{lengthAnswer, heldPart};
 ghost use Rattle.intake.specs.LayOut.{laidOut, layOutAnswer, layOutJournal};
 ghost use Rattle.table.specs.Layout.{vertices, mostVertices, layoutVerdict};
 ghost use Rattle.intake.specs.Figures.{figuresAnswer, figuresOf};
-
-use answer::{refuse, Cause, ClearAnswer, Figures, FiguresAnswer, LayOutAnswer, LengthAnswer, TakeAnswer, Verdict};
-use journal::{block_count, block_part, is_block, phase_of, slot_length, MOST_BLOCKS};
-use state::{is_valid, lengths_ok};
+use answer::Cause;
+use answer::ClearAnswer;
+use answer::Figures;
+use answer::FiguresAnswer;
+use answer::LayOutAnswer;
+use answer::LengthAnswer;
+use answer::TakeAnswer;
+use answer::Verdict;
+use answer::refuse;
+use journal::MOST_BLOCKS;
+use journal::block_count;
+use journal::block_part;
+use journal::is_block;
+use journal::phase_of;
+use journal::slot_length;
+use state::is_valid;
+use state::lengths_ok;
 
 pub fn clear(journal: &mut [u8], adjacency: &mut [u8]) -> ClearAnswer
     ensures { λ r. ⌜ r ≡ clearAnswer (now (journal .entry)) (now (adjacency .entry)) ⌝ }

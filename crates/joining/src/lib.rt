@@ -10,8 +10,8 @@ ghost use Rattle.graph.specs.Switch.{canTransfer, transfer, orElse};
 ghost use Rattle.adjacency.specs.Adjacency.{adjacencySize, side, edge, setEdge};
 ghost use Rattle.joining.specs.Join.{switchBytes, relieveBytes, relieveCount, joinBytes, joinCount};
 ghost use Rattle.joining.specs.Work.{classAt, degreesOf, Joinable, SaturatedBelow, canSubstituteIn, freed};
-
-use adjacency::{set_edge, SIDE};
+use adjacency::SIDE;
+use adjacency::set_edge;
 use slices::wide;
 
 // What joining did: the switches, and the vertex that the switch of v cut off from v (n where there was none).
@@ -32,7 +32,13 @@ pub fn degrees(adjacency: &[u8], n: usize) -> [usize; 200]
     t
 }
 
-fn can_substitute(classes: &[u8; 200], held: &[usize; 200], k: usize, other: usize, b: usize) -> bool
+fn can_substitute(
+    classes: &[u8; 200],
+    held: &[usize; 200],
+    k: usize,
+    other: usize,
+    b: usize,
+) -> bool
     requires { ⌜ b < side ⌝ }
     ensures { λ r. ⌜ r ≡ canSubstituteIn (now (classes .entry)) (now (held .entry)) k other b ⌝ }
 {
@@ -41,7 +47,14 @@ fn can_substitute(classes: &[u8; 200], held: &[usize; 200], k: usize, other: usi
 }
 
 // The lowest such vertex of from, .., n - 1; n where there is none.
-fn substitute_from(classes: &[u8; 200], held: &[usize; 200], n: usize, k: usize, other: usize, from: usize) -> usize
+fn substitute_from(
+    classes: &[u8; 200],
+    held: &[usize; 200],
+    n: usize,
+    k: usize,
+    other: usize,
+    from: usize,
+) -> usize
     requires { ⌜ (n ≤ side) × (from ≤ n) ⌝ }
     ensures { λ r. ⌜ r ≡ lowest from n (canSubstituteIn (now (classes .entry)) (now (held .entry)) k other) ⌝ }
 {
@@ -56,7 +69,14 @@ fn substitute_from(classes: &[u8; 200], held: &[usize; 200], n: usize, k: usize,
 }
 
 // Document 01's b: the lowest such vertex, else the other named one.
-fn choose_substitute(classes: &[u8; 200], held: &[usize; 200], n: usize, k: usize, other: usize, from: usize) -> usize
+fn choose_substitute(
+    classes: &[u8; 200],
+    held: &[usize; 200],
+    n: usize,
+    k: usize,
+    other: usize,
+    from: usize,
+) -> usize
     requires { ⌜ (n ≤ side) × (from ≤ n) ⌝ }
     ensures { λ r. ⌜ r ≡ orElse n other (lowest from n (canSubstituteIn (now (classes .entry)) (now (held .entry)) k other)) ⌝ }
 {
@@ -90,7 +110,15 @@ fn choose_transfer(adjacency: &[u8], n: usize, a: usize, b: usize) -> usize
 }
 
 // Makes room at a: a neighbour switch if it is saturated. The vertex cut off from a; n where there was no switch.
-fn relieve(adjacency: &mut [u8], held: &mut [usize; 200], classes: &[u8; 200], n: usize, a: usize, other: usize, from: usize) -> usize
+fn relieve(
+    adjacency: &mut [u8],
+    held: &mut [usize; 200],
+    classes: &[u8; 200],
+    n: usize,
+    a: usize,
+    other: usize,
+    from: usize,
+) -> usize
     requires { ⌜ Joinable n (classAt (now classes)) (now adjacency) a other × (now held ≡ degreesOf n (now adjacency)) × (from ≤ n) × ((i : ℕ) → i < from → classAt (now classes) i ≡ classAt (now classes) a → (i ≡ other → ⊥) → getD (now classes) i 0 ≤ getD (now held) i 0) ⌝ }
     ensures { λ r. ⌜ r ≡ freed n (classAt (now (classes .entry))) (now (adjacency .entry)) a other ⌝ }
     ensures { λ _. ⌜ now (adjacency .exit) ≡ relieveBytes n (classAt (now (classes .entry))) (now (adjacency .entry)) a other ⌝ }
@@ -110,7 +138,16 @@ fn relieve(adjacency: &mut [u8], held: &mut [usize; 200], classes: &[u8; 200], n
 }
 
 // Joins v and w.
-pub fn join(adjacency: &mut [u8], held: &mut [usize; 200], classes: &[u8; 200], n: usize, v: usize, w: usize, from_v: usize, from_w: usize) -> JoinDone
+pub fn join(
+    adjacency: &mut [u8],
+    held: &mut [usize; 200],
+    classes: &[u8; 200],
+    n: usize,
+    v: usize,
+    w: usize,
+    from_v: usize,
+    from_w: usize,
+) -> JoinDone
     requires { ⌜ Joinable n (classAt (now classes)) (now adjacency) v w × (now held ≡ degreesOf n (now adjacency)) × (from_v ≤ n) × (from_w ≤ n) × SaturatedBelow n (classAt (now classes)) (now adjacency) v from_v × SaturatedBelow n (classAt (now classes)) (now adjacency) w from_w ⌝ }
     ensures { λ r. ⌜ (r .switches ≡ joinCount n (classAt (now (classes .entry))) (now (adjacency .entry)) v w) × (r .freed ≡ freed n (classAt (now (classes .entry))) (now (adjacency .entry)) v w) ⌝ }
     ensures { λ _. ⌜ now (adjacency .exit) ≡ joinBytes n (classAt (now (classes .entry))) (now (adjacency .entry)) v w ⌝ }

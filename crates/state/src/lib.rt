@@ -6,11 +6,17 @@ ghost use lib.ListN.{length};
 ghost use Rattle.journal.specs.Journal.{journalSize, journalOk, jdmOf};
 ghost use Rattle.adjacency.specs.Adjacency.{adjacencySize};
 ghost use Rattle.state.specs.Valid.{lengthsOk, laidOk, valid};
-
-use adjacency::{adjacency_ok, ADJACENCY_SIZE};
+use adjacency::ADJACENCY_SIZE;
+use adjacency::adjacency_ok;
 use answer::Verdict;
-use journal::{cells_of, journal_ok, phase_of, JOURNAL_SIZE};
-use table::layout::{classes, counts, layout_check, vertex_count};
+use journal::JOURNAL_SIZE;
+use journal::cells_of;
+use journal::journal_ok;
+use journal::phase_of;
+use table::layout::classes;
+use table::layout::counts;
+use table::layout::layout_check;
+use table::layout::vertex_count;
 
 // Both have their lengths.
 pub fn lengths_ok(journal: &[u8], adjacency: &[u8]) -> bool

@@ -1,0 +1,64 @@
+-- Calls as data, and the state after a list of them: each call is lent the state as the call before left it.
+-- Assumes nothing.
+use mathlib.Core.List.{List, [], _∷_}
+use Prim.Native.Nat.{ℕ}
+use lib.ListN.{replicate}
+use Rattle.journal.specs.Journal.{journalSize}
+use Rattle.adjacency.specs.Adjacency.{adjacencySize}
+use Rattle.intake.specs.Take.{takeAnswer, takeJournal}
+use Rattle.intake.specs.LayOut.{layOutAnswer, layOutJournal}
+use Rattle.editing.specs.Add.{addAnswer, addAdjacency}
+use Rattle.editing.specs.Remove.{removeAnswer, removeAdjacency}
+use Rattle.completion.specs.Complete.{completeAnswer, completeAdjacency}
+
+-- the calls that demand 3 lists: those that may change the state, with any arguments, and the reading ones between them
+pub data Call : Type 0 where
+  take : ℕ → List ℕ → Call
+  layOut : Call
+  add : ℕ → ℕ → Call
+  remove : ℕ → ℕ → Call
+  complete : Call
+  readBack : ℕ → Call
+  list : List ℕ → Call
+  figures : Call
+
+pub record State : Type 0 where
+  pub journal : List ℕ
+  pub adjacency : List ℕ
+
+-- just cleared
+abbrev pub cleared : State
+cleared = record { journal = replicate journalSize 0; adjacency = replicate adjacencySize 0 }
+
+-- the state after one call
+abbrev pub after : State → Call → State
+after s (take number b) =
+    record {
+      journal = takeJournal (takeAnswer (s .journal) (s .adjacency) number b) (s .journal) b;
+      adjacency = s .adjacency;
+    }
+after s layOut =
+    record { journal = layOutJournal (layOutAnswer (s .journal) (s .adjacency)) (s .journal); adjacency = s .adjacency }
+after s (add v w) =
+    record {
+      journal = s .journal;
+      adjacency = addAdjacency (addAnswer (s .journal) (s .adjacency) v w) (s .journal) (s .adjacency) v w;
+    }
+after s (remove v w) =
+    record {
+      journal = s .journal;
+      adjacency = removeAdjacency (removeAnswer (s .journal) (s .adjacency) v w) (s .adjacency) v w;
+    }
+after s complete =
+    record {
+      journal = s .journal;
+      adjacency = completeAdjacency (completeAnswer (s .journal) (s .adjacency)) (s .journal) (s .adjacency);
+    }
+after s (readBack number) = s
+after s (list out) = s
+after s figures = s
+
+-- the state after a list of calls
+abbrev pub afterAll : State → List Call → State
+afterAll s [] = s
+afterAll s (c ∷ cs) = afterAll (after s c) cs

@@ -1,0 +1,81 @@
+-- Demand 3, over every list of calls (document 01, "Demand 3, over a whole list of calls").
+-- Assumes nothing.
+use mathlib.Core.Path.{_≡_}
+use mathlib.Core.Bool.{true, false}
+use mathlib.Core.List.{List}
+use mathlib.Core.Logic.{_↔_, _≢_}
+use Prim.Native.Nat.{ℕ, _+_, _*_, _≤_, _<_}
+use Rattle.finite.specs.Range.{sumTo}
+use Rattle.graph.specs.Graph.{Simple, jdm, ownJdm, edges}
+use Rattle.graph.specs.Tests.{degrees, rowSum}
+use Rattle.graph.specs.Theorems.{Realized}
+use Rattle.answer.specs.Numbers.{layOutNumbers}
+use Rattle.answer.specs.declared.AddAnswer.the-variants.{Added}
+use Rattle.answer.specs.declared.CompleteAnswer.the-variants.{Completed}
+use Rattle.table.specs.Layout.{vertices, vertexDegree}
+use Rattle.adjacency.specs.Adjacency.{edge}
+use Rattle.state.specs.Valid.{valid}
+use Rattle.intake.specs.LayOut.{layOutAnswer}
+use Rattle.editing.specs.Add.{addAnswer}
+use Rattle.completion.specs.Complete.{completeAnswer}
+use Rattle.demands.specs.Calls.{Call, add, complete, State, cleared, after, afterAll}
+use Rattle.demands.specs.Tally.{Tally, noTally, tallyAll}
+
+-- laying out is refused for want of a graph: with 9, 10 or 11
+abbrev pub RefusedForWantOfAGraph : State → Type 0
+RefusedForWantOfAGraph s =
+    (9 ≤ layOutNumbers (layOutAnswer (s .journal) (s .adjacency)) .number)
+    × (layOutNumbers (layOutAnswer (s .journal) (s .adjacency)) .number ≤ 11)
+
+-- the edges of the matrix on the vertices of the table T
+abbrev pub edgesLaid : (ℕ → ℕ → ℕ) → State → ℕ
+edgesLaid T s = edges (vertices T) (edge (s .adjacency))
+
+-- The edges counted as equation (1) does, but at the degrees laid out, stay below T in the cell (k, l).
+abbrev pub Short : (ℕ → ℕ → ℕ) → State → ℕ → ℕ → Type 0
+Short T s k l = jdm (vertices T) (vertexDegree T) (edge (s .adjacency)) k l < T k l
+
+-- two different vertices below N, not linked, whose cell is short
+pub record OpenPair (T : ℕ → ℕ → ℕ) (s : State) (v w : ℕ) : Type 0 where
+  pub first : v < vertices T
+  pub second : w < vertices T
+  pub different : v ≢ w
+  pub unlinked : edge (s .adjacency) v w ≢ 1
+  pub short : Short T s (vertexDegree T v) (vertexDegree T w)
+
+-- joining v and w is not refused; afterwards the state is valid, the pair is linked, and there is exactly one edge more
+pub record CanBeJoined (T : ℕ → ℕ → ℕ) (s : State) (v w : ℕ) : Type 0 where
+  pub switches : ℕ
+  pub answer : addAnswer (s .journal) (s .adjacency) v w ≡ Added switches
+  pub sound : valid (after s (add v w) .journal) (after s (add v w) .adjacency) ≡ true
+  pub linked : edge (after s (add v w) .adjacency) v w ≡ 1
+  pub one-more : edgesLaid T (after s (add v w)) ≡ edgesLaid T s + 1
+
+-- Completing is not refused; its joins and the tally's edges together are half the sum of all cells of T; the matrix then holds
+-- exactly that many edges more and, as a simple graph, has T.
+pub record Completes (t : Tally) (s : State) : Type 0 where
+  pub joins : ℕ
+  pub switches : ℕ
+  pub answer : completeAnswer (s .journal) (s .adjacency) ≡ Completed joins switches
+  pub missing : 2 * (t .edges + joins) ≡ sumTo degrees (rowSum (t .table))
+  pub more : edgesLaid (t .table) (after s complete) ≡ edgesLaid (t .table) s + joins
+  pub simple : Simple (vertices (t .table)) (edge (after s complete .adjacency))
+  pub has-table : (k l : ℕ) → ownJdm (vertices (t .table)) (edge (after s complete .adjacency)) k l ≡ t .table k l
+
+-- not laid: refused with 9, 10 or 11 if and only if no simple graph of any size has T
+pub record NotLaid (t : Tally) (s : State) : Type 0 where
+  pub honest : RefusedForWantOfAGraph s ↔ (Realized (t .table) → ⊥)
+
+-- laid: no dead end
+pub record Laid (t : Tally) (s : State) : Type 0 where
+  pub joinable : (v w : ℕ) → OpenPair (t .table) s v w → CanBeJoined (t .table) s v w × CanBeJoined (t .table) s w v
+  pub pair : (k l : ℕ) → Short (t .table) s k l → (v w : ℕ) × OpenPair (t .table) s v w
+  pub completes : Completes t s
+
+-- after every list of calls from a cleared state
+abbrev pub Demand3 : Type 0
+Demand3 =
+    (calls : List Call) →
+    let s = afterAll cleared calls in
+    let t = tallyAll cleared noTally calls in
+    (t .laid ≡ false → NotLaid t s) × (t .laid ≡ true → Laid t s)

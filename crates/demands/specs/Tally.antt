@@ -1,0 +1,86 @@
+-- The tally of document 01, "Demand 3, over a whole list of calls". It is told each call's arguments, and the answers of joins,
+-- lifts and finishes, and nothing else.
+-- Assumes nothing.
+use mathlib.Core.Bool.{Bool, true, false, _&&_, not, cond}
+use mathlib.Core.List.{List, [], _∷_}
+use Prim.Native.Nat.{ℕ, _+_, _-_}
+use lib.Dec.{eqb, ltb, leb}
+use Rattle.answer.specs.declared.AddAnswer.{AddAnswer}
+use Rattle.answer.specs.declared.AddAnswer.the-variants as Add
+use Rattle.answer.specs.declared.RemoveAnswer.{RemoveAnswer}
+use Rattle.answer.specs.declared.RemoveAnswer.the-variants as Remove
+use Rattle.answer.specs.declared.CompleteAnswer.{CompleteAnswer}
+use Rattle.answer.specs.declared.CompleteAnswer.the-variants as Complete
+use Rattle.graph.specs.Tests.{passes}
+use Rattle.table.specs.Block.{wellFormed, blockCell}
+use Rattle.table.specs.Layout.{mostVertices, vertices}
+use Rattle.journal.specs.Journal.{mostBlocks}
+use Rattle.editing.specs.Add.{addAnswer}
+use Rattle.editing.specs.Remove.{removeAnswer}
+use Rattle.completion.specs.Complete.{completeAnswer}
+use Rattle.demands.specs.Calls.{Call, take, layOut, add, remove, complete, readBack, list, figures, State, after}
+
+-- what the tally is told of a call
+pub data Told : Type 0 where
+  toldTake : ℕ → List ℕ → Told
+  toldLayOut : Told
+  toldAdd : AddAnswer → Told
+  toldRemove : RemoveAnswer → Told
+  toldComplete : CompleteAnswer → Told
+  toldNothing : Told
+
+abbrev pub told : State → Call → Told
+told s (take number b) = toldTake number b
+told s layOut = toldLayOut
+told s (add v w) = toldAdd (addAnswer (s .journal) (s .adjacency) v w)
+told s (remove v w) = toldRemove (removeAnswer (s .journal) (s .adjacency) v w)
+told s complete = toldComplete (completeAnswer (s .journal) (s .adjacency))
+told s (readBack number) = toldNothing
+told s (list out) = toldNothing
+told s figures = toldNothing
+
+-- a block count, a table T, laid or not, and an edge count
+pub record Tally : Type 0 where
+  pub blocks : ℕ
+  pub table : ℕ → ℕ → ℕ
+  pub laid : Bool
+  pub edges : ℕ
+
+-- at first 0, all 0, not laid, 0
+abbrev pub noTally : Tally
+noTally = record { blocks = 0; table = λ k l. 0; laid = false; edges = 0 }
+
+-- A block that 4 and 5 let pass, numbered as the block count, while not laid and with that count below the most.
+abbrev pub counts : Tally → ℕ → List ℕ → Bool
+counts t number b = wellFormed b && eqb number (t .blocks) && not (t .laid) && ltb (t .blocks) mostBlocks
+
+-- one block more, its records are added to T
+abbrev pub withBlock : Tally → List ℕ → Tally
+withBlock t b =
+    record { blocks = t .blocks + 1; table = λ k l. t .table k l + blockCell b k l; laid = t .laid; edges = t .edges }
+
+-- laying out, while not laid, with T passing the tests 9 to 12
+abbrev pub laysOut : Tally → Bool
+laysOut t = not (t .laid) && passes (t .table) && leb (vertices (t .table)) mostVertices
+
+abbrev pub nowLaid : Tally → Tally
+nowLaid t = record { blocks = t .blocks; table = t .table; laid = true; edges = t .edges }
+
+abbrev pub withEdges : Tally → ℕ → Tally
+withEdges t m = record { blocks = t .blocks; table = t .table; laid = t .laid; edges = m }
+
+abbrev pub tally : Tally → Told → Tally
+tally t (toldTake number b) = cond (counts t number b) (withBlock t b) t
+tally t toldLayOut = cond (laysOut t) (nowLaid t) t
+tally t (toldAdd (Add.Added switches)) = withEdges t (t .edges + 1)
+tally t (toldAdd (Add.Refused r)) = t
+tally t (toldRemove Remove.Removed) = withEdges t (t .edges - 1)
+tally t (toldRemove (Remove.Refused r)) = t
+tally t (toldComplete (Complete.Completed joins switches)) = withEdges t (t .edges + joins)
+tally t (toldComplete (Complete.Refused r)) = t
+tally t toldNothing = t
+
+-- the tally after a list of calls from the state s
+abbrev pub tallyAll : State → Tally → List Call → Tally
+tallyAll s t [] = t
+tallyAll s t (c ∷ cs) = tallyAll (after s c) (tally t (told s c)) cs
