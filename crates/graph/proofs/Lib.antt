@@ -13,3 +13,4 @@ pub mod Existence
 pub mod Passes
 pub mod Realizability
 pub mod Completion
+pub mod Resume
