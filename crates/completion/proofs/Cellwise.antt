@@ -1,0 +1,393 @@
+-- Completing cell by cell is completing (`run` of specs/Complete.antt): the lowest short cell only moves up, so that each cell gets the
+-- joins it misses when its turn comes.
+-- Assumes nothing.
+use mathlib.Core.Path.{_≡_, refl, sym, ap, _∙_}
+use mathlib.Core.Bool.{Bool, true, false, _&&_, not, cond}
+use mathlib.Core.List.{List}
+use mathlib.Core.Logic.{_≢_, ⊎-elim}
+use Prim.Native.Nat.{ℕ, zero, suc, _+_, _-_, _*_, _/_, _%_, _≤_, _<_}
+use native.Mathlib.Nat.{add-zero, sub-zero, suc-mul, mul-le-mul-right}
+use native.Mathlib.Decide.{ℕ-discrete, decLt}
+use native.Mathlib.Omega.{arith}
+use lib.Dec.{eqb, ltb}
+use lib.ListN.{length}
+use borrow.Author.Tests.{lt-ltb, le-ltb, eq-eqb, ne-eqb, ltb-true, ltb-false, eqb-true}
+use Rattle.finite.specs.Range.{lowest, foldTo, iterate}
+use Rattle.finite.proofs.Lowest.{lowest-le, lowest-ge, lowest-before, lowest-holds, lowest-found, lowest-only, lowest-none}
+use Rattle.finite.proofs.All.{and-left, and-right, and-both}
+use Rattle.finite.proofs.Fold.{iterate-next, iterate-stop}
+use Rattle.finite.proofs.Delta.{δ-self}
+use Rattle.graph.specs.Graph.{jdm, edges, atEdge}
+use Rattle.graph.specs.Target.{Target, Partial, Open}
+use Rattle.graph.specs.Switch.{Joined}
+use Rattle.graph.specs.Theorems.{AfterJoin}
+use Rattle.graph.specs.Tests.{leastDegree, mostDegree, degrees}
+use Rattle.graph.proofs.Edge.{atEdge-here}
+use Rattle.graph.proofs.OpenPair.{short-has-open-pair}
+use Rattle.graph.proofs.Join.{join-works}
+use Rattle.graph.proofs.Necessary.{necessary-always}
+use Rattle.graph.proofs.Completion.{allCells, cells-twice}
+use Rattle.finite.proofs.Sum.{sumTo-mono₂}
+use Rattle.table.specs.Layout.{mostVertices}
+use Rattle.adjacency.specs.Adjacency.{adjacencySize, edge}
+use Rattle.joining.specs.Join.{own, joinBytes}
+use Rattle.joining.proofs.Bytes.{join-bytes, join-length}
+use Rattle.completion.specs.Choice.{shortCell, shortL, shortK, openColumn, openW, openV}
+use Rattle.completion.specs.Complete.{Ran, joined, next, isIncomplete, run}
+use Rattle.completion.specs.Cellwise.{cellStep, cellMissing, fillCell, fillRow, fillAll, Filling}
+
+-- what the choice of a pair gives in a short cell (k, l)
+pub record Chosen (n : ℕ) (cls : ℕ → ℕ) (T : ℕ → ℕ → ℕ) (g : List ℕ) (k l v w : ℕ) : Type 0 where
+  pub row : cls v ≡ k
+  pub column : cls w ≡ l
+  pub above : k ≡ l → v < w
+  pub pair : Open n cls T (edge g) v w
+
+-- a pair that is open in cell (k, l) passes the test of its column
+column-test : (cls : ℕ → ℕ) (g : List ℕ) (k l v w : ℕ) → cls w ≡ l → edge g v w ≡ 0 → v ≢ w → (k ≡ l → v < w) → openColumn cls g k l v w ≡ true
+column-test cls g k l v w c e d a =
+    and-both (eqb (cls w) l && eqb (edge g v w) 0) (cond (eqb k l) (ltb v w) (not (eqb v w)))
+    (and-both (eqb (cls w) l) (eqb (edge g v w) 0) (eq-eqb (cls w) l c) (eq-eqb (edge g v w) 0 e))
+    (go (ℕ-discrete k l))
+  where
+    go : Dec (k ≡ l) → cond (eqb k l) (ltb v w) (not (eqb v w)) ≡ true
+    go (yes q) = rw (eq-eqb k l q, lt-ltb v w (a q))
+    go (no q) = rw (ne-eqb k l q, ne-eqb v w d)
+
+-- and what the test says
+pub column-facts : (cls : ℕ → ℕ) (g : List ℕ) (k l v w : ℕ) → openColumn cls g k l v w ≡ true
+    → (cls w ≡ l) × (edge g v w ≡ 0) × (k ≡ l → v < w) × (k ≢ l → v ≢ w)
+column-facts cls g k l v w h = (
+  eqb-true (cls w) l (and-left (eqb (cls w) l) (eqb (edge g v w) 0) front),
+  eqb-true (edge g v w) 0 (and-right (eqb (cls w) l) (eqb (edge g v w) 0) front),
+  (λ e. ltb-true v w (rw (eq-eqb k l e) at side)),
+  (λ e q. go (rw (ne-eqb k l e, eq-eqb v w q) at side)),
+)
+  where
+    front : eqb (cls w) l && eqb (edge g v w) 0 ≡ true
+    front = and-left (eqb (cls w) l && eqb (edge g v w) 0) (cond (eqb k l) (ltb v w) (not (eqb v w))) h
+
+    side : cond (eqb k l) (ltb v w) (not (eqb v w)) ≡ true
+    side = and-right (eqb (cls w) l && eqb (edge g v w) 0) (cond (eqb k l) (ltb v w) (not (eqb v w))) h
+
+    go : false ≡ true → ⊥
+    go e = let z : _≡_ {A = ℕ} 0 1 = cc in omega arith
+
+module _ (n : ℕ) (cls : ℕ → ℕ) (T : ℕ → ℕ → ℕ) where
+  -- the lowest open pair of a short cell is one
+  pub chosen : (g : List ℕ) → Filling n cls T g → (k l : ℕ) → k < degrees → l < degrees → jdm n cls (edge g) k l < T k l
+      → Chosen n cls T g k l (openV n cls g k l) (openW n cls g k l (openV n cls g k l))
+  chosen g f k l kC lC h =
+      record {
+        row = eqb-true (cls v) k (and-left (eqb (cls v) k) (ltb (openW n cls g k l v) n) v-test);
+        column = facts .0;
+        above = facts .2;
+        pair =
+            record {
+              first = v<n;
+              second = w<n;
+              distinct = λ e. distinct e (ℕ-discrete k l);
+              unlinked = facts .1;
+              short = rw (eqb-true (cls v) k (and-left (eqb (cls v) k) (ltb (openW n cls g k l v) n) v-test), facts .0) h;
+            };
+      }
+    where
+      some : (v w : ℕ) × (cls v ≡ k) × (cls w ≡ l) × (k ≡ l → v < w) × Open n cls T (edge g) v w
+      some = short-has-open-pair n degrees cls own T (edge g) (f .target) (f .partial) k l kC lC h
+
+      v : ℕ
+      v = openV n cls g k l
+
+      w : ℕ
+      w = openW n cls g k l v
+
+      some-w : openW n cls g k l (some .0) < n
+      some-w =
+          let t = column-test cls g k l (some .0) (some .1) (some .3) (some .5 .unlinked) (some .5 .distinct) (some .4) in
+          omega (arith, lowest-found 0 n (openColumn cls g k l (some .0)) (omega arith) (some .1) (omega arith) (some .5 .second) t, some .5 .second)
+
+      row-test : ℕ → Bool
+      row-test u = eqb (cls u) k && ltb (openW n cls g k l u) n
+
+      v<n : v < n
+      v<n =
+          let t = and-both (eqb (cls (some .0)) k) (ltb (openW n cls g k l (some .0)) n) (eq-eqb (cls (some .0)) k (some .2))
+          (lt-ltb (openW n cls g k l (some .0)) n some-w) in
+          omega (arith, lowest-found 0 n row-test (omega arith) (some .0) (omega arith) (some .5 .first) t, some .5 .first)
+
+      v-test : row-test v ≡ true
+      v-test = lowest-holds 0 n row-test (omega arith) v<n
+
+      w<n : w < n
+      w<n = ltb-true w n (and-right (eqb (cls v) k) (ltb w n) v-test)
+
+      facts : (cls w ≡ l) × (edge g v w ≡ 0) × (k ≡ l → v < w) × (k ≢ l → v ≢ w)
+      facts = column-facts cls g k l v w (lowest-holds 0 n (openColumn cls g k l v) (omega arith) w<n)
+
+      distinct : v ≡ w → Dec (k ≡ l) → ⊥
+      distinct e (yes q) = omega (arith, facts .2 q)
+      distinct e (no q) = facts .3 q e
+
+  -- after a step in cell (k, l)
+  pub record Stepped (g g′ : List ℕ) (k l : ℕ) : Type 0 where
+    pub filling : Filling n cls T g′
+    pub cells : (i j : ℕ) → jdm n cls (edge g′) i j ≡ jdm n cls (edge g) i j + atEdge k l i j
+    pub one-more : edges n (edge g′) ≡ edges n (edge g) + 1
+
+  pub stepped : (g : List ℕ) → Filling n cls T g → (k l v w : ℕ) → Chosen n cls T g k l v w → Stepped g (joinBytes n cls g v w) k l
+  stepped g f k l v w c =
+      record {
+        filling =
+            record {
+              sized = join-length n cls g v w ∙ f .sized;
+              few = f .few;
+              target = f .target;
+              partial = a .partial;
+            };
+        cells = λ i j. rw (← (c .row), ← (c .column)) (a .cells i j);
+        one-more = a .one-more;
+      }
+    where
+      jo : Joined n cls own (edge g) v w (edge (joinBytes n cls g v w))
+      jo = join-bytes n cls T g v w (f .sized) (f .few) (f .target) (f .partial) (c .pair)
+
+      a : AfterJoin n degrees cls own T (edge g) v w (jo .twice) (edge (joinBytes n cls g v w))
+      a = join-works n degrees cls own T (edge g) v w (f .target) (f .partial) (c .pair) (edge (joinBytes n cls g v w)) jo
+
+  -- every cell before (k, l) is at its target
+  abbrev pub FullBefore : List ℕ → ℕ → ℕ → Type 0
+  FullBefore g k l =
+      (i j : ℕ) → leastDegree ≤ i → i ≤ j → j < degrees → (i ≡ k → j < l) → i ≤ k → T i j ≤ jdm n cls (edge g) i j
+
+  -- then (k, l), if it is short, is the lowest short cell
+  lowest-cell : (g : List ℕ) (k l : ℕ) → leastDegree ≤ k → k ≤ l → l < degrees → FullBefore g k l → jdm n cls (edge g) k l < T k l
+      → (shortK n cls T g ≡ k) × (shortL n cls T g k ≡ l)
+  lowest-cell g k l k1 kl lC before h = (
+    lowest-only leastDegree degrees (λ i. ltb (shortL n cls T g i) degrees) (omega arith) k k1 (omega arith) (rw here (lt-ltb l degrees lC)) earlier,
+    here,
+  )
+    where
+      here : shortL n cls T g k ≡ l
+      here =
+          lowest-only k degrees (shortCell n cls T g k) (omega arith) l kl lC (lt-ltb (jdm n cls (edge g) k l) (T k l) h)
+          (λ j kj jl. le-ltb (jdm n cls (edge g) k j) (T k j) (before k j k1 kj (omega arith) (λ e. jl) (omega arith)))
+
+      earlier : (i : ℕ) → leastDegree ≤ i → i < k → ltb (shortL n cls T g i) degrees ≡ false
+      earlier i i1 ik =
+          rw (lowest-none i degrees (shortCell n cls T g i) (omega arith)
+          (λ j ij jC. le-ltb (jdm n cls (edge g) i j) (T i j) (before i j i1 ij jC (λ e. absurd (omega arith)) (omega arith))))
+          (le-ltb degrees degrees (omega arith))
+
+  -- a join adds 1 to its cell, or 2 on the diagonal
+  abbrev unit : ℕ → ℕ → ℕ
+  unit k l = cond (eqb k l) 2 1
+
+  unit-step : (k l : ℕ) → atEdge k l k l ≡ unit k l
+  unit-step k l = go (ℕ-discrete k l)
+    where
+      go : Dec (k ≡ l) → atEdge k l k l ≡ unit k l
+      go (yes e) = rw (e, eq-eqb l l refl, δ-self l)
+      go (no e) = rw (ne-eqb k l e) (atEdge-here k l e)
+
+  -- what a cell misses is a whole number of joins
+  whole : (g : List ℕ) → Filling n cls T g → (k l : ℕ) → k < degrees → l < degrees
+      → jdm n cls (edge g) k l + cellMissing n cls T g k l * unit k l ≡ T k l
+  whole g f k l kC lC = go (ℕ-discrete k l)
+    where
+      have : ℕ
+      have = jdm n cls (edge g) k l
+
+      within : have ≤ T k l
+      within = f .partial .within k l kC lC
+
+      go : Dec (k ≡ l) → have + (T k l - have) / unit k l * unit k l ≡ T k l
+      go (yes e) =
+          let even-T : T k l % 2 ≡ 0 = rw (← e) (f .target .even k kC) in
+          let even : have % 2 ≡ 0 = rw (← e) (necessary-always n degrees cls (edge g) (f .partial .simple) (f .target .classed) .even k) in
+          rw (eq-eqb k l e) (omega (arith, within))
+      go (no e) = rw (ne-eqb k l e) (omega (arith, within))
+
+  module _ (fuel : ℕ) (s₀ : Ran) (start : s₀ .joins ≡ 0) (enough : allCells degrees T ≤ 2 * fuel) where
+    -- s is on the way of `run` from s₀
+    pub record Progress (s : Ran) : Type 0 where
+      pub filling : Filling n cls T (s .adjacency)
+      pub left : run fuel n cls T s₀ ≡ run (fuel - s .joins) n cls T s
+      pub counted : s .joins + edges n (edge (s₀ .adjacency)) ≡ edges n (edge (s .adjacency))
+
+    begin : Filling n cls T (s₀ .adjacency) → Progress s₀
+    begin f = record { filling = f; left = rw (start, sub-zero); counted = rw start (omega arith) }
+
+    -- no more edges than half the cells' sum
+    room : (g : List ℕ) → Filling n cls T g → edges n (edge g) ≤ fuel
+    room g f =
+        omega (
+          arith,
+          cells-twice n degrees cls (edge g) (f .partial .simple) (f .target .classed),
+          sumTo-mono₂ degrees degrees (jdm n cls (edge g)) T (f .partial .within),
+        )
+
+    -- one step in the lowest short cell
+    step : (s : Ran) → Progress s → (k l : ℕ) → leastDegree ≤ k → k ≤ l → l < degrees → FullBefore (s .adjacency) k l
+        → jdm n cls (edge (s .adjacency)) k l < T k l
+        → Progress (cellStep n cls k l s) × Stepped (s .adjacency) (cellStep n cls k l s .adjacency) k l
+    step s p k l k1 kl lC before h = (
+      record {
+        filling = st .filling;
+        left = p .left ∙ iterate-next fuel (s .joins) (isIncomplete n cls T) (next n cls T) s below incomplete ∙ ap (run (fuel - (s .joins + 1)) n cls T) same;
+        counted = omega (arith, p .counted, st .one-more);
+      },
+      st,
+    )
+      where
+        g : List ℕ
+        g = s .adjacency
+
+        c : Chosen n cls T g k l (openV n cls g k l) (openW n cls g k l (openV n cls g k l))
+        c = chosen g (p .filling) k l (omega arith) lC h
+
+        st : Stepped g (cellStep n cls k l s .adjacency) k l
+        st = stepped g (p .filling) k l (openV n cls g k l) (openW n cls g k l (openV n cls g k l)) c
+
+        at : (shortK n cls T g ≡ k) × (shortL n cls T g k ≡ l)
+        at = lowest-cell g k l k1 kl lC before h
+
+        below : s .joins < fuel
+        below = omega (arith, p .counted, st .one-more, room (cellStep n cls k l s .adjacency) (st .filling))
+
+        incomplete : isIncomplete n cls T s ≡ true
+        incomplete = rw (at .0) (lt-ltb k degrees (omega arith))
+
+        same : next n cls T s ≡ cellStep n cls k l s
+        same = rw (at .0, at .1)
+
+    -- where cell (k, l) has been filled from s: on the way, and full up to it
+    pub record Filled (s : Ran) (k l : ℕ) : Type 0 where
+      pub progress : Progress s
+      pub before : FullBefore (s .adjacency) k l
+
+    -- cells only grow, so what is full stays full
+    stay : (g g′ : List ℕ) (k l i j : ℕ) → Stepped g g′ i j → FullBefore g k l → FullBefore g′ k l
+    stay g g′ k l i j st before a b a1 ab bC f ak = omega (arith, before a b a1 ab bC f ak, st .cells a b)
+
+    -- i of the joins that cell (k, l) misses
+    pub part-filled : (s : Ran) → (k l : ℕ) → leastDegree ≤ k → k ≤ l → l < degrees → Filled s k l
+        → (i : ℕ) → i ≤ cellMissing n cls T (s .adjacency) k l
+        → Filled (foldTo i (λ i. cellStep n cls k l) s) k l
+        × (jdm n cls (edge (foldTo i (λ i. cellStep n cls k l) s .adjacency)) k l ≡ jdm n cls (edge (s .adjacency)) k l + i * unit k l)
+    unfolding foldTo
+    part-filled s k l k1 kl lC f zero h = (f, omega arith)
+    part-filled s k l k1 kl lC f (suc i) h = more (part-filled s k l k1 kl lC f i (omega arith))
+      where
+        r : Ran
+        r = foldTo i (λ i. cellStep n cls k l) s
+
+        unit-pos : 1 ≤ unit k l
+        unit-pos = go (eqb k l)
+          where
+            go : (t : Bool) → 1 ≤ cond t 2 1
+            go true = omega arith
+            go false = omega arith
+
+        more : Filled r k l × (jdm n cls (edge (r .adjacency)) k l ≡ jdm n cls (edge (s .adjacency)) k l + i * unit k l)
+            → Filled (cellStep n cls k l r) k l
+            × (jdm n cls (edge (cellStep n cls k l r .adjacency)) k l ≡ jdm n cls (edge (s .adjacency)) k l + suc i * unit k l)
+        more q =
+            let short = still (q .1) in
+            let t = step r (q .0 .progress) k l k1 kl lC (q .0 .before) short in (
+              record { progress = t .0; before = stay (r .adjacency) (cellStep n cls k l r .adjacency) k l k l (t .1) (q .0 .before) },
+              t .1 .cells k l ∙ rw (unit-step k l, q .1, suc-mul) (omega arith),
+            )
+          where
+            still : jdm n cls (edge (r .adjacency)) k l ≡ jdm n cls (edge (s .adjacency)) k l + i * unit k l → jdm n cls (edge (r .adjacency)) k l < T k l
+            still e =
+                omega (
+                  arith,
+                  e,
+                  whole (s .adjacency) (f .progress .filling) k l (omega arith) lC,
+                  mul-le-mul-right (unit k l) h,
+                  suc-mul i (unit k l),
+                  unit-pos,
+                )
+
+    -- the cell filled
+    pub cell-filled : (s : Ran) → (k l : ℕ) → leastDegree ≤ k → k ≤ l → l < degrees → Filled s k l → Filled (fillCell n cls T k l s) k (l + 1)
+    cell-filled s k l k1 kl lC f =
+        record {
+          progress = r .0 .progress;
+          before = λ i j i1 ij jC e ik. go i j i1 ij jC e ik (ℕ-discrete i k) (ℕ-discrete j l);
+        }
+      where
+        m : ℕ
+        m = cellMissing n cls T (s .adjacency) k l
+
+        g′ : List ℕ
+        g′ = fillCell n cls T k l s .adjacency
+
+        r : Filled (fillCell n cls T k l s) k l × (jdm n cls (edge g′) k l ≡ jdm n cls (edge (s .adjacency)) k l + m * unit k l)
+        r = part-filled s k l k1 kl lC f m (omega arith)
+
+        go : (i j : ℕ) → leastDegree ≤ i → i ≤ j → j < degrees → (i ≡ k → j < l + 1) → i ≤ k → Dec (i ≡ k) → Dec (j ≡ l)
+            → T i j ≤ jdm n cls (edge g′) i j
+        go i j i1 ij jC e ik (yes p) (yes q) =
+            rw (p, q) (omega (arith, r .1, whole (s .adjacency) (f .progress .filling) k l (omega arith) lC))
+        go i j i1 ij jC e ik (yes p) (no q) = r .0 .before i j i1 ij jC (λ x. omega (arith, e x)) ik
+        go i j i1 ij jC e ik (no p) q = r .0 .before i j i1 ij jC (λ x. absurd (p x)) ik
+
+    -- the first cells of row k
+    pub row-part : (s : Ran) → (k : ℕ) → leastDegree ≤ k → Filled s k k → (i : ℕ) → k + i ≤ degrees
+        → Filled (foldTo i (λ i. fillCell n cls T k (k + i)) s) k (k + i)
+    unfolding foldTo
+    row-part s k k1 f zero h = rw add-zero f
+    row-part s k k1 f (suc i) h =
+        let r = row-part s k k1 f i (omega arith) in
+        let e : k + suc i ≡ k + i + 1 = omega arith in
+        rw e (cell-filled (foldTo i (λ i. fillCell n cls T k (k + i)) s) k (k + i) k1 (omega arith) (omega arith) r)
+
+    pub row-filled : (s : Ran) → (k : ℕ) → leastDegree ≤ k → k < degrees → Filled s k k → Filled (fillRow n cls T k s) (k + 1) (k + 1)
+    row-filled s k k1 kC f =
+        record {
+          progress = r .progress;
+          before = λ i j i1 ij jC e ik. go i j i1 ij jC e ik (ℕ-discrete i (k + 1));
+        }
+      where
+        r : Filled (fillRow n cls T k s) k (k + (degrees - k))
+        r = row-part s k k1 f (degrees - k) (omega arith)
+
+        go : (i j : ℕ) → leastDegree ≤ i → i ≤ j → j < degrees → (i ≡ k + 1 → j < k + 1) → i ≤ k + 1 → Dec (i ≡ k + 1)
+            → T i j ≤ jdm n cls (edge (fillRow n cls T k s .adjacency)) i j
+        go i j i1 ij jC e ik (yes p) = absurd (omega (arith, e p))
+        go i j i1 ij jC e ik (no p) = r .before i j i1 ij jC (λ x. omega arith) (omega arith)
+
+    pub rows-part : (s : Ran) → Filled s leastDegree leastDegree → (i : ℕ) → i ≤ mostDegree
+        → Filled (foldTo i (λ i. fillRow n cls T (leastDegree + i)) s) (leastDegree + i) (leastDegree + i)
+    unfolding foldTo
+    rows-part s f zero h = f
+    rows-part s f (suc i) h =
+        let r = rows-part s f i (omega arith) in
+        let e : leastDegree + suc i ≡ leastDegree + i + 1 = omega arith in
+        rw e (row-filled (foldTo i (λ i. fillRow n cls T (leastDegree + i)) s) (leastDegree + i) (omega arith) (omega arith) r)
+
+    pub first-cell : Filling n cls T (s₀ .adjacency) → Filled s₀ leastDegree leastDegree
+    first-cell f = record { progress = begin f; before = λ i j i1 ij jC e ik. absurd (omega (arith, e (omega arith))) }
+
+    -- Cell by cell is what `run` does.
+    pub fill-all : Filling n cls T (s₀ .adjacency) → run fuel n cls T s₀ ≡ fillAll n cls T s₀
+    fill-all f = r .progress .left ∙ iterate-stop (fuel - s .joins) 0 (isIncomplete n cls T) (next n cls T) s complete
+      where
+        s : Ran
+        s = fillAll n cls T s₀
+
+        r : Filled s (leastDegree + mostDegree) (leastDegree + mostDegree)
+        r = rows-part s₀ (first-cell f) mostDegree (omega arith)
+
+        full : (i j : ℕ) → leastDegree ≤ i → i < degrees → i ≤ j → j < degrees → T i j ≤ jdm n cls (edge (s .adjacency)) i j
+        full i j i1 iC ij jC = r .before i j i1 ij jC (λ e. absurd (omega arith)) (omega arith)
+
+        none : (i : ℕ) → leastDegree ≤ i → i < degrees → ltb (shortL n cls T (s .adjacency) i) degrees ≡ false
+        none i i1 iC =
+            rw (lowest-none i degrees (shortCell n cls T (s .adjacency) i) (omega arith)
+            (λ j ij jC. le-ltb (jdm n cls (edge (s .adjacency)) i j) (T i j) (full i j i1 iC ij jC)))
+            (le-ltb degrees degrees (omega arith))
+
+        complete : isIncomplete n cls T s ≡ false
+        complete = rw (lowest-none leastDegree degrees (λ i. ltb (shortL n cls T (s .adjacency) i) degrees) (omega arith) none) (le-ltb degrees degrees (omega arith))
