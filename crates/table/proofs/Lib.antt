@@ -1,2 +1,4 @@
 pub mod Block
 pub mod Matrix
+pub mod Counts
+pub mod Numbering
