@@ -50,8 +50,7 @@ atMost-set m v c p h l q = go (ℕ-discrete q p) (decLt p (length c))
     go : Dec (q ≡ p) → Dec (p < length c) → getD (set c p v) q 0 ≤ m
     go (yes e) (yes i) = rw (e, getD-set-same c p v 0 i) l
     go (yes e) (no i) = rw (set-out c p v (omega arith)) (h q)
-    go (no e) (yes i) = rw (getD-set-other c p q v 0 e) (h q)
-    go (no e) (no i) = rw (getD-set-other c p q v 0 e) (h q)
+    go (no e) i = rw (getD-set-other c p q v 0 e) (h q)
 
 -- a record adds at most 65,535 to a cell
 module _ (b : List ℕ) (bytes : (i : ℕ) → getD b i 0 < 256) (m : ℕ) (c : List ℕ) (h : AtMost m c) where

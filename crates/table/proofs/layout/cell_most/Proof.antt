@@ -16,7 +16,7 @@ cell-most-spec =
     (λ c. let s = c .before .before in
     let h = s .pre .2 (s .args .k) in
     omega (arith, mul-le-mul h h))  -- mul-result
-    (λ c. le-square (countIn (c .before .before .args .counts .now) (c .before .before .args .k)))  -- sub-result
+    (λ c. omega (arith, le-square (countIn (c .before .before .args .counts .now) (c .before .before .args .k))))  -- sub-result
     (λ c. let s = c .before .before in
     rw (eq-eqb _ _ (c .if1 .taken)) (square-less (countIn (s .args .counts .now) (s .args .k))))  -- returns
     (λ c. omega arith)  -- mul-result-2
