@@ -71,3 +71,11 @@ module _ {A : Type 0} (m i : ℕ) (p : A → Bool) (f : A → A) (s : A) where
   pub iterate-end : m ≤ i → iterate (m - i) p f s ≡ s
   unfolding iterate
   iterate-end h = let e : m - i ≡ 0 = omega arith in rw e
+
+-- what holds at first and is kept by each step holds at the end
+pub foldTo-keeps : {A : Type 0} (P : ℕ → A → Type 0) (f : ℕ → A → A) (s : A) (n : ℕ) → P 0 s
+    → ((i : ℕ) (x : A) → i < n → P i x → P (i + 1) (f i x)) → P n (foldTo n f s)
+unfolding foldTo
+foldTo-keeps P f s zero h k = h
+foldTo-keeps P f s (suc n) h k =
+    rw (← (add-one n)) (k n (foldTo n f s) (omega arith) (foldTo-keeps P f s n h (λ i x l. k i x (omega arith))))
