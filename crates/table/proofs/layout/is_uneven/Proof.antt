@@ -1,0 +1,11 @@
+-- `table::layout::is_uneven` meets its contract.
+-- Assumes nothing.
+use native.Mathlib.Omega.{arith}
+use Rattle.table.proofs.layout.is_uneven.Statement.{statement}
+use Rattle.table.proofs.layout.is_uneven.Tie as tie
+
+pub is-uneven-spec : {M : Type 1} → statement M
+is-uneven-spec =
+    tie.close (tie.spec
+    (λ c κs. omega arith) -- row-sum-requires
+    (λ c. rw (c .row-sum .ensures .0))) -- returns
