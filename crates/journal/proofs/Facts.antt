@@ -13,7 +13,7 @@ use borrow.Author.Tests.{leb-true, le-leb, lt-leb, eqb-true, eq-eqb, ne-eqb, lt-
 use Rattle.finite.specs.Range.{allTo}
 use Rattle.finite.proofs.All.{and-left, and-right, and-both, and-false, allTo-at, allTo-holds}
 use Rattle.slices.specs.Slices.{allZero}
-use Rattle.table.specs.Block.{blockMost, blockLength, records, firstBad}
+use Rattle.table.specs.Block.{blockMost, blockLength, records, firstBad, wellFormed}
 use Rattle.journal.specs.Journal.{journalSize, mostBlocks, phase, blocks, slotAt, slotLength, blockAt, slotRest, slotOk, journalOk}
 
 -- phase 0 or 1; at most 64 blocks; a used slot has a block's length and good records, an unused one length 0; zeros behind
@@ -93,3 +93,17 @@ module _ (j : List ℕ) (f : Facts j) (i : ℕ) (l : i < mostBlocks) where
 pub length-block : (j : List ℕ) (i : ℕ) → length j ≡ journalSize → i < mostBlocks → slotLength j i ≤ blockMost
     → length (blockAt j i) ≡ slotLength j i
 length-block j i e l h = length-take-le (slotLength j i) (drop (slotAt i + 1) j) (omega (arith, length-drop (slotAt i + 1) j))
+
+-- a block that 4 and 5 let pass
+module _ (b : List ℕ) (h : wellFormed b ≡ true) where
+  pub well-formed-length : blockLength (length b) ≡ true
+  well-formed-length = and-left (blockLength (length b)) (eqb (firstBad b) (records b)) h
+
+  pub well-formed-good : firstBad b ≡ records b
+  well-formed-good = eqb-true _ _ (and-right (blockLength (length b)) (eqb (firstBad b) (records b)) h)
+
+-- the block of a used slot is one
+pub used-well-formed : (j : List ℕ) → length j ≡ journalSize → Facts j → (i : ℕ) → i < blocks j → wellFormed (blockAt j i) ≡ true
+used-well-formed j e f i l =
+    let m : i < mostBlocks = omega (arith, f .blocks-le) in
+    and-both (blockLength (length (blockAt j i))) _ (rw (length-block j i e m (slot-most j f i m)) (f .used i l)) (eq-eqb _ _ (f .good i l))

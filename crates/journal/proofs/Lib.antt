@@ -1,1 +1,6 @@
 pub mod Facts
+pub mod Slot
+pub mod Store
+pub mod Laid
+pub mod Empty
+pub mod Table
