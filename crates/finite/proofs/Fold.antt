@@ -56,7 +56,8 @@ fillTo-at f t (suc n) k h l =
 
 -- what holds at first and is kept by each step holds at the end
 pub foldTo-keeps : {A : Type 0} (P : ℕ → A → Type 0) (f : ℕ → A → A) (s : A) (n : ℕ) → P 0 s
-    → ((i : ℕ) (x : A) → i < n → P i x → P (suc i) (f i x)) → P n (foldTo n f s)
+    → ((i : ℕ) (x : A) → i < n → P i x → P (i + 1) (f i x)) → P n (foldTo n f s)
 unfolding foldTo
 foldTo-keeps P f s zero h k = h
-foldTo-keeps P f s (suc n) h k = k n (foldTo n f s) (omega arith) (foldTo-keeps P f s n h (λ i x l. k i x (omega arith)))
+foldTo-keeps P f s (suc n) h k =
+    rw (← (add-one n)) (k n (foldTo n f s) (omega arith) (foldTo-keeps P f s n h (λ i x l. k i x (omega arith))))

@@ -29,7 +29,7 @@ good-record b i e =
     record {
       least = leb-true leastDegree k (and-left (leb leastDegree k) (leb k mostDegree) (and-left (isDegree k) (isDegree l) d));
       ordered = leb-true k l (and-right (isDegree k && isDegree l) (leb k l) e);
-      most = leb-true l mostDegree (and-right (leb leastDegree l) (leb l mostDegree) (and-right (isDegree k) (isDegree l) d))
+      most = leb-true l mostDegree (and-right (leb leastDegree l) (leb l mostDegree) (and-right (isDegree k) (isDegree l) d));
     }
 
 -- in a block with no bad record each one is good
@@ -83,8 +83,8 @@ recordCell-sym b i k l = rw (crossed (eqb k (recordK b i)) (eqb l (recordL b i))
 pub recordCell-none : (b : List ℕ) (i k l : ℕ) → Good b i → (leastDegree ≤ k → k ≤ mostDegree → ⊥) → recordCell b i k l ≡ 0
 recordCell-none b i k l g h =
     rw (samePair-none k l (recordK b i) (recordL b i)
-      (λ p q. h (omega (arith, g .least)) (omega (arith, g .ordered, g .most)))
-      (λ p q. h (omega (arith, g .least, g .ordered)) (omega (arith, g .most))))
+    (λ p q. h (omega (arith, g .least)) (omega (arith, g .ordered, g .most)))
+    (λ p q. h (omega (arith, g .least, g .ordered)) (omega (arith, g .most))))
 
 module _ (b : List ℕ) where
   pub blockCell-sym : (k l : ℕ) → blockCell b k l ≡ blockCell b l k

@@ -21,18 +21,19 @@ abbrev μ-loop : tie.MeasureT-loop
 pub add-block-spec : {M : Type 1} → statement M
 add-block-spec =
     tie.close (tie.spec Inv-loop μ-loop
-    (λ c. (omega arith, sym (foldTo-none _ _))) -- loop-holds
+    (λ c. (omega arith, sym (foldTo-none _ _)))  -- loop-holds
     (λ c κs.
-      let l = c .before .before in
-      let k = l .before in
-      let s = k .before in
-      (omega arith,
+    let l = c .before .before in
+    let k = l .before in
+    let s = k .before in (
+      omega arith,
       all-good (s .args .block .now) (s .pre .1) (l .loop .i) (omega arith),
       let m = atMost-addRecords (s .args .block .now) (λ j. omega (arith, k .shared-slice-known .given j)) (s .pre .2 .0) (s .args .cells .now) (s .pre .2 .2) in
-      (λ p. rw (l .loop .inv .1) (omega (arith, m (l .loop .i) p))))) -- add-record-requires
-    (λ c. omega arith) -- add-i
-    (λ c. omega arith) -- loop-less
+          (λ p. rw (l .loop .inv .1) (omega (arith, m (l .loop .i) p))),
+    ))  -- add-record-requires
+    (λ c. omega arith)  -- add-i
+    (λ c. omega arith)  -- loop-less
     (λ c.
-      let l = c .before .before .before in
-      (omega arith, rw (c .add-record .ensures, foldTo-more, l .loop .inv .1))) -- loop-again
-    (λ c. let e : c .before .loop .i ≡ records (c .before .before .before .args .block .now) = omega arith in rw e at (c .before .loop .inv .1))) -- returns
+    let l = c .before .before .before in
+    (omega arith, rw (c .add-record .ensures, foldTo-more, l .loop .inv .1)))  -- loop-again
+    (λ c. let e : c .before .loop .i ≡ records (c .before .before .before .args .block .now) = omega arith in rw e at (c .before .loop .inv .1)))  -- returns

@@ -19,8 +19,8 @@ none-made false d h = refl
 pub is-degree-spec : {M : Type 1} → statement M
 is-degree-spec =
     tie.close (tie.spec
-    (λ c κs. tt) -- from-byte-requires
-    (λ c. search needs) -- enum-told
-    (λ c. search needs) -- enum-told-2
-    (λ c. sym (made _ _ _ (sym (c .before .before .from-byte .ensures) ∙ c .enum-told .given .1))) -- returns
-    (λ c. sym (none-made _ _ (sym (c .before .before .from-byte .ensures) ∙ c .enum-told2 .given .1)))) -- returns-2
+    (λ c κs. tt)  -- from-byte-requires
+    (λ c. search needs)  -- enum-told
+    (λ c. search needs)  -- enum-told-2
+    (λ c. sym (made _ _ _ (sym (c .before .before .from-byte .ensures) ∙ c .enum-told .given .1)))  -- returns
+    (λ c. sym (none-made _ _ (sym (c .before .before .from-byte .ensures) ∙ c .enum-told2 .given .1))))  -- returns-2

@@ -19,16 +19,17 @@ abbrev μ-loop : tie.MeasureT-loop
 pub first-odd-spec : {M : Type 1} → statement M
 first-odd-spec =
     tie.close (tie.spec Inv-loop μ-loop
-    (λ c. (omega arith, omega arith, refl)) -- loop-holds
-    (λ c κs. omega arith) -- is-odd-requires
+    (λ c. (omega arith, omega arith, refl))  -- loop-holds
+    (λ c κs. omega arith)  -- is-odd-requires
     (λ c.
-      let t = c .before in
-      sym (t .before .before .loop .inv .2 ∙ lowest-here _ _ _ (omega arith) (sym (t .is-odd .ensures) ∙ c .if1 .taken))) -- returns
-    (λ c. omega arith) -- add-k
-    (λ c. omega arith) -- loop-less
+    let t = c .before in
+    sym (t .before .before .loop .inv .2 ∙ lowest-here _ _ _ (omega arith) (sym (t .is-odd .ensures) ∙ c .if1 .taken)))  -- returns
+    (λ c. omega arith)  -- add-k
+    (λ c. omega arith)  -- loop-less
     (λ c.
-      let t = c .before in
-      (omega arith,
+    let t = c .before in (
       omega arith,
-      t .before .before .loop .inv .2 ∙ lowest-next _ _ _ (omega arith) (sym (t .is-odd .ensures) ∙ c .if1 .left))) -- loop-again
-    (λ c. sym (c .before .loop .inv .2 ∙ lowest-end _ _ _ (c .loop-test .left)))) -- returns-2
+      omega arith,
+      t .before .before .loop .inv .2 ∙ lowest-next _ _ _ (omega arith) (sym (t .is-odd .ensures) ∙ c .if1 .left),
+    ))  -- loop-again
+    (λ c. sym (c .before .loop .inv .2 ∙ lowest-end _ _ _ (c .loop-test .left))))  -- returns-2

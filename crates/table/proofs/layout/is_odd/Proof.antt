@@ -7,5 +7,5 @@ use Rattle.table.proofs.layout.is_odd.Tie as tie
 pub is-odd-spec : {M : Type 1} → statement M
 is-odd-spec =
     tie.close (tie.spec
-    (λ c κs. omega arith) -- cell-requires
-    (λ c. rw (c .cell .ensures .0))) -- returns
+    (λ c κs. omega arith)  -- cell-requires
+    (λ c. rw (c .cell .ensures .0)))  -- returns

@@ -20,14 +20,14 @@ abbrev μ-loop : tie.MeasureT-loop
 pub row-sum-spec : {M : Type 1} → statement M
 row-sum-spec =
     tie.close (tie.spec Inv-loop μ-loop
-    (λ c. simp sumTo-none (omega arith)) -- loop-holds
-    (λ c κs. omega arith) -- cell-requires
-    (λ c. omega arith) -- add-sum
-    (λ c. omega arith) -- add-l
-    (λ c. omega arith) -- loop-less
+    (λ c. simp sumTo-none (omega arith))  -- loop-holds
+    (λ c κs. omega arith)  -- cell-requires
+    (λ c. omega arith)  -- add-sum
+    (λ c. omega arith)  -- add-l
+    (λ c. omega arith)  -- loop-less
     (λ c.
-      let l = c .before .before in
-      let s = l .before in
-      let m = matrix-most _ (s .args .cells .now) (s .pre .1) (s .args .k) (l .loop .l) in
-      simp sumTo-more (omega arith)) -- loop-again
-    (λ c. let e : c .before .loop .l ≡ degrees = omega arith in (rw e at (c .before .loop .inv .1), omega arith))) -- returns
+    let l = c .before .before in
+    let s = l .before in
+    let m = matrix-most _ (s .args .cells .now) (s .pre .1) (s .args .k) (l .loop .l) in
+    simp sumTo-more (omega arith))  -- loop-again
+    (λ c. let e : c .before .loop .l ≡ degrees = omega arith in (rw e at (c .before .loop .inv .1), omega arith)))  -- returns

@@ -19,17 +19,18 @@ abbrev μ-loop : tie.MeasureT-loop
 pub first-bad-spec : {M : Type 1} → statement M
 first-bad-spec =
     tie.close (tie.spec Inv-loop μ-loop
-    (λ c. (omega arith, refl)) -- loop-holds
-    (λ c κs. omega arith) -- good-record-requires
+    (λ c. (omega arith, refl))  -- loop-holds
+    (λ c κs. omega arith)  -- good-record-requires
     (λ c.
-      let g = c .before in
-      let l = g .before .before in
-      sym (l .loop .inv .1 ∙ lowest-here _ _ _ (omega arith) (sym (ap not (g .good-record .ensures)) ∙ c .if1 .taken))) -- returns
-    (λ c. omega arith) -- add-i
-    (λ c. omega arith) -- loop-less
+    let g = c .before in
+    let l = g .before .before in
+    sym (l .loop .inv .1 ∙ lowest-here _ _ _ (omega arith) (sym (ap not (g .good-record .ensures)) ∙ c .if1 .taken)))  -- returns
+    (λ c. omega arith)  -- add-i
+    (λ c. omega arith)  -- loop-less
     (λ c.
-      let g = c .before in
-      let l = g .before .before in
-      (omega arith,
-      l .loop .inv .1 ∙ lowest-next _ _ _ (omega arith) (sym (ap not (g .good-record .ensures)) ∙ c .if1 .left))) -- loop-again
-    (λ c. sym (c .before .loop .inv .1 ∙ lowest-end _ _ _ (c .loop-test .left)))) -- returns-2
+    let g = c .before in
+    let l = g .before .before in (
+      omega arith,
+      l .loop .inv .1 ∙ lowest-next _ _ _ (omega arith) (sym (ap not (g .good-record .ensures)) ∙ c .if1 .left),
+    ))  -- loop-again
+    (λ c. sym (c .before .loop .inv .1 ∙ lowest-end _ _ _ (c .loop-test .left))))  -- returns-2
