@@ -1,4 +1,5 @@
 pub mod Facts
+pub mod Matrix
 pub mod Slot
 pub mod Store
 pub mod Laid
