@@ -11,10 +11,11 @@ ghost use Rattle.slices.specs.Slices.{allZero};
 ghost use Rattle.table.specs.Cells.{matrixOf, AtMost, cellSumMost};
 ghost use Rattle.table.specs.Layout.{vertices, vertexDegree, classesOf, mostVertices};
 ghost use Rattle.adjacency.specs.Adjacency.{adjacencySize, side, edge, setEdge, rowMirrored, mirrored, zeroOutside, degreesWithin, cellsWithin, adjacencyOk};
-
-use slices::{all_zero, wide};
+use slices::all_zero;
+use slices::wide;
 
 pub const SIDE: usize = 200;
+
 pub const ADJACENCY_SIZE: usize = 40000;
 
 // The byte of v and w.
@@ -122,5 +123,7 @@ pub fn adjacency_ok(adjacency: &[u8], n: usize, classes: &[u8; 200], cells: &[u3
     if !is_mirrored(adjacency, n) {
         return false;
     }
-    is_zero_outside(adjacency, n) & degrees_within(adjacency, n, classes) & cells_within(adjacency, n, classes, cells)
+    is_zero_outside(adjacency, n)
+        & degrees_within(adjacency, n, classes)
+        & cells_within(adjacency, n, classes, cells)
 }

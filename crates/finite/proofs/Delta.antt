@@ -1,7 +1,7 @@
 -- Laws of Kronecker's delta and of a test as a number.
 -- Assumes nothing.
 use mathlib.Core.Path.{_≡_, refl, sym, ap, _∙_, subst}
-use mathlib.Core.Bool.{Bool, true, false, _&&_}
+use mathlib.Core.Bool.{Bool, true, false, _&&_, _||_}
 use mathlib.Core.Logic.{_≢_}
 use Prim.Native.Nat.{ℕ, zero, suc, _+_, _*_, _≤_, _<_}
 use native.Mathlib.Nat.{one-mul, zero-mul, lt-irrefl}
@@ -20,6 +20,16 @@ bit-and true true = refl
 bit-and true false = refl
 bit-and false true = refl
 bit-and false false = refl
+
+pub bit-or : (s t : Bool) → bit (s || t) + bit (s && t) ≡ bit s + bit t
+bit-or true true = refl
+bit-or true false = refl
+bit-or false true = refl
+bit-or false false = refl
+
+pub δ-bit : (a b : ℕ) → bit (eqb a b) ≡ δ a b
+unfolding δ
+δ-bit a b = refl
 
 pub δ-same : (a b : ℕ) → a ≡ b → δ a b ≡ 1
 unfolding δ
