@@ -53,6 +53,13 @@ pub δ-sym : (a b : ℕ) → δ a b ≡ δ b a
     go (yes e) = rw e
     go (no e) = δ-other a b e ∙ sym (δ-other b a (λ q. e (sym q)))
 
+pub δ-times-le : (a b x : ℕ) → δ a b * x ≤ x
+δ-times-le a b x = go (ℕ-discrete a b)
+  where
+    go : Dec (a ≡ b) → δ a b * x ≤ x
+    go (yes e) = rw (δ-same a b e, one-mul x) (omega arith)
+    go (no e) = rw (δ-other a b e, zero-mul x) (omega arith)
+
 -- what is not 0 is at equal numbers
 pub δ-pos : (a b : ℕ) → 0 < δ a b → a ≡ b
 δ-pos a b h = go (ℕ-discrete a b)
