@@ -53,3 +53,11 @@ fillTo-at f t (suc n) k h l =
     (λ e. ap (λ (j : ℕ). getD (fillTo (suc n) f t) j 0) e ∙ getD-set-same (fillTo n f t) n (f n) 0 (rw (fillTo-length f t n) h) ∙ sym (ap f e))
     (λ s. getD-set-other (fillTo n f t) n k (f n) 0 (omega arith) ∙ fillTo-at f t n k (omega arith) s)
     (eq-or-lt-of-le (le-of-suc-le-suc l))
+
+-- what holds at first and is kept by each step holds at the end
+pub foldTo-keeps : {A : Type 0} (P : ℕ → A → Type 0) (f : ℕ → A → A) (s : A) (n : ℕ) → P 0 s
+    → ((i : ℕ) (x : A) → i < n → P i x → P (i + 1) (f i x)) → P n (foldTo n f s)
+unfolding foldTo
+foldTo-keeps P f s zero h k = h
+foldTo-keeps P f s (suc n) h k =
+    rw (← (add-one n)) (k n (foldTo n f s) (omega arith) (foldTo-keeps P f s n h (λ i x l. k i x (omega arith))))

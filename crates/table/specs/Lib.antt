@@ -1,3 +1,4 @@
 pub mod Block
 pub mod Cells
 pub mod Layout
+pub mod Run

@@ -1,13 +1,14 @@
 // Document 01's tests 9 to 12 on a matrix, D(k), N, and the degree of each vertex.
 ghost use mathlib.Core.Path.{_≡_};
 ghost use Prim.Native.Nat.{ℕ, _+_, _*_, _≤_, _<_};
-ghost use lib.ListN.{length};
+ghost use Rattle.graph.specs.Numbering.{total, classOf};
+ghost use Rattle.graph.specs.Target.{cellMost};
 ghost use Rattle.graph.specs.Tests.{degrees, rowSum, count, odd, uneven, overfull, firstOdd, firstUneven, firstOverfull, firstOverfullIn};
 ghost use Rattle.table.specs.Cells.{matrixOf, AtMost, cellSumMost};
+ghost use Rattle.table.specs.Run.{countIn, Reaches};
 ghost use Rattle.table.specs.Layout.{vertices, wanted, countsOf, classesOf, layoutVerdict, mostVertices};
 use crate::cells::DEGREES;
 use crate::cells::cell;
-use crate::degree::Degree;
 use answer::Cause;
 use answer::Verdict;
 use answer::refuse;
@@ -91,19 +92,24 @@ pub fn counts(cells: &[u32; 1681]) -> [usize; 41]
     t
 }
 
+// The most that cell (k, l) can hold: D(k) × D(l), on the diagonal D(k) × (D(k) - 1).
+fn cell_most(counts: &[usize; 41], k: usize, l: usize) -> usize
+    requires { ⌜ (k < degrees) × (l < degrees) × AtMost (degrees * cellSumMost) (now counts) ⌝ }
+    ensures { λ r. ⌜ r ≡ cellMost (countIn (now (counts .entry))) k l ⌝ }
+{
+    let d = counts[k];
+    if k == l {
+        return d * d - d;
+    }
+    d * counts[l]
+}
+
 // Cell (k, l) is above its most.
 fn is_overfull(cells: &[u32; 1681], counts: &[usize; 41], k: usize, l: usize) -> bool
     requires { ⌜ (k < degrees) × (l < degrees) × AtMost cellSumMost (now cells) × (now counts ≡ countsOf (matrixOf (now cells))) ⌝ }
     ensures { λ r. ⌜ r ≡ overfull (matrixOf (now (cells .entry))) k l ⌝ }
 {
-    let d = counts[k];
-    if k == l {
-        if d == 0 {
-            return 0 < cell(cells, k, l);
-        }
-        return d * (d - 1) < cell(cells, k, l);
-    }
-    d * counts[l] < cell(cells, k, l)
+    cell_most(counts, k, l) < cell(cells, k, l)
 }
 
 fn first_overfull_in(cells: &[u32; 1681], counts: &[usize; 41], k: usize) -> usize
@@ -144,6 +150,44 @@ pub fn vertex_count(cells: &[u32; 1681], counts: &[usize; 41]) -> usize
         n += counts[k];
     }
     n
+}
+
+// A class, and the first vertex past it.
+struct Run {
+    class: usize,
+    end: usize,
+}
+
+// The class of vertex v, from that of an earlier vertex.
+fn run_at(counts: &[usize; 41], v: usize, run: Run) -> Run
+    requires { ⌜ Reaches (countIn (now counts)) (run .class) (run .end) v × (v < total degrees (countIn (now counts))) × (total degrees (countIn (now counts)) ≤ mostVertices) ⌝ }
+    ensures { λ r. ⌜ Reaches (countIn (now (counts .entry))) (r .class) (r .end) v × (r .class ≡ classOf degrees (countIn (now (counts .entry))) v) ⌝ }
+{
+    let mut class = run.class;
+    let mut end = run.end;
+    while end <= v {
+        class += 1;
+        end += counts[class];
+    }
+    Run { class, end }
+}
+
+// The degree of each vertex, with zeros behind the last.
+pub fn classes(cells: &[u32; 1681], counts: &[usize; 41]) -> [u8; 200]
+    requires { ⌜ AtMost cellSumMost (now cells) × (now counts ≡ countsOf (matrixOf (now cells))) × (vertices (matrixOf (now cells)) ≤ mostVertices) ⌝ }
+    ensures { λ r. ⌜ r ≡ classesOf (matrixOf (now (cells .entry))) ⌝ }
+{
+    let n = vertex_count(cells, counts);
+    let mut t = [0u8; 200];
+    let mut run = Run {
+        class: 0,
+        end: counts[0],
+    };
+    for v in 0..n {
+        run = run_at(counts, v, run);
+        t[v] = run.class as u8;
+    }
+    t
 }
 
 // Half the sum of all cells.

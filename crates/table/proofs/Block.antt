@@ -1,0 +1,101 @@
+-- What a good record is, and what a block adds to the cells: the same to (k, l) as to (l, k), and nothing to a degree out of range.
+-- Assumes nothing.
+use mathlib.Core.Path.{_≡_, refl, sym, ap, _∙_}
+use mathlib.Core.Bool.{Bool, true, false, _&&_, _||_, not}
+use mathlib.Core.List.{List}
+use Prim.Native.Nat.{ℕ, _+_, _≤_, _<_}
+use native.Mathlib.Decide.{ℕ-discrete}
+use native.Mathlib.Omega.{arith}
+use lib.Dec.{eqb, leb}
+use borrow.Author.Tests.{leb-true, eq-eqb, ne-eqb, not-false}
+use Rattle.finite.specs.Range.{sumTo}
+use Rattle.finite.proofs.All.{and-left, and-right, and-false}
+use Rattle.finite.proofs.Lowest.{lowest-before}
+use Rattle.finite.proofs.Sum.{sumTo-cong, sumTo-zero}
+use Rattle.graph.specs.Tests.{leastDegree, mostDegree}
+use Rattle.table.specs.Block.{isDegree, records, recordK, recordL, goodRecord, firstBad, samePair, recordCell, blockCell}
+
+-- the degrees of a good record: least ≤ k ≤ l ≤ most
+pub record Good (b : List ℕ) (i : ℕ) : Type 0 where
+  pub least : leastDegree ≤ recordK b i
+  pub ordered : recordK b i ≤ recordL b i
+  pub most : recordL b i ≤ mostDegree
+
+pub good-record : (b : List ℕ) (i : ℕ) → goodRecord b i ≡ true → Good b i
+good-record b i e =
+    let k = recordK b i in
+    let l = recordL b i in
+    let d = and-left (isDegree k && isDegree l) (leb k l) e in
+    record {
+      least = leb-true leastDegree k (and-left (leb leastDegree k) (leb k mostDegree) (and-left (isDegree k) (isDegree l) d));
+      ordered = leb-true k l (and-right (isDegree k && isDegree l) (leb k l) e);
+      most = leb-true l mostDegree (and-right (leb leastDegree l) (leb l mostDegree) (and-right (isDegree k) (isDegree l) d));
+    }
+
+-- in a block with no bad record each one is good
+pub all-good : (b : List ℕ) → firstBad b ≡ records b → (i : ℕ) → i < records b → goodRecord b i ≡ true
+all-good b e i l =
+    not-false (goodRecord b i) (lowest-before 0 (records b) (λ i. not (goodRecord b i)) (omega arith) i (omega arith) (rw e l))
+
+both-fail : (k a l b : ℕ) → (k ≡ a → l ≡ b → ⊥) → eqb k a && eqb l b ≡ false
+both-fail k a l b h = go (ℕ-discrete k a)
+  where
+    go : Dec (k ≡ a) → eqb k a && eqb l b ≡ false
+    go (yes e) = rw (ne-eqb l b (h e)) (and-false (eqb k a))
+    go (no e) = rw (ne-eqb k a e)
+
+or-true : (a : Bool) → a || true ≡ true
+or-true true = refl
+or-true false = refl
+
+module _ (k l a b : ℕ) where
+  pub samePair-straight : k ≡ a → l ≡ b → samePair k l a b ≡ true
+  samePair-straight p q = rw (eq-eqb k a p, eq-eqb l b q)
+
+  pub samePair-crossed : k ≡ b → l ≡ a → samePair k l a b ≡ true
+  samePair-crossed p q = rw (eq-eqb k b p, eq-eqb l a q) (or-true (eqb k a && eqb l b))
+
+  pub samePair-none : (k ≡ a → l ≡ b → ⊥) → (k ≡ b → l ≡ a → ⊥) → samePair k l a b ≡ false
+  samePair-none f g = rw (both-fail k a l b f, both-fail k b l a g)
+
+crossed : (p q r s : Bool) → (p && q) || (r && s) ≡ (s && r) || (q && p)
+crossed true true true true = refl
+crossed true true true false = refl
+crossed true true false true = refl
+crossed true true false false = refl
+crossed true false true true = refl
+crossed true false true false = refl
+crossed true false false true = refl
+crossed true false false false = refl
+crossed false true true true = refl
+crossed false true true false = refl
+crossed false true false true = refl
+crossed false true false false = refl
+crossed false false true true = refl
+crossed false false true false = refl
+crossed false false false true = refl
+crossed false false false false = refl
+
+pub recordCell-sym : (b : List ℕ) (i k l : ℕ) → recordCell b i k l ≡ recordCell b i l k
+recordCell-sym b i k l = rw (crossed (eqb k (recordK b i)) (eqb l (recordL b i)) (eqb k (recordL b i)) (eqb l (recordK b i)))
+
+-- a good record adds nothing where k is no degree
+pub recordCell-none : (b : List ℕ) (i k l : ℕ) → Good b i → (leastDegree ≤ k → k ≤ mostDegree → ⊥) → recordCell b i k l ≡ 0
+recordCell-none b i k l g h =
+    rw (samePair-none k l (recordK b i) (recordL b i)
+    (λ p q. h (omega (arith, g .least)) (omega (arith, g .ordered, g .most)))
+    (λ p q. h (omega (arith, g .least, g .ordered)) (omega (arith, g .most))))
+
+module _ (b : List ℕ) where
+  pub blockCell-sym : (k l : ℕ) → blockCell b k l ≡ blockCell b l k
+  blockCell-sym k l = sumTo-cong (records b) (λ i. recordCell b i k l) (λ i. recordCell b i l k) (λ i h. recordCell-sym b i k l)
+
+  blockCell-none : firstBad b ≡ records b → (k l : ℕ) → (leastDegree ≤ k → k ≤ mostDegree → ⊥) → blockCell b k l ≡ 0
+  blockCell-none e k l h =
+      sumTo-zero (records b) (λ i. recordCell b i k l) (λ i m. recordCell-none b i k l (good-record b i (all-good b e i m)) h)
+
+  pub blockCell-none-of-0 : firstBad b ≡ records b → (l : ℕ) → blockCell b 0 l ≡ 0
+  blockCell-none-of-0 e l = blockCell-none e 0 l (λ p q. absurd (omega arith))
+
+  pub blockCell-none-above : firstBad b ≡ records b → (k l : ℕ) → mostDegree < k → blockCell b k l ≡ 0
+  blockCell-none-above e k l m = blockCell-none e k l (λ p q. absurd (omega arith))

@@ -1,0 +1,5 @@
+pub mod Block
+pub mod Matrix
+pub mod Counts
+pub mod Numbering
+pub mod Verdict

@@ -1,0 +1,147 @@
+-- What adding a block does to the array of cells, and to the matrix that it holds.
+-- Assumes nothing.
+use mathlib.Core.Path.{_≡_, refl, sym, ap, _∙_, fun-ext}
+use mathlib.Core.Bool.{Bool, true, false, _&&_, cond}
+use mathlib.Core.List.{List}
+use mathlib.Core.Logic.{_≢_}
+use Prim.Native.Nat.{ℕ, zero, suc, _+_, _*_, _≤_, _<_}
+use native.Mathlib.Nat.{add-zero, add-assoc}
+use native.Mathlib.Decide.{ℕ-discrete, decLt}
+use native.Mathlib.Omega.{arith}
+use lib.Dec.{eqb, ltb}
+use lib.ListN.{length, getD, set, replicate, length-set}
+use lib.Seq.{getD-set-same, getD-set-other, set-out}
+use borrow.Author.Tests.{lt-ltb, le-ltb}
+use Rattle.finite.specs.Range.{sumTo, foldTo}
+use Rattle.finite.proofs.All.{and-false}
+use Rattle.finite.proofs.Fold.{foldTo-keeps}
+use Rattle.finite.proofs.Sum.{sumTo-none, sumTo-more}
+use Rattle.graph.specs.Tests.{degrees}
+use Rattle.table.specs.Block.{records, recordK, recordL, recordCount, goodRecord, firstBad, samePair, recordCell, blockCell}
+use Rattle.table.specs.Cells.{cellsSize, place, matrixOf, noCells, addRecord, addBlock, AtMost, blockSumMost}
+use Rattle.table.proofs.Block.{Good, good-record, all-good, samePair-straight, samePair-crossed, samePair-none, recordCell-sym, recordCell-none}
+
+pub length-addRecord : (b : List ℕ) (i : ℕ) (c : List ℕ) → length (addRecord b i c) ≡ length c
+length-addRecord b i c = length-set c _ _
+
+pub length-addBlock : (b c : List ℕ) → length (addBlock b c) ≡ length c
+length-addBlock b c =
+    foldTo-keeps (λ i x. length x ≡ length c) (addRecord b) c (records b) refl (λ i x l e. length-addRecord b i x ∙ e)
+
+getD-zeros : (n p : ℕ) → _≡_ {A = ℕ} (getD (replicate n 0) p 0) 0
+getD-zeros zero p = refl
+getD-zeros (suc n) zero = refl
+getD-zeros (suc n) (suc p) = getD-zeros n p
+
+cond-zero : (t : Bool) (n : ℕ) → n ≡ 0 → cond t n 0 ≡ 0
+cond-zero true n e = e
+cond-zero false n e = refl
+
+pub matrix-none : matrixOf noCells ≡ (λ k l. 0)
+matrix-none = matrix-zeros cellsSize
+  where
+    matrix-zeros : (n : ℕ) → matrixOf (replicate n 0) ≡ (λ k l. 0)
+    matrix-zeros n = fun-ext (λ k. fun-ext (λ l. cond-zero (ltb k degrees && ltb l degrees) _ (getD-zeros n (place k l))))
+
+-- one number changed
+atMost-set : (m v : ℕ) (c : List ℕ) (p : ℕ) → AtMost m c → v ≤ m → AtMost m (set c p v)
+atMost-set m v c p h l q = go (ℕ-discrete q p) (decLt p (length c))
+  where
+    go : Dec (q ≡ p) → Dec (p < length c) → getD (set c p v) q 0 ≤ m
+    go (yes e) (yes i) = rw (e, getD-set-same c p v 0 i) l
+    go (yes e) (no i) = rw (set-out c p v (omega arith)) (h q)
+    go (no e) i = rw (getD-set-other c p q v 0 e) (h q)
+
+-- a record adds at most 65,535 to a cell
+module _ (b : List ℕ) (bytes : (i : ℕ) → getD b i 0 < 256) (m : ℕ) (c : List ℕ) (h : AtMost m c) where
+  pub atMost-addRecords : (n : ℕ) → AtMost (m + 65535 * n) (foldTo n (addRecord b) c)
+  atMost-addRecords n = foldTo-keeps (λ i x. AtMost (m + 65535 * i) x) (addRecord b) c n (λ p. omega (arith, h p)) step
+    where
+      step : (i : ℕ) (x : List ℕ) → i < n → AtMost (m + 65535 * i) x → AtMost (m + 65535 * (i + 1)) (addRecord b i x)
+      step i x l g =
+          atMost-set (m + 65535 * (i + 1)) _ x (place (recordK b i) (recordL b i)) (λ p. omega (arith, g p))
+          (omega (arith, g (place (recordK b i) (recordL b i)), bytes (4 * i + 2), bytes (4 * i + 3)))
+
+pub atMost-addBlock : (m : ℕ) (b c : List ℕ) → AtMost m c → records b ≤ 16 → ((i : ℕ) → getD b i 0 < 256) →
+    AtMost (m + blockSumMost) (addBlock b c)
+atMost-addBlock m b c h l bytes p = omega (arith, atMost-addRecords b bytes m c h (records b) p)
+
+pub matrix-most : (m : ℕ) (c : List ℕ) → AtMost m c → (k l : ℕ) → matrixOf c k l ≤ m
+matrix-most m c h k l = go (ltb k degrees && ltb l degrees)
+  where
+    go : (t : Bool) → cond t (getD c (place k l) 0) 0 ≤ m
+    go true = h (place k l)
+    go false = omega arith
+
+-- two pairs of degrees stand in one place where they are the same pair
+module _ (k l a b : ℕ) (hk : k < degrees) (hl : l < degrees) (ha : a < degrees) (hb : b < degrees) where
+  same-place : place k l ≡ place a b → samePair k l a b ≡ true
+  same-place e = go (ℕ-discrete k a)
+    where
+      go : Dec (k ≡ a) → samePair k l a b ≡ true
+      go (yes p) = samePair-straight k l a b p (omega arith)
+      go (no p) = samePair-crossed k l a b (omega arith) (omega arith)
+
+  other-place : place k l ≢ place a b → samePair k l a b ≡ false
+  other-place h = samePair-none k l a b (λ p q. h (omega arith)) (λ p q. h (omega arith))
+
+  place-below : place k l < cellsSize
+  place-below = omega arith
+
+add-here : (c : List ℕ) (p q n : ℕ) → q < length c → p ≡ q → getD (set c q (getD c q 0 + n)) p 0 ≡ getD c p 0 + n
+add-here c p q n l e = rw (e, getD-set-same c q (getD c q 0 + n) 0 l)
+
+add-apart : (c : List ℕ) (p q n : ℕ) → p ≢ q → getD (set c q (getD c q 0 + n)) p 0 ≡ getD c p 0 + 0
+add-apart c p q n h = getD-set-other c q p (getD c q 0 + n) 0 h ∙ sym (add-zero (getD c p 0))
+
+-- what a good record adds to the matrix
+module _ (b : List ℕ) (i : ℕ) (c : List ℕ) (size : length c ≡ cellsSize) (g : Good b i) (k l : ℕ) where
+  addRecord-inside : k < degrees → l < degrees → matrixOf (addRecord b i c) k l ≡ matrixOf c k l + recordCell b i k l
+  addRecord-inside hk hl = rw (lt-ltb k degrees hk, lt-ltb l degrees hl) (go (ℕ-discrete (place k l) (place x y)))
+    where
+      x : ℕ
+      x = recordK b i
+
+      y : ℕ
+      y = recordL b i
+
+      go : Dec (place k l ≡ place x y) → getD (addRecord b i c) (place k l) 0 ≡ getD c (place k l) 0 + recordCell b i k l
+      go (yes e) =
+          rw (same-place k l x y hk hl (omega arith) (omega arith) e)
+          (add-here c (place k l) (place x y) (recordCount b i) (omega arith) e)
+      go (no e) =
+          rw (other-place k l x y hk hl (omega arith) (omega arith) e)
+          (add-apart c (place k l) (place x y) (recordCount b i) e)
+
+  addRecord-outside : degrees ≤ k → matrixOf (addRecord b i c) k l ≡ matrixOf c k l + recordCell b i k l
+  addRecord-outside h = rw (le-ltb k degrees h, recordCell-none b i k l g (λ p q. absurd (omega arith)))
+
+  addRecord-beside : degrees ≤ l → matrixOf (addRecord b i c) k l ≡ matrixOf c k l + recordCell b i k l
+  addRecord-beside h =
+      rw (le-ltb l degrees h, and-false (ltb k degrees), recordCell-sym b i k l, recordCell-none b i l k g (λ p q. absurd (omega arith)))
+
+  pub matrix-addRecord : matrixOf (addRecord b i c) k l ≡ matrixOf c k l + recordCell b i k l
+  matrix-addRecord = go (decLt k degrees) (decLt l degrees)
+    where
+      go : Dec (k < degrees) → Dec (l < degrees) → matrixOf (addRecord b i c) k l ≡ matrixOf c k l + recordCell b i k l
+      go (yes hk) (yes hl) = addRecord-inside hk hl
+      go (yes hk) (no hl) = addRecord-beside (omega arith)
+      go (no hk) (yes hl) = addRecord-outside (omega arith)
+      go (no hk) (no hl) = addRecord-outside (omega arith)
+
+-- the matrix after a block whose records are all good
+pub matrix-addBlock : (b c : List ℕ) → length c ≡ cellsSize → firstBad b ≡ records b →
+    matrixOf (addBlock b c) ≡ (λ k l. matrixOf c k l + blockCell b k l)
+matrix-addBlock b c size good = fun-ext (λ k. fun-ext (λ l. cell k l .1))
+  where
+    cell : (k l : ℕ) → (length (addBlock b c) ≡ cellsSize) × (matrixOf (addBlock b c) k l ≡ matrixOf c k l + blockCell b k l)
+    cell k l = foldTo-keeps After (addRecord b) c (records b) (size, rw sumTo-none (sym (add-zero (matrixOf c k l)))) step
+      where
+        After : ℕ → List ℕ → Type 0
+        After i x = (length x ≡ cellsSize) × (matrixOf x k l ≡ matrixOf c k l + sumTo i (λ j. recordCell b j k l))
+
+        step : (i : ℕ) (x : List ℕ) → i < records b → After i x → After (i + 1) (addRecord b i x)
+        step i x h a = (
+          length-addRecord b i x ∙ a .0,
+          matrix-addRecord b i x (a .0) (good-record b i (all-good b good i h)) k l ∙ rw (a .1, sumTo-more) (add-assoc _ _ _),
+        )

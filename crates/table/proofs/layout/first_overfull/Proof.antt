@@ -1,0 +1,40 @@
+-- `table::layout::first_overfull` meets its contract: what is left to search has the answer of the whole.
+-- Assumes nothing.
+use mathlib.Core.Path.{_≡_, refl, sym, _∙_}
+use Prim.Native.Nat.{_≤_, _-_}
+use native.Mathlib.Omega.{arith}
+use lib.Dec.{ltb}
+use borrow.Author.Tests.{lt-ltb, le-ltb}
+use Rattle.finite.specs.Range.{lowest}
+use Rattle.finite.proofs.Lowest.{lowest-end, lowest-here, lowest-next}
+use Rattle.graph.specs.Tests.{degrees, firstOverfull, firstOverfullIn}
+use Rattle.table.specs.Cells.{matrixOf}
+use Rattle.table.proofs.layout.first_overfull.Statement.{statement}
+use Rattle.table.proofs.layout.first_overfull.Tie as tie
+
+abbrev Inv-loop : tie.InvT-loop
+Inv-loop cells counts k₀ k =
+    (1 ≤ k) × (k ≤ degrees) × (firstOverfull (matrixOf cells) ≡ lowest k degrees (λ k. ltb (firstOverfullIn (matrixOf cells) k) degrees))
+
+abbrev μ-loop : tie.MeasureT-loop
+μ-loop cells counts k₀ k = degrees - k
+
+pub first-overfull-spec : {M : Type 1} → statement M
+first-overfull-spec =
+    tie.close (tie.spec Inv-loop μ-loop
+    (λ c. (omega arith, omega arith, refl))  -- loop-holds
+    (λ c κs. let s = c .before .before in (omega arith, s .pre .0, s .pre .1))  -- first-overfull-in-requires
+    (λ c.
+    let t = c .before in
+    sym (t .before .before .loop .inv .2
+    ∙ lowest-here _ _ _ (omega arith) (lt-ltb _ _ (rw (t .first-overfull-in .ensures) at (c .if1 .taken)))))  -- returns
+    (λ c. omega arith)  -- add-k
+    (λ c. omega arith)  -- loop-less
+    (λ c.
+    let t = c .before in (
+      omega arith,
+      omega arith,
+      t .before .before .loop .inv .2
+          ∙ lowest-next _ _ _ (omega arith) (le-ltb _ _ (rw (t .first-overfull-in .ensures) at (c .if1 .left))),
+    ))  -- loop-again
+    (λ c. sym (c .before .loop .inv .2 ∙ lowest-end _ _ _ (c .loop-test .left))))  -- returns-2

@@ -1,0 +1,33 @@
+-- `table::layout::row_sum` meets its contract: after l turns sum is that of the first l cells.
+-- Assumes nothing.
+use mathlib.Core.Path.{_≡_}
+use Prim.Native.Nat.{_≤_, _-_, _*_}
+use native.Mathlib.Omega.{arith}
+use Rattle.finite.specs.Range.{sumTo}
+use Rattle.finite.proofs.Sum.{sumTo-none, sumTo-more}
+use Rattle.graph.specs.Tests.{degrees}
+use Rattle.table.specs.Cells.{matrixOf, cellSumMost}
+use Rattle.table.proofs.Matrix.{matrix-most}
+use Rattle.table.proofs.layout.row_sum.Statement.{statement}
+use Rattle.table.proofs.layout.row_sum.Tie as tie
+
+abbrev Inv-loop : tie.InvT-loop
+Inv-loop cells k sum₀ l₀ sum l = (l ≤ degrees) × (sum ≡ sumTo l (matrixOf cells k)) × (sum ≤ l * cellSumMost)
+
+abbrev μ-loop : tie.MeasureT-loop
+μ-loop cells k sum₀ l₀ sum l = degrees - l
+
+pub row-sum-spec : {M : Type 1} → statement M
+row-sum-spec =
+    tie.close (tie.spec Inv-loop μ-loop
+    (λ c. simp sumTo-none (omega arith))  -- loop-holds
+    (λ c κs. omega arith)  -- cell-requires
+    (λ c. omega arith)  -- add-sum
+    (λ c. omega arith)  -- add-l
+    (λ c. omega arith)  -- loop-less
+    (λ c.
+    let l = c .before .before in
+    let s = l .before in
+    let m = matrix-most _ (s .args .cells .now) (s .pre .1) (s .args .k) (l .loop .l) in
+    simp sumTo-more (omega arith))  -- loop-again
+    (λ c. let e : c .before .loop .l ≡ degrees = omega arith in (rw e at (c .before .loop .inv .1), omega arith)))  -- returns
