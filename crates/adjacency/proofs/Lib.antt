@@ -1,0 +1,5 @@
+pub mod Row
+pub mod Mirrored
+pub mod Sums
+pub mod Classes
+pub mod Set
