@@ -46,13 +46,14 @@ module _ (n : ℕ) (cls : ℕ → ℕ) (T : ℕ → ℕ → ℕ) where
     t = transferAt n cls g a o
 
     choices : unsaturated n cls own (edge g) a ≡ false → Choices n degrees cls own T (edge g) a o b t
+    unfolding b t
     choices e = switch-works n degrees cls own T (edge g) a o target partial pair e .0
 
     module _ (c : Choices n degrees cls own T (edge g) a o b t) where
       removes : AddsEdge n (edge (setEdge g a t 0)) a t (edge g)
       removes =
           set-removes n g a t sized (omega (arith, pair .first)) (omega (arith, c .t-vertex)) few (λ e. c .t-not-a (sym e)) (c .t-linked)
-              (partial .simple .symmetric t a (c .t-vertex) (pair .first) ∙ c .t-linked)
+          (partial .simple .symmetric t a (c .t-vertex) (pair .first) ∙ c .t-linked)
 
       -- the bytes of b and t are not those of a and t
       still : (x y : ℕ) → x < n → y < n → ((x ≡ a) × (y ≡ t) → ⊥) → ((x ≡ t) × (y ≡ a) → ⊥) → edge (setEdge g a t 0) x y ≡ edge g x y
@@ -62,18 +63,18 @@ module _ (n : ℕ) (cls : ℕ → ℕ) (T : ℕ → ℕ → ℕ) where
       adds : AddsEdge n (edge (setEdge g a t 0)) b t (edge (switchBytes g a b t))
       adds =
           set-adds n (setEdge g a t 0) b t (set-length g a t 0 ∙ sized) (omega (arith, c .b-vertex)) (omega (arith, c .t-vertex)) few
-              (λ e. c .t-not-b (sym e))
-              (still b t (c .b-vertex) (c .t-vertex) (λ e. c .b-other (e .0)) (λ e. c .t-not-b (sym (e .0))) ∙ c .t-unlinked)
-              (still t b (c .t-vertex) (c .b-vertex) (λ e. c .t-not-a (e .0)) (λ e. c .b-other (e .1))
-                ∙ partial .simple .symmetric t b (c .t-vertex) (c .b-vertex)
-                ∙ c .t-unlinked)
+          (λ e. c .t-not-b (sym e))
+          (still b t (c .b-vertex) (c .t-vertex) (λ e. c .b-other (e .0)) (λ e. c .t-not-b (sym (e .0))) ∙ c .t-unlinked)
+          (still t b (c .t-vertex) (c .b-vertex) (λ e. c .t-not-a (e .0)) (λ e. c .b-other (e .1))
+          ∙ partial .simple .symmetric t b (c .t-vertex) (c .b-vertex)
+          ∙ c .t-unlinked)
 
       apart : (x y : ℕ) → x < side → y < side → (n ≤ x) ⊎ (n ≤ y) → edge (switchBytes g a b t) x y ≡ edge g x y
       apart x y xs ys out =
           set-outside n (setEdge g a t 0) b t (set-length g a t 0 ∙ sized) (omega (arith, c .b-vertex)) (omega (arith, c .t-vertex)) few
-              (λ e. c .t-not-b (sym e)) 1 (c .b-vertex) (c .t-vertex) x y xs ys out
+          (λ e. c .t-not-b (sym e)) 1 (c .b-vertex) (c .t-vertex) x y xs ys out
           ∙ set-outside n g a t sized (omega (arith, pair .first)) (omega (arith, c .t-vertex)) few (λ e. c .t-not-a (sym e)) 0 (pair .first)
-              (c .t-vertex) x y xs ys out
+          (c .t-vertex) x y xs ys out
 
     pub relieve-bytes : Relieved n cls own (edge g) a o (edge (relieveBytes n cls g a o))
     unfolding b t
@@ -133,8 +134,8 @@ module _ (n : ℕ) (cls : ℕ → ℕ) (T : ℕ → ℕ → ℕ) where
           relieved-w = relieved-w;
           linked =
               set-adds n twice v w (relieve-length n cls once w v ∙ sized-once) (omega (arith, pair .first)) (omega (arith, pair .second)) few
-                  (pair .distinct) (pair-v .unlinked)
-                  (ready-w .partial .simple .symmetric w v (pair .second) (pair .first) ∙ pair-v .unlinked);
+              (pair .distinct) (pair-v .unlinked)
+              (ready-w .partial .simple .symmetric w v (pair .second) (pair .first) ∙ pair-v .unlinked);
         }
 
     -- nothing changes outside the vertices
@@ -142,6 +143,6 @@ module _ (n : ℕ) (cls : ℕ → ℕ) (T : ℕ → ℕ → ℕ) where
     unfolding once twice
     join-outside x y xs ys out =
         set-outside n twice v w (relieve-length n cls once w v ∙ sized-once) (omega (arith, pair .first)) (omega (arith, pair .second)) few
-            (pair .distinct) 1 (pair .first) (pair .second) x y xs ys out
+        (pair .distinct) 1 (pair .first) (pair .second) x y xs ys out
         ∙ relieve-outside once w v sized-once few target (ready-v .partial) pair-w x y xs ys out
         ∙ relieve-outside g v w sized few target partial pair x y xs ys out
