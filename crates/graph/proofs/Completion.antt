@@ -34,63 +34,64 @@ cells-twice n C cls E simple classed =
         sumTo-cong C (λ k. δ (cls v) k * degree n E v) (λ k. δ k (cls v) * degree n E v) (λ k q. rw (δ-sym (cls v) k))
         ∙ sumTo-at C (cls v) (λ k. degree n E v) (classed v p)
 
+-- A rule: what it works on, the graph and the joins so far that it stands for, whether a cell is short, and one more join. `Good` is what the
+-- rule needs to hold all along.
 module _ (n C : ℕ) (cls deg : ℕ → ℕ) (T : ℕ → ℕ → ℕ) (target : Target n C cls deg T) {S : Type 0} (graph : S → Graph) (joins : S → ℕ)
-    (short : S → Bool) (next : S → S)
-    (stops : (s : S) → Partial n C cls deg T (graph s) → short s ≡ false → (k l : ℕ) → k < C → l < C → jdm n cls (graph s) k l ≡ T k l)
-    (picks : (s : S) → Partial n C cls deg T (graph s) → short s ≡ true
-    → (v w : ℕ) × Open n cls T (graph s) v w × Joined n cls deg (graph s) v w (graph (next s)))
+    (short : S → Bool) (next : S → S) (Good : S → Type 0)
+    (good-partial : (s : S) → Good s → Partial n C cls deg T (graph s))
+    (stops : (s : S) → Good s → short s ≡ false → (k l : ℕ) → k < C → l < C → jdm n cls (graph s) k l ≡ T k l)
+    (picks : (s : S) → Good s → short s ≡ true
+    → (v w : ℕ) × Open n cls T (graph s) v w × Joined n cls deg (graph s) v w (graph (next s)) × Good (next s))
     (counts : (s : S) → joins (next s) ≡ joins s + 1) where
   -- what completing from s ends in
   pub record Ended (s r : S) : Type 0 where
-    pub partial : Partial n C cls deg T (graph r)
+    pub good : Good r
     pub full : (k l : ℕ) → k < C → l < C → jdm n cls (graph r) k l ≡ T k l
     pub counted : joins r + edges n (graph s) ≡ joins s + edges n (graph r)
     pub missing : allCells C T ≡ 2 * edges n (graph r)
 
   -- no cell is above its target, so neither are there more edges than half their sum
-  room : (s : S) → Partial n C cls deg T (graph s) → 2 * edges n (graph s) ≤ allCells C T
-  room s part =
-      rw (← (cells-twice n C cls (graph s) (part .simple) (target .classed)))
-      (sumTo-mono₂ C C (jdm n cls (graph s)) T (part .within))
+  room : (s : S) → Good s → 2 * edges n (graph s) ≤ allCells C T
+  room s good =
+      rw (← (cells-twice n C cls (graph s) (good-partial s good .simple) (target .classed)))
+      (sumTo-mono₂ C C (jdm n cls (graph s)) T (good-partial s good .within))
 
-  ended : (s : S) → Partial n C cls deg T (graph s) → short s ≡ false → Ended s s
-  ended s part e =
+  ended : (s : S) → Good s → short s ≡ false → Ended s s
+  ended s good e =
       record {
-        partial = part;
-        full = stops s part e;
+        good = good;
+        full = stops s good e;
         counted = refl;
         missing =
             sumTo-cong C (λ k. sumTo C (T k)) (λ k. sumTo C (jdm n cls (graph s) k))
-            (λ k p. sumTo-cong C (T k) (jdm n cls (graph s) k) (λ l q. sym (stops s part e k l p q)))
-            ∙ cells-twice n C cls (graph s) (part .simple) (target .classed);
+            (λ k p. sumTo-cong C (T k) (jdm n cls (graph s) k) (λ l q. sym (stops s good e k l p q)))
+            ∙ cells-twice n C cls (graph s) (good-partial s good .simple) (target .classed);
       }
 
+  one-more : (s : S) (good : Good s) (e : short s ≡ true) → edges n (graph (next s)) ≡ edges n (graph s) + 1
+  one-more s good e =
+      let p = picks s good e in
+      join-works n C cls deg T (graph s) (p .0) (p .1) target (good-partial s good) (p .2) (graph (next s)) (p .3) .one-more
+
   -- with fuel for what is missing
-  pub completes : (fuel : ℕ) (s : S) → Partial n C cls deg T (graph s) → allCells C T ≤ 2 * (edges n (graph s) + fuel) → Ended s (iterate fuel short next s)
+  pub completes : (fuel : ℕ) (s : S) → Good s → allCells C T ≤ 2 * (edges n (graph s) + fuel) → Ended s (iterate fuel short next s)
   unfolding iterate
-  completes zero s part h = go (short s) refl
+  completes zero s good h = go (short s) refl
     where
       go : (t : Bool) → short s ≡ t → Ended s s
-      go false e = ended s part e
-      go true e = absurd (over (picks s part e))
-        where
-          over : (v w : ℕ) × Open n cls T (graph s) v w × Joined n cls deg (graph s) v w (graph (next s)) → ⊥
-          over p =
-              let a = join-works n C cls deg T (graph s) (p .0) (p .1) target part (p .2) (graph (next s)) (p .3) in
-              omega (arith, room (next s) (a .partial), a .one-more)
-  completes (suc fuel) s part h = go (short s) refl (completes fuel (next s))
+      go false e = ended s good e
+      go true e = absurd (omega (arith, room (next s) (picks s good e .4), one-more s good e))
+  completes (suc fuel) s good h = go (short s) refl (completes fuel (next s))
     where
       go : (t : Bool) → short s ≡ t
-          → (Partial n C cls deg T (graph (next s)) → allCells C T ≤ 2 * (edges n (graph (next s)) + fuel) → Ended (next s) (iterate fuel short next (next s)))
+          → (Good (next s) → allCells C T ≤ 2 * (edges n (graph (next s)) + fuel) → Ended (next s) (iterate fuel short next (next s)))
           → Ended s (cond t (iterate fuel short next (next s)) s)
-      go false e again = ended s part e
+      go false e again = ended s good e
       go true e again =
-          let p = picks s part e in
-          let a = join-works n C cls deg T (graph s) (p .0) (p .1) target part (p .2) (graph (next s)) (p .3) in
-          let r = again (a .partial) (omega (arith, a .one-more)) in
+          let r = again (picks s good e .4) (omega (arith, one-more s good e)) in
           record {
-            partial = r .partial;
+            good = r .good;
             full = r .full;
-            counted = omega (arith, r .counted, a .one-more, counts s);
+            counted = omega (arith, r .counted, one-more s good e, counts s);
             missing = r .missing;
           }

@@ -1,0 +1,159 @@
+-- Completing a partial graph makes exactly as many joins as edges are missing, and ends with every cell at the table: the law for any rule
+-- (crates/graph/proofs/Completion.antt) at the rule of the lowest open pair.
+-- Assumes nothing.
+use mathlib.Core.Path.{_≡_, refl, sym, ap, _∙_}
+use mathlib.Core.Bool.{Bool, true, false}
+use mathlib.Core.List.{List}
+use mathlib.Core.Logic.{_⊎_}
+use Prim.Native.Nat.{ℕ, _+_, _*_, _≤_, _<_}
+use native.Mathlib.Nat.{zero-mul, mul-le-mul-right, mul-comm}
+use native.Mathlib.Decide.{decLt}
+use native.Mathlib.Omega.{arith}
+use lib.Dec.{ltb}
+use borrow.Author.Tests.{ltb-true, ltb-false}
+use Rattle.finite.specs.Range.{δ, sumTo, lowest}
+use Rattle.finite.proofs.Delta.{δ-sym}
+use Rattle.finite.proofs.Sum.{sumTo-term, sumTo-mono, sumTo-cong, sumTo-scale, sumTo-swap, sumTo-const, sumTo-at}
+use Rattle.finite.proofs.Lowest.{lowest-ge, lowest-le, lowest-before, lowest-holds}
+use Rattle.graph.specs.Graph.{jdm, edges, size}
+use Rattle.graph.specs.Target.{Target, Partial, Open}
+use Rattle.graph.specs.Switch.{Joined}
+use Rattle.graph.specs.Tests.{leastDegree, mostDegree, degrees}
+use Rattle.graph.proofs.Necessary.{necessary-always}
+use Rattle.graph.proofs.Completion.{allCells, Ended, completes}
+use Rattle.table.specs.Layout.{mostVertices}
+use Rattle.adjacency.specs.Adjacency.{side, edge}
+use Rattle.joining.specs.Join.{own, joinBytes}
+use Rattle.joining.proofs.Bytes.{join-bytes, join-outside}
+use Rattle.completion.specs.Choice.{shortCell, shortL, shortK, openW, openV}
+use Rattle.completion.specs.Complete.{Ran, next, isIncomplete, run, mostEdges}
+use Rattle.completion.specs.Cellwise.{Filling}
+use Rattle.completion.proofs.Cellwise.{Chosen, chosen, Stepped, stepped}
+
+-- nothing outside the vertices
+abbrev pub ZeroOutside : ℕ → List ℕ → Type 0
+ZeroOutside n g = (x y : ℕ) → x < side → y < side → (n ≤ x) ⊎ (n ≤ y) → edge g x y ≡ 0
+
+module _ (n : ℕ) (cls : ℕ → ℕ) (T : ℕ → ℕ → ℕ) where
+  -- every vertex has one class
+  sizes : ((v : ℕ) → v < n → cls v < degrees) → sumTo degrees (size n cls) ≡ n
+  sizes classed =
+      sumTo-swap degrees n (λ k v. δ (cls v) k)
+      ∙ sumTo-cong n (λ v. sumTo degrees (λ k. δ (cls v) k)) (λ v. 1) one
+      ∙ sumTo-const 1 n
+      ∙ native.Mathlib.Nat.mul-one n
+    where
+      one : (v : ℕ) → v < n → sumTo degrees (λ k. δ (cls v) k) ≡ 1
+      one v p =
+          sumTo-cong degrees (λ k. δ (cls v) k) (λ k. δ k (cls v) * 1) (λ k q. δ-sym (cls v) k ∙ sym (native.Mathlib.Nat.mul-one (δ k (cls v))))
+          ∙ sumTo-at degrees (cls v) (λ k. 1) (classed v p)
+
+  -- 200 vertices of degree at most 40 have at most 4,000 edges
+  pub few-edges : Target n degrees cls own T → n ≤ mostVertices → allCells degrees T ≤ 2 * mostEdges
+  few-edges target few =
+      omega (
+        arith,
+        sumTo-mono degrees (λ k. sumTo degrees (T k)) (λ k. mostDegree * size n cls k)
+            (λ k p. rw (target .rows k p) (mul-le-mul-right (size n cls k) (le k p))),
+        sumTo-scale mostDegree degrees (size n cls),
+        sizes (target .classed),
+      )
+    where
+      le : (k : ℕ) → k < degrees → k ≤ mostDegree
+      le k p = omega arith
+
+  -- a cell of degree 0 holds nothing
+  none-of-0 : Target n degrees cls own T → (l : ℕ) → l < degrees → T 0 l ≡ 0
+  none-of-0 target l lC =
+      omega (arith, sumTo-term degrees (T 0) l lC, target .rows 0 (omega arith), zero-mul (size n cls 0))
+
+  abbrev Good : Ran → Type 0
+  Good s = Filling n cls T (s .adjacency) × ZeroOutside n (s .adjacency)
+
+  -- where no cell is short, all are full
+  stops : (s : Ran) → Good s → isIncomplete n cls T s ≡ false → (k l : ℕ) → k < degrees → l < degrees
+      → jdm n cls (edge (s .adjacency)) k l ≡ T k l
+  stops s good e k l kC lC = go (decLt l k)
+    where
+      g : List ℕ
+      g = s .adjacency
+
+      upper : (k l : ℕ) → k < degrees → l < degrees → k ≤ l → jdm n cls (edge g) k l ≡ T k l
+      upper k l kC lC kl = at (decLt 0 k)
+        where
+          at : Dec (0 < k) → jdm n cls (edge g) k l ≡ T k l
+          at (yes k1) =
+              let row = lowest-before leastDegree degrees (λ i. ltb (shortL n cls T g i) degrees) (omega arith) k k1
+              (omega (arith, ltb-false (shortK n cls T g) degrees e)) in
+              let cell = lowest-before k degrees (shortCell n cls T g k) (omega arith) l kl
+              (omega (arith, ltb-false (shortL n cls T g k) degrees row)) in
+              omega (arith, ltb-false (jdm n cls (edge g) k l) (T k l) cell, good .0 .partial .within k l kC lC)
+          at (no k0) =
+              let z : k ≡ 0 = omega arith in
+              rw z (omega (arith, none-of-0 (good .0 .target) l lC, good .0 .partial .within 0 l (omega arith) lC))
+
+      go : Dec (l < k) → jdm n cls (edge g) k l ≡ T k l
+      go (no h) = upper k l kC lC (omega arith)
+      go (yes h) =
+          necessary-always n degrees cls (edge g) (good .0 .partial .simple) (good .0 .target .classed) .symmetric k l
+          ∙ upper l k lC kC (omega arith)
+          ∙ good .0 .target .symmetric l k lC kC
+
+  -- the pair that is joined next
+  picks : (s : Ran) → Good s → isIncomplete n cls T s ≡ true
+      → (v w : ℕ) × Open n cls T (edge (s .adjacency)) v w × Joined n cls own (edge (s .adjacency)) v w (edge (next n cls T s .adjacency)) × Good (next n cls T s)
+  picks s good e =
+      let g = s .adjacency in
+      let f = good .0 in
+      let kC = ltb-true (shortK n cls T g) degrees e in
+      let row = lowest-holds leastDegree degrees (λ i. ltb (shortL n cls T g i) degrees) (omega arith) kC in
+      let lC = ltb-true (shortL n cls T g (shortK n cls T g)) degrees row in
+      let short = ltb-true (jdm n cls (edge g) (shortK n cls T g) (shortL n cls T g (shortK n cls T g))) (T (shortK n cls T g) (shortL n cls T g (shortK n cls T g)))
+      (lowest-holds (shortK n cls T g) degrees (shortCell n cls T g (shortK n cls T g)) (omega arith) lC) in
+      pick g f (good .1) (shortK n cls T g) (shortL n cls T g (shortK n cls T g)) kC lC short
+    where
+      pick : (g : List ℕ) → Filling n cls T g → ZeroOutside n g → (k l : ℕ) → k < degrees → l < degrees → jdm n cls (edge g) k l < T k l
+          → (v w : ℕ) × Open n cls T (edge g) v w
+          × Joined n cls own (edge g) v w (edge (joinBytes n cls g (openV n cls g k l) (openW n cls g k l (openV n cls g k l))))
+          × (Filling n cls T (joinBytes n cls g (openV n cls g k l) (openW n cls g k l (openV n cls g k l)))
+          × ZeroOutside n (joinBytes n cls g (openV n cls g k l) (openW n cls g k l (openV n cls g k l))))
+      pick g f out k l kC lC h =
+          let v = openV n cls g k l in
+          let w = openW n cls g k l v in
+          let c = chosen n cls T g f k l kC lC h in (
+            v,
+            w,
+            c .pair,
+            join-bytes n cls T g v w (f .sized) (f .few) (f .target) (f .partial) (c .pair),
+            (
+              stepped n cls T g f k l v w c .filling,
+              λ x y xs ys o. join-outside n cls T g v w (f .sized) (f .few) (f .target) (f .partial) (c .pair) x y xs ys o ∙ out x y xs ys o,
+            ),
+          )
+
+  -- what completing ends in
+  pub record Finished (g : List ℕ) (r : Ran) : Type 0 where
+    pub filling : Filling n cls T (r .adjacency)
+    pub outside : ZeroOutside n (r .adjacency)
+    pub full : (k l : ℕ) → k < degrees → l < degrees → jdm n cls (edge (r .adjacency)) k l ≡ T k l
+    pub counted : r .joins + edges n (edge g) ≡ edges n (edge (r .adjacency))
+    pub missing : allCells degrees T ≡ 2 * edges n (edge (r .adjacency))
+
+  pub finishes : (g : List ℕ) → Filling n cls T g → ZeroOutside n g
+      → Finished g (run mostEdges n cls T (record { adjacency = g; joins = 0; switches = 0 }))
+  finishes g f out =
+      record {
+        filling = r .good .0;
+        outside = r .good .1;
+        full = r .full;
+        counted = omega (arith, r .counted);
+        missing = r .missing;
+      }
+    where
+      start : Ran
+      start = record { adjacency = g; joins = 0; switches = 0 }
+
+      r : Ended n degrees cls own T (f .target) (λ s. edge (s .adjacency)) (λ s. s .joins) (isIncomplete n cls T) (next n cls T) Good (λ s p. p .0 .partial)
+          stops picks (λ s. refl) start (run mostEdges n cls T start)
+      r = completes n degrees cls own T (f .target) (λ s. edge (s .adjacency)) (λ s. s .joins) (isIncomplete n cls T) (next n cls T) Good (λ s p. p .0 .partial)
+          stops picks (λ s. refl) mostEdges start (f, out) (omega (arith, few-edges (f .target) (f .few)))
