@@ -21,15 +21,15 @@ use Rattle.graph.specs.Tests.{degrees}
 use Rattle.graph.proofs.Matrix.{jdm-swap}
 
 -- x more at place p
-pub set-adds : (s : List ℕ) (p x : ℕ) → p < length s → (q : ℕ) → getD (set s p (getD s p 0 + x)) q 0 ≡ getD s q 0 + δ p q * x
-set-adds s p x h q = go (ℕ-discrete p q)
+pub more-at : (s : List ℕ) (p x : ℕ) → p < length s → (q : ℕ) → getD (set s p (getD s p 0 + x)) q 0 ≡ getD s q 0 + δ p q * x
+more-at s p x h q = go (ℕ-discrete p q)
   where
     go : Dec (p ≡ q) → getD (set s p (getD s p 0 + x)) q 0 ≡ getD s q 0 + δ p q * x
     go (yes e) = rw (← e, δ-same p p refl, one-mul x) (getD-set-same s p (getD s p 0 + x) 0 h)
     go (no e) = rw (δ-other p q e, zero-mul x, add-zero (getD s q 0)) (getD-set-other s p q (getD s p 0 + x) 0 (λ r. e (sym r)))
 
-pub set-atMost : (s : List ℕ) (p x m : ℕ) → p < length s → ((q : ℕ) → getD s q 0 ≤ m) → (q : ℕ) → getD (set s p (getD s p 0 + x)) q 0 ≤ m + x
-set-atMost s p x m h f q = omega (arith, set-adds s p x h q, f q, δ-times-le p q x)
+pub more-atMost : (s : List ℕ) (p x m : ℕ) → p < length s → ((q : ℕ) → getD s q 0 ≤ m) → (q : ℕ) → getD (set s p (getD s p 0 + x)) q 0 ≤ m + x
+more-atMost s p x m h f q = omega (arith, more-at s p x h q, f q, δ-times-le p q x)
 
 module _ (at x : ℕ → ℕ) (s : List ℕ) where
   pub added-none : Added 0 at x s s
@@ -40,7 +40,7 @@ module _ (at x : ℕ → ℕ) (s : List ℕ) where
     where
       sums : (p : ℕ) → getD (set t (at n) (getD t (at n) 0 + x n)) p 0 ≡ getD s p 0 + sumTo (n + 1) (λ i. δ (at i) p * x i)
       sums p =
-          rw (sumTo-more, set-adds t (at n) (x n) (rw (a .long) h) p, a .sums p)
+          rw (sumTo-more, more-at t (at n) (x n) (rw (a .long) h) p, a .sums p)
           (add-assoc (getD s p 0) (sumTo n (λ i. δ (at i) p * x i)) (δ (at n) p * x n))
 
   -- a place that none of them is at is left as it was

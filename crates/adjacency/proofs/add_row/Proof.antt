@@ -1,10 +1,9 @@
 -- `adjacency::add_row` meets its contract: after i turns the first i bytes are added.
 -- Assumes nothing.
-use mathlib.Core.Path.{_≡_, refl, sym, _∙_}
-use mathlib.Core.Bool.{true}
-use Prim.Native.Nat.{_≤_, _+_, _*_, _-_}
+use mathlib.Core.Path.{_≡_}
+use Prim.Native.Nat.{_≤_, _+_, _-_}
 use native.Mathlib.Omega.{arith}
-use lib.ListN.{length, getD}
+use lib.ListN.{getD}
 use Rattle.adjacency.specs.Sums.{Added}
 use Rattle.adjacency.proofs.Sums.{added-none, added-more, added-elsewhere}
 use Rattle.adjacency.proofs.add_row.Statement.{statement}

@@ -1,17 +1,16 @@
 -- `adjacency::cells_within` meets its contract: the flag is the test of the classes passed.
 -- Assumes nothing.
-use mathlib.Core.Path.{_≡_, refl, sym, ap, _∙_}
-use mathlib.Core.Bool.{Bool, true, _&&_}
-use Prim.Native.Nat.{ℕ, _≤_, _<_, _+_, _*_, _-_}
+use mathlib.Core.Path.{_≡_, _∙_}
+use Prim.Native.Nat.{ℕ, _≤_, _-_}
 use native.Mathlib.Omega.{arith}
 use lib.Dec.{leb}
-use lib.ListN.{getD, length-replicate}
-use Rattle.finite.specs.Range.{δ, sumTo, allTo}
-use Rattle.finite.proofs.All.{allTo-none, allTo-more, allTo-cong}
+use lib.ListN.{length-replicate}
+use Rattle.finite.specs.Range.{allTo}
+use Rattle.finite.proofs.All.{allTo-none, allTo-more}
 use Rattle.graph.specs.Graph.{jdm}
 use Rattle.graph.specs.Tests.{degrees}
 use Rattle.table.specs.Cells.{matrixOf}
-use Rattle.adjacency.specs.Adjacency.{side, edge}
+use Rattle.adjacency.specs.Adjacency.{edge}
 use Rattle.adjacency.specs.Sums.{classIn}
 use Rattle.adjacency.proofs.Sums.{zeros-at, classDegrees-within}
 use Rattle.adjacency.proofs.cells_within.Statement.{statement}

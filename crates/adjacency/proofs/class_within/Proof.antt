@@ -1,11 +1,10 @@
 -- `adjacency::class_within` meets its contract: the flag is the test of the cells passed.
 -- Assumes nothing.
-use mathlib.Core.Path.{_≡_, refl, sym, ap, _∙_}
-use mathlib.Core.Bool.{true}
-use Prim.Native.Nat.{ℕ, _≤_, _<_, _+_, _*_, _-_}
+use mathlib.Core.Path.{_≡_}
+use Prim.Native.Nat.{ℕ, _≤_, _+_, _*_, _-_}
 use native.Mathlib.Omega.{arith}
 use lib.Dec.{leb}
-use lib.ListN.{length, getD, length-replicate}
+use lib.ListN.{getD, length-replicate}
 use Rattle.finite.specs.Range.{δ, sumTo, allTo}
 use Rattle.finite.proofs.All.{allTo-none, allTo-more}
 use Rattle.graph.specs.Tests.{degrees}

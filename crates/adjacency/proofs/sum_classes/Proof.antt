@@ -1,11 +1,9 @@
 -- `adjacency::sum_classes` meets its contract: after v turns the sums are over the first v vertices.
 -- Assumes nothing.
-use mathlib.Core.Path.{_≡_, refl, sym, ap, _∙_}
-use mathlib.Core.Bool.{true}
+use mathlib.Core.Path.{_≡_, sym, _∙_}
 use Prim.Native.Nat.{ℕ, _≤_, _<_, _+_, _*_, _-_}
 use native.Mathlib.Omega.{arith}
 use lib.ListN.{length, getD}
-use Rattle.finite.specs.Range.{δ}
 use Rattle.adjacency.specs.Adjacency.{side, edge}
 use Rattle.adjacency.specs.Sums.{classIn, classDegree}
 use Rattle.adjacency.proofs.Mirrored.{mirrored-simple}
