@@ -81,8 +81,8 @@ module _ (n : ℕ) (cls : ℕ → ℕ) (T : ℕ → ℕ → ℕ) (g : List ℕ) 
       record {
         simple = mirrored-simple n g (and-left _ (zeroOutside n g) mz);
         outside = zero-outside n g (and-right (mirrored n g) _ mz);
-        room = λ v l. leb-true (degree n (edge g) v) (cls v) (allTo-at (λ v. leb (degree n (edge g) v) (cls v)) n (and-right (mirrored n g && zeroOutside n g) _ mzd) v l);
-        within = λ k l p q. leb-true (jdm n cls (edge g) k l) (T k l) (allTo-at (at k) degrees (allTo-at (λ k. allTo degrees (at k)) degrees (and-right (mirrored n g && zeroOutside n g && degreesWithin n cls g) _ h) k p) l q);
+        room = λ v l. leb-true (degree n (edge g) v) (cls v) (allTo-at (λ v. leb (degree n (edge g) v) (cls v)) n room v l);
+        within = λ k l p q. leb-true (jdm n cls (edge g) k l) (T k l) (allTo-at (at k) degrees (allTo-at (λ k. allTo degrees (at k)) degrees within k p) l q);
       }
     where
       at : ℕ → ℕ → Bool
@@ -93,6 +93,12 @@ module _ (n : ℕ) (cls : ℕ → ℕ) (T : ℕ → ℕ → ℕ) (g : List ℕ) 
 
       mz : mirrored n g && zeroOutside n g ≡ true
       mz = and-left _ (degreesWithin n cls g) mzd
+
+      room : degreesWithin n cls g ≡ true
+      room = and-right (mirrored n g && zeroOutside n g) _ mzd
+
+      within : cellsWithin n cls T g ≡ true
+      within = and-right (mirrored n g && zeroOutside n g && degreesWithin n cls g) _ h
 
   pub facts-adjacency : length g ≡ adjacencySize → n ≤ side → Facts n cls T g → adjacencyOk n cls T g ≡ true
   facts-adjacency long small f =

@@ -69,7 +69,8 @@ zeros-at n p = go (decLt p n)
 -- of a row added to row a, place w of row k gets f w where a is k
 pub row-at : (n a k w : ℕ) (f : ℕ → ℕ) → n ≤ side → w < n → sumTo n (λ i. δ (a * side + i) (k * side + w) * f i) ≡ δ a k * f w
 row-at n a k w f h m =
-    sumTo-cong n (λ i. δ (a * side + i) (k * side + w) * f i) (λ i. δ a k * (δ i w * f i)) (λ i l. rw (δ-place a i k w (omega arith) (omega arith)) (mul-assoc (δ a k) (δ i w) (f i)))
+    sumTo-cong n (λ i. δ (a * side + i) (k * side + w) * f i) (λ i. δ a k * (δ i w * f i))
+    (λ i l. rw (δ-place a i k w (omega arith) (omega arith)) (mul-assoc (δ a k) (δ i w) (f i)))
     ∙ sumTo-scale (δ a k) n (λ i. δ i w * f i)
     ∙ ap (λ (x : ℕ). δ a k * x) (sumTo-at n w f m)
 
@@ -102,7 +103,8 @@ classDegrees-jdm n cls E f k l h =
     sumTo-cong n (λ w. δ (cls w) l * f w) (λ w. δ (cls w) l * classDegree n cls E k w) (λ w m. ap (λ (x : ℕ). δ (cls w) l * x) (h w m))
     ∙ sym (jdm-swap n cls E k l)
 
-pub classDegrees-within : (n : ℕ) (cls : ℕ → ℕ) (E : Graph) (f : ℕ → ℕ) (T : ℕ → ℕ → ℕ) (k : ℕ) → ((w : ℕ) → w < n → f w ≡ classDegree n cls E k w)
+pub classDegrees-within : (n : ℕ) (cls : ℕ → ℕ) (E : Graph) (f : ℕ → ℕ) (T : ℕ → ℕ → ℕ) (k : ℕ)
+    → ((w : ℕ) → w < n → f w ≡ classDegree n cls E k w)
     → allTo degrees (λ l. leb (sumTo n (λ w. δ (cls w) l * f w)) (T k l)) ≡ allTo degrees (λ l. leb (jdm n cls E k l) (T k l))
 classDegrees-within n cls E f T k h =
     allTo-cong (λ l. leb (sumTo n (λ w. δ (cls w) l * f w)) (T k l)) (λ l. leb (jdm n cls E k l) (T k l)) degrees

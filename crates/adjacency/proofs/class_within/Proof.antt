@@ -27,7 +27,7 @@ class-within-spec =
     tie.close (tie.spec Inv-loop μ-loop
     (λ c κs.
     let s = c .before in
-    (omega arith, omega arith, s .pre .2, length-replicate {A = ℕ} 41 0, zeros-at 41))  -- count-class-requires
+    (omega arith, omega arith, s .pre .2, length-replicate {A = ℕ} degrees 0, zeros-at degrees))  -- count-class-requires
     (λ c. (omega arith, rw allTo-none))  -- loop-holds
     (λ c. omega arith)  -- mul-wide32
     (λ c. omega arith)  -- array-read-wide32
