@@ -3,3 +3,5 @@ pub mod Mirrored
 pub mod Sums
 pub mod Classes
 pub mod Set
+pub mod Facts
+pub mod Empty

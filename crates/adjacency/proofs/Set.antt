@@ -1,15 +1,13 @@
 -- One edge set in the bytes: the byte read at any place, and that it adds or removes that edge alone.
 -- Assumes nothing.
-use mathlib.Core.Path.{_≡_, refl, sym, ap, _∙_}
+use mathlib.Core.Path.{_≡_, _∙_}
 use mathlib.Core.Logic.{_≢_, _⊎_, ⊎-elim}
 use mathlib.Core.List.{List}
 use Prim.Native.Nat.{ℕ, _+_, _*_, _≤_, _<_}
-use native.Mathlib.Decide.{ℕ-discrete}
 use native.Mathlib.Omega.{arith}
-use lib.ListN.{length, getD, set, length-set}
+use lib.ListN.{length, set, length-set}
 use lib.Seq.{getD-set-same, getD-set-other}
-use Rattle.finite.specs.Range.{δ}
-use Rattle.finite.proofs.Delta.{δ-self, δ-other}
+use Rattle.finite.proofs.Delta.{δ-self}
 use Rattle.graph.specs.Graph.{atEdge, AddsEdge}
 use Rattle.graph.proofs.Edge.{Place, forth, back, elsewhere, place, atEdge-here, atEdge-back, atEdge-sym}
 use Rattle.adjacency.specs.Adjacency.{side, adjacencySize, edge, setEdge}
