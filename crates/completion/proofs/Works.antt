@@ -4,9 +4,8 @@
 use mathlib.Core.Path.{_≡_, refl, sym, ap, _∙_}
 use mathlib.Core.Bool.{Bool, true, false}
 use mathlib.Core.List.{List}
-use mathlib.Core.Logic.{_⊎_}
 use Prim.Native.Nat.{ℕ, _+_, _*_, _≤_, _<_}
-use native.Mathlib.Nat.{zero-mul, mul-le-mul-right, mul-comm}
+use native.Mathlib.Nat.{zero-mul, mul-one, mul-le-mul-right}
 use native.Mathlib.Decide.{decLt}
 use native.Mathlib.Omega.{arith}
 use lib.Dec.{ltb}
@@ -22,17 +21,14 @@ use Rattle.graph.specs.Tests.{leastDegree, mostDegree, degrees}
 use Rattle.graph.proofs.Necessary.{necessary-always}
 use Rattle.graph.proofs.Completion.{allCells, Ended, completes}
 use Rattle.table.specs.Layout.{mostVertices}
-use Rattle.adjacency.specs.Adjacency.{side, edge}
+use Rattle.adjacency.specs.Adjacency.{edge}
+use Rattle.adjacency.proofs.Facts.{ZeroOutside}
 use Rattle.joining.specs.Join.{own, joinBytes}
 use Rattle.joining.proofs.Bytes.{join-bytes, join-outside}
 use Rattle.completion.specs.Choice.{shortCell, shortL, shortK, openW, openV}
 use Rattle.completion.specs.Complete.{Ran, next, isIncomplete, run, mostEdges}
 use Rattle.completion.specs.Cellwise.{Filling}
 use Rattle.completion.proofs.Cellwise.{Chosen, chosen, Stepped, stepped}
-
--- nothing outside the vertices
-abbrev pub ZeroOutside : ℕ → List ℕ → Type 0
-ZeroOutside n g = (x y : ℕ) → x < side → y < side → (n ≤ x) ⊎ (n ≤ y) → edge g x y ≡ 0
 
 module _ (n : ℕ) (cls : ℕ → ℕ) (T : ℕ → ℕ → ℕ) where
   -- every vertex has one class
@@ -41,11 +37,11 @@ module _ (n : ℕ) (cls : ℕ → ℕ) (T : ℕ → ℕ → ℕ) where
       sumTo-swap degrees n (λ k v. δ (cls v) k)
       ∙ sumTo-cong n (λ v. sumTo degrees (λ k. δ (cls v) k)) (λ v. 1) one
       ∙ sumTo-const 1 n
-      ∙ native.Mathlib.Nat.mul-one n
+      ∙ mul-one n
     where
       one : (v : ℕ) → v < n → sumTo degrees (λ k. δ (cls v) k) ≡ 1
       one v p =
-          sumTo-cong degrees (λ k. δ (cls v) k) (λ k. δ k (cls v) * 1) (λ k q. δ-sym (cls v) k ∙ sym (native.Mathlib.Nat.mul-one (δ k (cls v))))
+          sumTo-cong degrees (λ k. δ (cls v) k) (λ k. δ k (cls v) * 1) (λ k q. δ-sym (cls v) k ∙ sym (mul-one (δ k (cls v))))
           ∙ sumTo-at degrees (cls v) (λ k. 1) (classed v p)
 
   -- 200 vertices of degree at most 40 have at most 4,000 edges
