@@ -1,0 +1,87 @@
+// Listing the edges (document 01: list).
+ghost use mathlib.Core.Path.{_≡_};
+ghost use mathlib.Core.Bool.{true, _&&_};
+ghost use Prim.Native.Nat.{ℕ, _+_, _*_, _≤_, _<_};
+ghost use lib.Dec.{eqb, ltb};
+ghost use lib.ListN.{length};
+ghost use lib.Seq.{sets};
+ghost use Rattle.finite.specs.Range.{catTo};
+ghost use Rattle.adjacency.specs.Adjacency.{adjacencySize, side, edge};
+ghost use Rattle.editing.specs.List.{edgeBytes, listBytes, listAnswer, listOutput};
+
+use adjacency::SIDE;
+use answer::{refuse, Cause, WrittenAnswer};
+use journal::{cells_of, phase_of};
+use slices::put;
+use state::{is_valid, lengths_ok};
+use table::layout::{counts, vertex_count};
+
+// The bytes of the edge v – w, if it is one, written at place at. The place behind them.
+fn put_edge(adjacency: &[u8], v: usize, w: usize, output: &mut [u8], at: usize) -> usize
+    requires { ⌜ (length (now adjacency) ≡ adjacencySize) × (v < w) × (w < side) × (at ≤ 80000) ⌝ }
+    ensures { λ r. ⌜ (r ≡ at + length (edgeBytes (now (adjacency .entry)) v w)) × (r ≤ at + 2) ⌝ }
+    ensures { λ _. ⌜ now (output .exit) ≡ sets (now (output .entry)) at (edgeBytes (now (adjacency .entry)) v w) ⌝ }
+{
+    if adjacency[v * SIDE + w] == 1 {
+        put(output, at, v as u8);
+        put(output, at + 1, w as u8);
+        return at + 2;
+    }
+    at
+}
+
+// The edges of v to higher vertices.
+fn put_row(adjacency: &[u8], n: usize, v: usize, output: &mut [u8], at: usize) -> usize
+    requires { ⌜ (length (now adjacency) ≡ adjacencySize) × (n ≤ side) × (v < n) × (at ≤ 79600) ⌝ }
+    ensures { λ r. ⌜ (r ≡ at + length (catTo n (edgeBytes (now (adjacency .entry)) v))) × (r ≤ at + 400) ⌝ }
+    ensures { λ _. ⌜ now (output .exit) ≡ sets (now (output .entry)) at (catTo n (edgeBytes (now (adjacency .entry)) v)) ⌝ }
+{
+    let mut a = at;
+    let mut w = v + 1;
+    while w < n {
+        a = put_edge(adjacency, v, w, output, a);
+        w += 1;
+    }
+    a
+}
+
+// All edges.
+fn put_list(adjacency: &[u8], n: usize, output: &mut [u8]) -> usize
+    requires { ⌜ (length (now adjacency) ≡ adjacencySize) × (n ≤ side) ⌝ }
+    ensures { λ r. ⌜ r ≡ length (listBytes n (now (adjacency .entry))) ⌝ }
+    ensures { λ _. ⌜ now (output .exit) ≡ sets (now (output .entry)) 0 (listBytes n (now (adjacency .entry))) ⌝ }
+{
+    let mut a = 0;
+    for v in 0..n {
+        a = put_row(adjacency, n, v, output, a);
+    }
+    a
+}
+
+// The vertices of a valid laid state.
+fn laid_vertices(journal: &[u8]) -> usize {
+    let cells = cells_of(journal);
+    let d = counts(&cells);
+    vertex_count(&cells, &d)
+}
+
+pub fn edge_list(journal: &[u8], adjacency: &[u8], output: &mut [u8]) -> WrittenAnswer
+    ensures { λ r. ⌜ r ≡ listAnswer (now (journal .entry)) (now (adjacency .entry)) (length (now (output .entry))) ⌝ }
+    ensures { λ _. ⌜ now (output .exit) ≡ listOutput (listAnswer (now (journal .entry)) (now (adjacency .entry)) (length (now (output .entry)))) (now (journal .entry)) (now (adjacency .entry)) (now (output .entry)) ⌝ }
+{
+    if !lengths_ok(journal, adjacency) {
+        return WrittenAnswer::Refused(refuse(Cause::Length, 0, 0));
+    }
+    if !is_valid(journal, adjacency) {
+        return WrittenAnswer::Refused(refuse(Cause::Invalid, 0, 0));
+    }
+    if phase_of(journal) != 1 {
+        return WrittenAnswer::Refused(refuse(Cause::Phase, 0, 0));
+    }
+    let n = laid_vertices(journal);
+    let bytes = 2 * adjacency::edge_count(adjacency, n);
+    if output.len() < bytes {
+        return WrittenAnswer::Refused(refuse(Cause::OutputLength, 0, 0));
+    }
+    WrittenAnswer::Written(put_list(adjacency, n, output))
+}

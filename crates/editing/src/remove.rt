@@ -1,0 +1,55 @@
+// Removing an edge (document 01: lift).
+ghost use mathlib.Core.Path.{_≡_};
+ghost use mathlib.Core.Bool.{true};
+ghost use Prim.Native.Nat.{ℕ, _+_, _≤_, _<_};
+ghost use lib.ListN.{length};
+ghost use Rattle.journal.specs.Journal.{phase};
+ghost use Rattle.state.specs.Valid.{lengthsOk, valid};
+ghost use Rattle.editing.specs.Remove.{removeLaid, removeAnswer, removeAdjacency};
+
+use adjacency::{edge_at, set_edge};
+use answer::{refuse, Cause, RemoveAnswer};
+use journal::{cells_of, phase_of};
+use state::{is_valid, lengths_ok};
+use table::layout::{counts, vertex_count};
+
+// On a valid laid state: the checks 13, 14 and 17, then the edge.
+fn remove_laid(journal: &[u8], adjacency: &mut [u8], v: usize, w: usize) -> RemoveAnswer
+    requires { ⌜ (lengthsOk (now journal) (now adjacency) ≡ true) × (valid (now journal) (now adjacency) ≡ true) × (phase (now journal) ≡ 1) ⌝ }
+    ensures { λ r. ⌜ r ≡ removeLaid (now (journal .entry)) (now (adjacency .entry)) v w ⌝ }
+    ensures { λ _. ⌜ now (adjacency .exit) ≡ removeAdjacency (removeLaid (now (journal .entry)) (now (adjacency .entry)) v w) (now (adjacency .entry)) v w ⌝ }
+{
+    let cells = cells_of(journal);
+    let d = counts(&cells);
+    let n = vertex_count(&cells, &d);
+    if n <= v {
+        return RemoveAnswer::Refused(refuse(Cause::VertexNumber, 0, 0));
+    }
+    if n <= w {
+        return RemoveAnswer::Refused(refuse(Cause::VertexNumber, 0, 0));
+    }
+    if v == w {
+        return RemoveAnswer::Refused(refuse(Cause::SameVertex, 0, 0));
+    }
+    if edge_at(adjacency, v, w) != 1 {
+        return RemoveAnswer::Refused(refuse(Cause::NotLinked, 0, 0));
+    }
+    set_edge(adjacency, v, w, 0);
+    RemoveAnswer::Removed
+}
+
+pub fn remove_edge(journal: &[u8], adjacency: &mut [u8], v: usize, w: usize) -> RemoveAnswer
+    ensures { λ r. ⌜ r ≡ removeAnswer (now (journal .entry)) (now (adjacency .entry)) v w ⌝ }
+    ensures { λ _. ⌜ now (adjacency .exit) ≡ removeAdjacency (removeAnswer (now (journal .entry)) (now (adjacency .entry)) v w) (now (adjacency .entry)) v w ⌝ }
+{
+    if !lengths_ok(journal, adjacency) {
+        return RemoveAnswer::Refused(refuse(Cause::Length, 0, 0));
+    }
+    if !is_valid(journal, adjacency) {
+        return RemoveAnswer::Refused(refuse(Cause::Invalid, 0, 0));
+    }
+    if phase_of(journal) != 1 {
+        return RemoveAnswer::Refused(refuse(Cause::Phase, 0, 0));
+    }
+    remove_laid(journal, adjacency, v, w)
+}
