@@ -55,6 +55,11 @@ fillTo-at f t (suc n) k h l =
     (λ s. getD-set-other (fillTo n f t) n k (f n) 0 (omega arith) ∙ fillTo-at f t n k (omega arith) s)
     (eq-or-lt-of-le (le-of-suc-le-suc l))
 
+pub fillTo-behind : (f : ℕ → ℕ) (t : List ℕ) (n k : ℕ) → n ≤ k → getD (fillTo n f t) k 0 ≡ getD t k 0
+unfolding fillTo
+fillTo-behind f t zero k h = refl
+fillTo-behind f t (suc n) k h = getD-set-other (fillTo n f t) n k (f n) 0 (omega arith) ∙ fillTo-behind f t n k (omega arith)
+
 module _ {A : Type 0} (m i : ℕ) (p : A → Bool) (f : A → A) (s : A) where
   pub iterate-next : i < m → p s ≡ true → iterate (m - i) p f s ≡ iterate (m - (i + 1)) p f (f s)
   unfolding iterate

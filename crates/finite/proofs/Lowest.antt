@@ -1,11 +1,11 @@
 -- Laws of `lowest`: it is in its range, the test holds there if it is below the end, no number before it passes,
--- it is the only such number, and it is below the end where some number passes.
+-- it is the only such number, it is below the end where some number passes, and numbers that fail may be passed over.
 -- Assumes nothing.
 use mathlib.Core.Path.{_≡_, refl, sym, subst, ap, _∙_}
 use mathlib.Core.Bool.{Bool, true, false, cond, true≢false}
 use mathlib.Core.Logic.{⊎-elim}
 use Prim.Native.Nat.{ℕ, zero, suc, _+_, _-_, _≤_, _<_}
-use native.Mathlib.Nat.{eq-or-lt-of-le}
+use native.Mathlib.Nat.{eq-or-lt-of-le, add-zero}
 use native.Mathlib.Numerals.{add-one}
 use native.Mathlib.Decide.{decLt}
 use native.Mathlib.Omega.{arith}
@@ -23,6 +23,26 @@ lowest-here a b p h t = let e : b - a ≡ suc (b - suc a) = omega arith in rw (e
 pub lowest-next : (a b : ℕ) (p : ℕ → Bool) → a < b → p a ≡ false → lowest a b p ≡ lowest (a + 1) b p
 unfolding lowest
 lowest-next a b p h t = let e : b - a ≡ suc (b - suc a) = omega arith in rw (add-one, e, t)
+
+-- numbers that fail may be passed over
+pub lowest-skip : (a c b : ℕ) (p : ℕ → Bool) → a ≤ c → c ≤ b → ((i : ℕ) → a ≤ i → i < c → p i ≡ false) → lowest a b p ≡ lowest c b p
+lowest-skip a c b p h l f = let e : c ≡ a + (c - a) = omega arith in rw e (go (c - a) a (omega arith) (λ i m k. f i m (omega arith)))
+  where
+    go : (d a : ℕ) → a + d ≤ b → ((i : ℕ) → a ≤ i → i < a + d → p i ≡ false) → lowest a b p ≡ lowest (a + d) b p
+    go zero a h f = rw add-zero
+    go (suc d) a h f =
+        let e : a + suc d ≡ a + 1 + d = omega arith in
+        rw e (lowest-next a b p (omega arith) (f a (omega arith) (omega arith)) ∙ go d (a + 1) (omega arith) (λ i m k. f i (omega arith) (omega arith)))
+
+-- equal tests, equal outcomes
+lowFrom-cong : (n a : ℕ) (p q : ℕ → Bool) → ((i : ℕ) → a ≤ i → i < a + n → p i ≡ q i) → lowFrom n a p ≡ lowFrom n a q
+unfolding lowFrom
+lowFrom-cong zero a p q h = refl
+lowFrom-cong (suc n) a p q h = rw (h a (omega arith) (omega arith), lowFrom-cong n (suc a) p q (λ i l m. h i (omega arith) (omega arith)))
+
+pub lowest-cong : (a b : ℕ) (p q : ℕ → Bool) → ((i : ℕ) → a ≤ i → i < b → p i ≡ q i) → lowest a b p ≡ lowest a b q
+unfolding lowest
+lowest-cong a b p q h = lowFrom-cong (b - a) a p q (λ i l m. h i l (omega arith))
 
 lowFrom-le : (n a : ℕ) (p : ℕ → Bool) → lowFrom n a p ≤ a + n
 unfolding lowFrom

@@ -174,6 +174,20 @@ unfolding sumTo
 sumTo-split n zero f = rw (add-zero, add-zero)
 sumTo-split n (suc k) f = rw (add-suc, sumTo-split n k f) (add-assoc (sumTo n f) (sumTo k (λ i. f (n + i))) (f (n + k)))
 
+-- a sum of which only the d terms from s on count
+pub sumTo-part : (n s d : ℕ) (f : ℕ → ℕ) → s + d ≤ n → ((i : ℕ) → i < s → f i ≡ 0) → ((i : ℕ) → s + d ≤ i → i < n → f i ≡ 0)
+    → sumTo n f ≡ sumTo d (λ i. f (s + i))
+sumTo-part n s d f h before behind =
+    let e : n ≡ s + d + (n - (s + d)) = omega arith in
+    omega (
+      arith,
+      ap (λ (m : ℕ). sumTo m f) e,
+      sumTo-split (s + d) (n - (s + d)) f,
+      sumTo-split s d f,
+      sumTo-zero s f before,
+      sumTo-zero (n - (s + d)) (λ i. f (s + d + i)) (λ i l. behind (s + d + i) (omega arith) (omega arith)),
+    )
+
 -- how many numbers below n are below p
 pub sumTo-below : (n p : ℕ) → p ≤ n → sumTo n (λ v. bit (ltb v p)) ≡ p
 unfolding sumTo

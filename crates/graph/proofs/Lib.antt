@@ -15,3 +15,4 @@ pub mod Passes
 pub mod Realizability
 pub mod Completion
 pub mod Resume
+pub mod Ranges
