@@ -12,13 +12,18 @@ ghost use Rattle.journal.specs.Journal.{phase};
 ghost use Rattle.adjacency.specs.Adjacency.{adjacencySize, edge};
 ghost use Rattle.state.specs.Valid.{lengthsOk, valid};
 ghost use Rattle.editing.specs.Add.{addLaid, addAnswer, addAdjacency};
-
 use adjacency::edge_at;
-use answer::{refuse, AddAnswer, Cause};
-use journal::{cells_of, phase_of};
+use answer::AddAnswer;
+use answer::Cause;
+use answer::refuse;
+use journal::cells_of;
+use journal::phase_of;
 use slices::wide;
-use state::{is_valid, lengths_ok};
-use table::layout::{classes, counts, vertex_count};
+use state::is_valid;
+use state::lengths_ok;
+use table::layout::classes;
+use table::layout::counts;
+use table::layout::vertex_count;
 
 // Cell (k, l) of the edges so far is below the table.
 fn is_short(adjacency: &[u8], cells: &[u32; 1681], counts: &[usize; 41], k: usize, l: usize) -> bool
@@ -30,7 +35,8 @@ fn is_short(adjacency: &[u8], cells: &[u32; 1681], counts: &[usize; 41], k: usiz
     let to_k = starts[k + 1];
     let from_l = starts[l];
     let to_l = starts[l + 1];
-    joining::cell::block_sum(adjacency, from_k, to_k, from_l, to_l) < table::cells::cell(cells, k, l)
+    joining::cell::block_sum(adjacency, from_k, to_k, from_l, to_l)
+        < table::cells::cell(cells, k, l)
 }
 
 // On a valid laid state: the checks 13 to 16, then the switches and the edge.

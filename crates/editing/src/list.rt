@@ -8,13 +8,17 @@ ghost use lib.Seq.{sets};
 ghost use Rattle.finite.specs.Range.{catTo};
 ghost use Rattle.adjacency.specs.Adjacency.{adjacencySize, side, edge};
 ghost use Rattle.editing.specs.List.{edgeBytes, listBytes, listAnswer, listOutput};
-
 use adjacency::SIDE;
-use answer::{refuse, Cause, WrittenAnswer};
-use journal::{cells_of, phase_of};
+use answer::Cause;
+use answer::WrittenAnswer;
+use answer::refuse;
+use journal::cells_of;
+use journal::phase_of;
 use slices::put;
-use state::{is_valid, lengths_ok};
-use table::layout::{counts, vertex_count};
+use state::is_valid;
+use state::lengths_ok;
+use table::layout::counts;
+use table::layout::vertex_count;
 
 // The bytes of the edge v – w, if it is one, written at place at. The place behind them.
 fn put_edge(adjacency: &[u8], v: usize, w: usize, output: &mut [u8], at: usize) -> usize

@@ -6,12 +6,17 @@ ghost use lib.ListN.{length};
 ghost use Rattle.journal.specs.Journal.{phase};
 ghost use Rattle.state.specs.Valid.{lengthsOk, valid};
 ghost use Rattle.editing.specs.Remove.{removeLaid, removeAnswer, removeAdjacency};
-
-use adjacency::{edge_at, set_edge};
-use answer::{refuse, Cause, RemoveAnswer};
-use journal::{cells_of, phase_of};
-use state::{is_valid, lengths_ok};
-use table::layout::{counts, vertex_count};
+use adjacency::edge_at;
+use adjacency::set_edge;
+use answer::Cause;
+use answer::RemoveAnswer;
+use answer::refuse;
+use journal::cells_of;
+use journal::phase_of;
+use state::is_valid;
+use state::lengths_ok;
+use table::layout::counts;
+use table::layout::vertex_count;
 
 // On a valid laid state: the checks 13, 14 and 17, then the edge.
 fn remove_laid(journal: &[u8], adjacency: &mut [u8], v: usize, w: usize) -> RemoveAnswer

@@ -82,7 +82,7 @@ module _ (n : ℕ) (cls cls′ : ℕ → ℕ) (same : (v : ℕ) → v < n → cl
     joinCount-classes =
         ap (λ (i : ℕ). i + relieveCount n cls (relieveBytes n cls g v w) w) (count-classes g v vn)
         ∙ ap (λ (i : ℕ). relieveCount n cls′ g v + i) (count-classes (relieveBytes n cls g v w) w wn
-          ∙ ap (λ (h : List ℕ). relieveCount n cls′ h w) (relieve-classes g v w vn))
+        ∙ ap (λ (h : List ℕ). relieveCount n cls′ h w) (relieve-classes g v w vn))
 
     pub freed-classes : freed n cls g v w ≡ freed n cls′ g v w
     freed-classes =
