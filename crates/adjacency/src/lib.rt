@@ -4,15 +4,19 @@ ghost use mathlib.Core.Bool.{true, _&&_};
 ghost use Prim.Native.Nat.{ℕ, _+_, _-_, _*_, _≤_, _<_};
 ghost use lib.Dec.{eqb, leb};
 ghost use lib.ListN.{length, getD, take, drop};
-ghost use Rattle.finite.specs.Range.{sumTo, allTo};
+ghost use Rattle.finite.specs.Range.{δ, sumTo, allTo};
 ghost use Rattle.graph.specs.Graph.{degree, edges};
 ghost use Rattle.graph.specs.Tests.{degrees};
 ghost use Rattle.slices.specs.Slices.{allZero};
 ghost use Rattle.table.specs.Cells.{matrixOf, AtMost, cellSumMost};
 ghost use Rattle.table.specs.Layout.{vertices, vertexDegree, classesOf, mostVertices};
 ghost use Rattle.adjacency.specs.Adjacency.{adjacencySize, side, edge, setEdge, rowMirrored, mirrored, zeroOutside, degreesWithin, cellsWithin, adjacencyOk};
+ghost use Rattle.adjacency.specs.Sums.{classIn, Added, classDegree};
 use slices::all_zero;
 use slices::wide;
+use table::cells::DEGREES;
+use table::cells::cell;
+use table::cells::wide32;
 
 pub const SIDE: usize = 200;
 
@@ -81,16 +85,23 @@ fn is_zero_outside(adjacency: &[u8], n: usize) -> bool
     ok & all_zero(&adjacency[from..])
 }
 
-// The sum of some bytes.
+// A byte as a number of 16 bits: sums of these are vector sums of 8 at a time.
+fn wide16(x: u8) -> u16
+    ensures { λ r. ⌜ (r ≡ x) × (r < 256) ⌝ }
+{
+    x as u16
+}
+
+// The sum of the bytes of a part of a row.
 fn byte_sum(s: &[u8]) -> usize
-    requires { ⌜ length (now s) ≤ adjacencySize ⌝ }
+    requires { ⌜ length (now s) ≤ side ⌝ }
     ensures { λ r. ⌜ (r ≡ sumTo (length (now (s .entry))) (λ i. getD (now (s .entry)) i 0)) × (r ≤ 255 * length (now (s .entry))) ⌝ }
 {
-    let mut sum = 0;
+    let mut sum: u16 = 0;
     for i in 0..s.len() {
-        sum += wide(s[i]);
+        sum += wide16(s[i]);
     }
-    sum
+    sum as usize
 }
 
 // How many edges v has.
@@ -113,6 +124,91 @@ pub fn edge_count(adjacency: &[u8], n: usize) -> usize
         sum += degree_of(adjacency, v, v);
     }
     sum
+}
+
+fn degrees_within(adjacency: &[u8], n: usize, classes: &[u8; 200]) -> bool
+    requires { ⌜ (length (now adjacency) ≡ adjacencySize) × (n ≤ side) ⌝ }
+    ensures { λ r. ⌜ r ≡ degreesWithin n (classIn (now (classes .entry))) (now (adjacency .entry)) ⌝ }
+{
+    let mut ok = true;
+    for v in 0..n {
+        ok = ok & (degree_of(adjacency, n, v) <= wide(classes[v]));
+    }
+    ok
+}
+
+// Adds n bytes of the matrix, from a place on, to as many sums. Where they fit in bytes this is a vector loop.
+fn add_row(sums: &mut [u8; 8200], at: usize, adjacency: &[u8], from: usize, n: usize)
+    requires { ⌜ (length (now sums) ≡ 8200) × (at + n ≤ 8200) × (from + n ≤ length (now adjacency)) × (length (now adjacency) ≡ adjacencySize) × ((i : ℕ) → i < n → getD (now sums) (at + i) 0 + getD (now adjacency) (from + i) 0 < 256) ⌝ }
+    ensures { λ _. ⌜ Added n (λ i. at + i) (λ i. getD (now (adjacency .entry)) (from + i) 0) (now (sums .entry)) (now (sums .exit)) ⌝ }
+{
+    for i in 0..n {
+        sums[at + i] = sums[at + i] + adjacency[from + i];
+    }
+}
+
+// For each class k and vertex w, how many vertices of class k have an edge to w.
+fn sum_classes(adjacency: &[u8], n: usize, classes: &[u8; 200], sums: &mut [u8; 8200])
+    requires { ⌜ (length (now adjacency) ≡ adjacencySize) × (n ≤ side) × (mirrored n (now adjacency) ≡ true) × ((v : ℕ) → v < n → classIn (now classes) v < degrees) × (length (now sums) ≡ 8200) × ((p : ℕ) → getD (now sums) p 0 ≡ 0) ⌝ }
+    ensures { λ _. ⌜ ((k w : ℕ) → w < n → getD (now (sums .exit)) (k * side + w) 0 ≡ classDegree n (classIn (now (classes .entry))) (edge (now (adjacency .entry))) k w) ⌝ }
+{
+    for v in 0..n {
+        add_row(sums, wide(classes[v]) * SIDE, adjacency, v * SIDE, n);
+    }
+}
+
+// For each class l, the sum over its vertices of one row of the sums.
+fn count_class(sums: &[u8; 8200], n: usize, classes: &[u8; 200], k: usize, counts: &mut [u32; 41])
+    requires { ⌜ (n ≤ side) × (k < degrees) × ((v : ℕ) → v < n → classIn (now classes) v < degrees) × (length (now counts) ≡ 41) × ((p : ℕ) → getD (now counts) p 0 ≡ 0) ⌝ }
+    ensures { λ _. ⌜ ((l : ℕ) → getD (now (counts .exit)) l 0 ≡ sumTo n (λ w. δ (classIn (now (classes .entry)) w) l * getD (now (sums .entry)) (k * side + w) 0)) ⌝ }
+{
+    for w in 0..n {
+        let l = wide(classes[w]);
+        let sum = wide32(counts[l]) + wide(sums[k * SIDE + w]);
+        counts[l] = sum as u32;
+    }
+}
+
+// No cell of class k is above the matrix.
+fn class_within(
+    sums: &[u8; 8200],
+    n: usize,
+    classes: &[u8; 200],
+    cells: &[u32; 1681],
+    k: usize,
+) -> bool
+    requires { ⌜ (n ≤ side) × (k < degrees) × ((v : ℕ) → v < n → classIn (now classes) v < degrees) ⌝ }
+    ensures { λ r. ⌜ r ≡ allTo degrees (λ l. leb (sumTo n (λ w. δ (classIn (now (classes .entry)) w) l * getD (now (sums .entry)) (k * side + w) 0)) (matrixOf (now (cells .entry)) k l)) ⌝ }
+{
+    let mut counts = [0u32; 41];
+    count_class(sums, n, classes, k, &mut counts);
+    let mut ok = true;
+    for l in 0..DEGREES {
+        ok = ok & (wide32(counts[l]) <= cell(cells, k, l));
+    }
+    ok
+}
+
+fn cells_within(adjacency: &[u8], n: usize, classes: &[u8; 200], cells: &[u32; 1681]) -> bool
+    requires { ⌜ (length (now adjacency) ≡ adjacencySize) × (n ≤ side) × (mirrored n (now adjacency) ≡ true) × ((v : ℕ) → v < n → classIn (now classes) v < degrees) ⌝ }
+    ensures { λ r. ⌜ r ≡ cellsWithin n (classIn (now (classes .entry))) (matrixOf (now (cells .entry))) (now (adjacency .entry)) ⌝ }
+{
+    let mut sums = [0u8; 8200];
+    sum_classes(adjacency, n, classes, &mut sums);
+    let mut ok = true;
+    for k in 0..DEGREES {
+        ok = ok & class_within(&sums, n, classes, cells, k);
+    }
+    ok
+}
+
+// Puts x at (v, w) and at (w, v).
+pub fn set_edge(adjacency: &mut [u8], v: usize, w: usize, x: u8)
+    requires { ⌜ (length (now adjacency) ≡ adjacencySize) × (v < side) × (w < side) ⌝ }
+    ensures { λ _. ⌜ now (adjacency .exit) ≡ setEdge (now (adjacency .entry)) v w x ⌝ }
+{
+    adjacency[v * SIDE + w] = x;
+    adjacency[w * SIDE + v] = x;
 }
 
 // The matrix is as document 01 lays it down for a laid state with this table.

@@ -1,7 +1,7 @@
 -- Laws of Kronecker's delta and of a test as a number.
 -- Assumes nothing.
 use mathlib.Core.Path.{_≡_, refl, sym, ap, _∙_, subst}
-use mathlib.Core.Bool.{Bool, true, false, _&&_}
+use mathlib.Core.Bool.{Bool, true, false, _&&_, _||_}
 use mathlib.Core.Logic.{_≢_}
 use Prim.Native.Nat.{ℕ, zero, suc, _+_, _*_, _≤_, _<_}
 use native.Mathlib.Nat.{one-mul, zero-mul, lt-irrefl}
@@ -20,6 +20,16 @@ bit-and true true = refl
 bit-and true false = refl
 bit-and false true = refl
 bit-and false false = refl
+
+pub bit-or : (s t : Bool) → bit (s || t) + bit (s && t) ≡ bit s + bit t
+bit-or true true = refl
+bit-or true false = refl
+bit-or false true = refl
+bit-or false false = refl
+
+pub δ-bit : (a b : ℕ) → bit (eqb a b) ≡ δ a b
+unfolding δ
+δ-bit a b = refl
 
 pub δ-same : (a b : ℕ) → a ≡ b → δ a b ≡ 1
 unfolding δ
@@ -42,6 +52,13 @@ pub δ-sym : (a b : ℕ) → δ a b ≡ δ b a
     go : Dec (a ≡ b) → δ a b ≡ δ b a
     go (yes e) = rw e
     go (no e) = δ-other a b e ∙ sym (δ-other b a (λ q. e (sym q)))
+
+pub δ-times-le : (a b x : ℕ) → δ a b * x ≤ x
+δ-times-le a b x = go (ℕ-discrete a b)
+  where
+    go : Dec (a ≡ b) → δ a b * x ≤ x
+    go (yes e) = rw (δ-same a b e, one-mul x) (omega arith)
+    go (no e) = rw (δ-other a b e, zero-mul x) (omega arith)
 
 -- what is not 0 is at equal numbers
 pub δ-pos : (a b : ℕ) → 0 < δ a b → a ≡ b

@@ -190,16 +190,34 @@ sumTo-below (suc n) p h = ⊎-elim whole (λ l. part l (sumTo-below n p (omega a
     part : p < suc n → sumTo n (λ v. bit (ltb v p)) ≡ p → sumTo n (λ v. bit (ltb v p)) + bit (ltb n p) ≡ p
     part l ih = rw (ih, le-ltb n p (omega arith)) (add-zero p)
 
--- a symmetric sum with an empty diagonal is twice its lower triangle
-pub sumTo-triangle : (n : ℕ) (f : ℕ → ℕ → ℕ) → ((v w : ℕ) → v < n → w < n → f v w ≡ f w v) → ((v : ℕ) → v < n → f v v ≡ 0)
-    → sumTo n (λ v. sumTo n (f v)) ≡ 2 * sumTo n (λ v. sumTo v (f v))
+-- equal terms below the diagonal, equal sums over the lower triangle
+pub sumTo-cong-lower : (n : ℕ) (f g : ℕ → ℕ → ℕ) → ((v w : ℕ) → v < n → w < v → f v w ≡ g v w)
+    → sumTo n (λ v. sumTo v (f v)) ≡ sumTo n (λ v. sumTo v (g v))
+sumTo-cong-lower n f g h =
+    sumTo-cong n (λ v. sumTo v (f v)) (λ v. sumTo v (g v)) (λ v l. sumTo-cong v (f v) (g v) (λ w m. h v w l m))
+
+pub sumTo-scale-lower : (c n : ℕ) (f : ℕ → ℕ → ℕ) → sumTo n (λ v. sumTo v (λ w. c * f v w)) ≡ c * sumTo n (λ v. sumTo v (f v))
+sumTo-scale-lower c n f =
+    sumTo-cong n (λ v. sumTo v (λ w. c * f v w)) (λ v. c * sumTo v (f v)) (λ v l. sumTo-scale c v (f v)) ∙ sumTo-scale c n (λ v. sumTo v (f v))
+
+-- a sum with an empty diagonal is that over its lower triangle, each place taken with its mirror image
+pub sumTo-mirror : (n : ℕ) (f : ℕ → ℕ → ℕ) → ((v : ℕ) → v < n → f v v ≡ 0)
+    → sumTo n (λ v. sumTo n (f v)) ≡ sumTo n (λ v. sumTo v (λ w. f v w + f w v))
 unfolding sumTo
-sumTo-triangle zero f s d = refl
-sumTo-triangle (suc n) f s d =
+sumTo-mirror zero f d = refl
+sumTo-mirror (suc n) f d =
     rw (
       sumTo-add n (λ v. sumTo n (f v)) (λ v. f v n),
-      sumTo-triangle n f (λ v w l m. s v w (omega arith) (omega arith)) (λ v l. d v (omega arith)),
-      sumTo-cong n (λ v. f v n) (f n) (λ v l. s v n (omega arith) (omega arith)),
+      sumTo-mirror n f (λ v l. d v (omega arith)),
+      sumTo-add n (f n) (λ w. f w n),
       d n (omega arith),
     )
     (omega arith)
+
+-- a symmetric one is twice its lower triangle
+pub sumTo-triangle : (n : ℕ) (f : ℕ → ℕ → ℕ) → ((v w : ℕ) → v < n → w < n → f v w ≡ f w v) → ((v : ℕ) → v < n → f v v ≡ 0)
+    → sumTo n (λ v. sumTo n (f v)) ≡ 2 * sumTo n (λ v. sumTo v (f v))
+sumTo-triangle n f s d =
+    sumTo-mirror n f d
+    ∙ sumTo-cong-lower n (λ v w. f v w + f w v) (λ v w. 2 * f v w) (λ v w l m. omega (arith, s v w l (omega arith)))
+    ∙ sumTo-scale-lower 2 n f

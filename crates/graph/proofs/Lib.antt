@@ -1,4 +1,5 @@
 pub mod Matrix
+pub mod Pairs
 pub mod Necessary
 pub mod OpenPair
 pub mod Complete

@@ -1,0 +1,4 @@
+pub mod Row
+pub mod Mirrored
+pub mod Sums
+pub mod Classes

@@ -1,0 +1,24 @@
+-- A part of a row of the matrix.
+-- Assumes nothing.
+use mathlib.Core.Path.{_≡_, ap, _∙_}
+use mathlib.Core.List.{List}
+use Prim.Native.Nat.{ℕ, _+_, _-_, _≤_, _<_}
+use native.Mathlib.Omega.{arith}
+use lib.ListN.{length, getD, take, drop, length-take, length-drop}
+use lib.Seq.{getD-take, getD-drop, take-all}
+use Rattle.finite.specs.Range.{sumTo}
+use Rattle.finite.proofs.Sum.{sumTo-cong}
+
+module _ (g : List ℕ) (from n : ℕ) (fits : from + n ≤ length g) where
+  pub part-length : length (take n (drop from g)) ≡ n
+  part-length = simp (length-take, length-drop) (omega arith)
+
+  pub part-at : (i : ℕ) → i < n → getD (take n (drop from g)) i 0 ≡ getD g (from + i) 0
+  part-at i h = rw (getD-take, getD-drop)
+
+  pub part-sum : sumTo (length (take n (drop from g))) (λ i. getD (take n (drop from g)) i 0) ≡ sumTo n (λ i. getD g (from + i) 0)
+  part-sum = rw part-length (sumTo-cong n (λ i. getD (take n (drop from g)) i 0) (λ i. getD g (from + i) 0) part-at)
+
+-- the part from a place to the end
+pub rest : (g : List ℕ) (from : ℕ) → take (length g - from) (drop from g) ≡ drop from g
+rest g from = take-all (length g - from) (drop from g) (rw length-drop (omega arith))

@@ -1,0 +1,43 @@
+-- `adjacency::class_within` meets its contract: the flag is the test of the cells passed.
+-- Assumes nothing.
+use mathlib.Core.Path.{_≡_, refl, sym, ap, _∙_}
+use mathlib.Core.Bool.{true}
+use Prim.Native.Nat.{ℕ, _≤_, _<_, _+_, _*_, _-_}
+use native.Mathlib.Omega.{arith}
+use lib.Dec.{leb}
+use lib.ListN.{length, getD, length-replicate}
+use Rattle.finite.specs.Range.{δ, sumTo, allTo}
+use Rattle.finite.proofs.All.{allTo-none, allTo-more}
+use Rattle.graph.specs.Tests.{degrees}
+use Rattle.table.specs.Cells.{matrixOf}
+use Rattle.adjacency.specs.Adjacency.{side}
+use Rattle.adjacency.specs.Sums.{classIn}
+use Rattle.adjacency.proofs.Sums.{zeros-at}
+use Rattle.adjacency.proofs.class_within.Statement.{statement}
+use Rattle.adjacency.proofs.class_within.Tie as tie
+
+abbrev Inv-loop : tie.InvT-loop
+Inv-loop sums n classes cells k counts ok₀ l₀ ok l =
+    (l ≤ degrees) × (ok ≡ allTo l (λ l. leb (sumTo n (λ w. δ (classIn classes w) l * getD sums (k * side + w) 0)) (matrixOf cells k l)))
+
+abbrev μ-loop : tie.MeasureT-loop
+μ-loop sums n classes cells k counts ok₀ l₀ ok l = degrees - l
+
+pub class-within-spec : {M : Type 1} → statement M
+class-within-spec =
+    tie.close (tie.spec Inv-loop μ-loop
+    (λ c κs.
+    let s = c .before in
+    (omega arith, omega arith, s .pre .2, length-replicate {A = ℕ} 41 0, zeros-at 41))  -- count-class-requires
+    (λ c. (omega arith, rw allTo-none))  -- loop-holds
+    (λ c. omega arith)  -- mul-wide32
+    (λ c. omega arith)  -- array-read-wide32
+    (λ c κs. tt)  -- wide32-requires
+    (λ c κs. omega arith)  -- cell-requires
+    (λ c. omega arith)  -- add-l
+    (λ c. omega arith)  -- loop-less
+    (λ c.
+    let w = c .before in
+    let l = w .before .before in
+    (omega arith, rw (allTo-more, l .loop .inv .1, w .wide32 .ensures .0, l .before .count-class .ensures (l .loop .l), c .cell .ensures .0)))  -- loop-again
+    (λ c. let e : c .before .loop .l ≡ degrees = omega arith in rw e at (c .before .loop .inv .1)))  -- returns
