@@ -1,10 +1,9 @@
 -- The checks depend on the classes of the vertices alone, and the array of a layout has the class of each vertex.
 -- Assumes nothing.
-use mathlib.Core.Path.{_≡_, sym, ap, _∙_}
+use mathlib.Core.Path.{_≡_, ap}
 use mathlib.Core.Bool.{Bool}
 use mathlib.Core.List.{List}
 use Prim.Native.Nat.{ℕ, _≤_, _<_}
-use native.Mathlib.Omega.{arith}
 use lib.Dec.{leb}
 use lib.ListN.{replicate, length-replicate}
 use Rattle.finite.specs.Range.{allTo}

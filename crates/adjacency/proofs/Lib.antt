@@ -2,3 +2,6 @@ pub mod Row
 pub mod Mirrored
 pub mod Sums
 pub mod Classes
+pub mod Set
+pub mod Facts
+pub mod Empty

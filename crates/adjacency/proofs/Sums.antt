@@ -21,15 +21,15 @@ use Rattle.graph.specs.Tests.{degrees}
 use Rattle.graph.proofs.Matrix.{jdm-swap}
 
 -- x more at place p
-pub set-adds : (s : List ℕ) (p x : ℕ) → p < length s → (q : ℕ) → getD (set s p (getD s p 0 + x)) q 0 ≡ getD s q 0 + δ p q * x
-set-adds s p x h q = go (ℕ-discrete p q)
+pub more-at : (s : List ℕ) (p x : ℕ) → p < length s → (q : ℕ) → getD (set s p (getD s p 0 + x)) q 0 ≡ getD s q 0 + δ p q * x
+more-at s p x h q = go (ℕ-discrete p q)
   where
     go : Dec (p ≡ q) → getD (set s p (getD s p 0 + x)) q 0 ≡ getD s q 0 + δ p q * x
     go (yes e) = rw (← e, δ-same p p refl, one-mul x) (getD-set-same s p (getD s p 0 + x) 0 h)
     go (no e) = rw (δ-other p q e, zero-mul x, add-zero (getD s q 0)) (getD-set-other s p q (getD s p 0 + x) 0 (λ r. e (sym r)))
 
-pub set-atMost : (s : List ℕ) (p x m : ℕ) → p < length s → ((q : ℕ) → getD s q 0 ≤ m) → (q : ℕ) → getD (set s p (getD s p 0 + x)) q 0 ≤ m + x
-set-atMost s p x m h f q = omega (arith, set-adds s p x h q, f q, δ-times-le p q x)
+pub more-atMost : (s : List ℕ) (p x m : ℕ) → p < length s → ((q : ℕ) → getD s q 0 ≤ m) → (q : ℕ) → getD (set s p (getD s p 0 + x)) q 0 ≤ m + x
+more-atMost s p x m h f q = omega (arith, more-at s p x h q, f q, δ-times-le p q x)
 
 module _ (at x : ℕ → ℕ) (s : List ℕ) where
   pub added-none : Added 0 at x s s
@@ -40,7 +40,7 @@ module _ (at x : ℕ → ℕ) (s : List ℕ) where
     where
       sums : (p : ℕ) → getD (set t (at n) (getD t (at n) 0 + x n)) p 0 ≡ getD s p 0 + sumTo (n + 1) (λ i. δ (at i) p * x i)
       sums p =
-          rw (sumTo-more, set-adds t (at n) (x n) (rw (a .long) h) p, a .sums p)
+          rw (sumTo-more, more-at t (at n) (x n) (rw (a .long) h) p, a .sums p)
           (add-assoc (getD s p 0) (sumTo n (λ i. δ (at i) p * x i)) (δ (at n) p * x n))
 
   -- a place that none of them is at is left as it was
@@ -69,7 +69,8 @@ zeros-at n p = go (decLt p n)
 -- of a row added to row a, place w of row k gets f w where a is k
 pub row-at : (n a k w : ℕ) (f : ℕ → ℕ) → n ≤ side → w < n → sumTo n (λ i. δ (a * side + i) (k * side + w) * f i) ≡ δ a k * f w
 row-at n a k w f h m =
-    sumTo-cong n (λ i. δ (a * side + i) (k * side + w) * f i) (λ i. δ a k * (δ i w * f i)) (λ i l. rw (δ-place a i k w (omega arith) (omega arith)) (mul-assoc (δ a k) (δ i w) (f i)))
+    sumTo-cong n (λ i. δ (a * side + i) (k * side + w) * f i) (λ i. δ a k * (δ i w * f i))
+    (λ i l. rw (δ-place a i k w (omega arith) (omega arith)) (mul-assoc (δ a k) (δ i w) (f i)))
     ∙ sumTo-scale (δ a k) n (λ i. δ i w * f i)
     ∙ ap (λ (x : ℕ). δ a k * x) (sumTo-at n w f m)
 
@@ -102,7 +103,8 @@ classDegrees-jdm n cls E f k l h =
     sumTo-cong n (λ w. δ (cls w) l * f w) (λ w. δ (cls w) l * classDegree n cls E k w) (λ w m. ap (λ (x : ℕ). δ (cls w) l * x) (h w m))
     ∙ sym (jdm-swap n cls E k l)
 
-pub classDegrees-within : (n : ℕ) (cls : ℕ → ℕ) (E : Graph) (f : ℕ → ℕ) (T : ℕ → ℕ → ℕ) (k : ℕ) → ((w : ℕ) → w < n → f w ≡ classDegree n cls E k w)
+pub classDegrees-within : (n : ℕ) (cls : ℕ → ℕ) (E : Graph) (f : ℕ → ℕ) (T : ℕ → ℕ → ℕ) (k : ℕ)
+    → ((w : ℕ) → w < n → f w ≡ classDegree n cls E k w)
     → allTo degrees (λ l. leb (sumTo n (λ w. δ (cls w) l * f w)) (T k l)) ≡ allTo degrees (λ l. leb (jdm n cls E k l) (T k l))
 classDegrees-within n cls E f T k h =
     allTo-cong (λ l. leb (sumTo n (λ w. δ (cls w) l * f w)) (T k l)) (λ l. leb (jdm n cls E k l) (T k l)) degrees

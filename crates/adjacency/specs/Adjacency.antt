@@ -4,7 +4,7 @@ use mathlib.Core.Bool.{Bool, _&&_}
 use mathlib.Core.List.{List}
 use Prim.Native.Nat.{ℕ, _+_, _-_, _*_}
 use lib.Dec.{eqb, leb}
-use lib.ListN.{length, getD, set, take, drop}
+use lib.ListN.{getD, set, take, drop}
 use Rattle.finite.specs.Range.{allTo}
 use Rattle.graph.specs.Graph.{Graph, degree, jdm}
 use Rattle.graph.specs.Tests.{degrees}

@@ -7,6 +7,10 @@ use lib.ListN.{length, getD}
 use Rattle.finite.specs.Range.{δ, sumTo}
 use Rattle.graph.specs.Graph.{Graph}
 
+-- one sum for each degree and each vertex
+abbrev pub sumsSize : ℕ
+sumsSize = 8200
+
 -- the class of each vertex, as an array has it
 abbrev pub classIn : List ℕ → ℕ → ℕ
 classIn c v = getD c v 0

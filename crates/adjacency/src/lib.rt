@@ -11,7 +11,7 @@ ghost use Rattle.slices.specs.Slices.{allZero};
 ghost use Rattle.table.specs.Cells.{matrixOf, AtMost, cellSumMost};
 ghost use Rattle.table.specs.Layout.{vertices, vertexDegree, classesOf, mostVertices};
 ghost use Rattle.adjacency.specs.Adjacency.{adjacencySize, side, edge, setEdge, rowMirrored, mirrored, zeroOutside, degreesWithin, cellsWithin, adjacencyOk};
-ghost use Rattle.adjacency.specs.Sums.{classIn, Added, classDegree};
+ghost use Rattle.adjacency.specs.Sums.{sumsSize, classIn, Added, classDegree};
 use slices::all_zero;
 use slices::wide;
 use table::cells::DEGREES;
@@ -139,7 +139,7 @@ fn degrees_within(adjacency: &[u8], n: usize, classes: &[u8; 200]) -> bool
 
 // Adds n bytes of the matrix, from a place on, to as many sums. Where they fit in bytes this is a vector loop.
 fn add_row(sums: &mut [u8; 8200], at: usize, adjacency: &[u8], from: usize, n: usize)
-    requires { ⌜ (length (now sums) ≡ 8200) × (at + n ≤ 8200) × (from + n ≤ length (now adjacency)) × (length (now adjacency) ≡ adjacencySize) × ((i : ℕ) → i < n → getD (now sums) (at + i) 0 + getD (now adjacency) (from + i) 0 < 256) ⌝ }
+    requires { ⌜ (length (now sums) ≡ sumsSize) × (at + n ≤ sumsSize) × (from + n ≤ length (now adjacency)) × (length (now adjacency) ≡ adjacencySize) × ((i : ℕ) → i < n → getD (now sums) (at + i) 0 + getD (now adjacency) (from + i) 0 < 256) ⌝ }
     ensures { λ _. ⌜ Added n (λ i. at + i) (λ i. getD (now (adjacency .entry)) (from + i) 0) (now (sums .entry)) (now (sums .exit)) ⌝ }
 {
     for i in 0..n {
@@ -149,7 +149,7 @@ fn add_row(sums: &mut [u8; 8200], at: usize, adjacency: &[u8], from: usize, n: u
 
 // For each class k and vertex w, how many vertices of class k have an edge to w.
 fn sum_classes(adjacency: &[u8], n: usize, classes: &[u8; 200], sums: &mut [u8; 8200])
-    requires { ⌜ (length (now adjacency) ≡ adjacencySize) × (n ≤ side) × (mirrored n (now adjacency) ≡ true) × ((v : ℕ) → v < n → classIn (now classes) v < degrees) × (length (now sums) ≡ 8200) × ((p : ℕ) → getD (now sums) p 0 ≡ 0) ⌝ }
+    requires { ⌜ (length (now adjacency) ≡ adjacencySize) × (n ≤ side) × (mirrored n (now adjacency) ≡ true) × ((v : ℕ) → v < n → classIn (now classes) v < degrees) × (length (now sums) ≡ sumsSize) × ((p : ℕ) → getD (now sums) p 0 ≡ 0) ⌝ }
     ensures { λ _. ⌜ ((k w : ℕ) → w < n → getD (now (sums .exit)) (k * side + w) 0 ≡ classDegree n (classIn (now (classes .entry))) (edge (now (adjacency .entry))) k w) ⌝ }
 {
     for v in 0..n {
@@ -159,7 +159,7 @@ fn sum_classes(adjacency: &[u8], n: usize, classes: &[u8; 200], sums: &mut [u8; 
 
 // For each class l, the sum over its vertices of one row of the sums.
 fn count_class(sums: &[u8; 8200], n: usize, classes: &[u8; 200], k: usize, counts: &mut [u32; 41])
-    requires { ⌜ (n ≤ side) × (k < degrees) × ((v : ℕ) → v < n → classIn (now classes) v < degrees) × (length (now counts) ≡ 41) × ((p : ℕ) → getD (now counts) p 0 ≡ 0) ⌝ }
+    requires { ⌜ (n ≤ side) × (k < degrees) × ((v : ℕ) → v < n → classIn (now classes) v < degrees) × (length (now counts) ≡ degrees) × ((p : ℕ) → getD (now counts) p 0 ≡ 0) ⌝ }
     ensures { λ _. ⌜ ((l : ℕ) → getD (now (counts .exit)) l 0 ≡ sumTo n (λ w. δ (classIn (now (classes .entry)) w) l * getD (now (sums .entry)) (k * side + w) 0)) ⌝ }
 {
     for w in 0..n {

@@ -1,10 +1,9 @@
 -- `adjacency::add_row` meets its contract: after i turns the first i bytes are added.
 -- Assumes nothing.
-use mathlib.Core.Path.{_≡_, refl, sym, _∙_}
-use mathlib.Core.Bool.{true}
-use Prim.Native.Nat.{_≤_, _+_, _*_, _-_}
+use mathlib.Core.Path.{_≡_}
+use Prim.Native.Nat.{ℕ, _≤_, _+_, _-_}
 use native.Mathlib.Omega.{arith}
-use lib.ListN.{length, getD}
+use lib.ListN.{getD}
 use Rattle.adjacency.specs.Sums.{Added}
 use Rattle.adjacency.proofs.Sums.{added-none, added-more, added-elsewhere}
 use Rattle.adjacency.proofs.add_row.Statement.{statement}
@@ -27,7 +26,9 @@ add-row-spec =
     (λ c.
     let l = c .before .before .before in
     let a = l .before .args in
-    let e = added-elsewhere (λ i. a .at + i) (λ i. getD (a .adjacency .now) (a .from + i) 0) (a .sums .now) (l .loop .i) (l .loop .sums) (l .loop .inv .1) (a .at + l .loop .i) (λ i h. omega arith) in
+    let x : ℕ → ℕ = λ i. getD (a .adjacency .now) (a .from + i) 0 in
+    let e =
+    added-elsewhere (λ i. a .at + i) x (a .sums .now) (l .loop .i) (l .loop .sums) (l .loop .inv .1) (a .at + l .loop .i) (λ i h. omega arith) in
     rw e (record { fits = l .before .pre .4 (l .loop .i) (omega arith) }))  -- add-sums-3
     (λ c. omega arith)  -- add-sums-4
     (λ c. omega arith)  -- element-write-sums

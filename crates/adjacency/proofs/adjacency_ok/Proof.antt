@@ -1,13 +1,11 @@
 -- `adjacency::adjacency_ok` meets its contract.
 -- Assumes nothing.
-use mathlib.Core.Path.{_≡_, refl, sym, ap, _∙_}
-use mathlib.Core.Bool.{Bool, true, false, _&&_}
-use Prim.Native.Nat.{ℕ, _≤_, _<_, _+_, _*_, _-_}
+use mathlib.Core.Path.{_≡_, sym, _∙_}
+use Prim.Native.Nat.{ℕ, _<_}
 use native.Mathlib.Omega.{arith}
-use borrow.Author.Needs.{needs}
 use borrow.Author.Tests.{not-true, not-false}
 use Rattle.table.specs.Cells.{matrixOf}
-use Rattle.table.specs.Layout.{vertices, vertexDegree, classesOf, mostVertices}
+use Rattle.table.specs.Layout.{vertexDegree}
 use Rattle.adjacency.specs.Sums.{classIn}
 use Rattle.adjacency.proofs.Classes.{degreesWithin-same, cellsWithin-same, class-at, class-below}
 use Rattle.adjacency.proofs.adjacency_ok.Statement.{statement}

@@ -1,11 +1,10 @@
 -- `adjacency::class_within` meets its contract: the flag is the test of the cells passed.
 -- Assumes nothing.
-use mathlib.Core.Path.{_≡_, refl, sym, ap, _∙_}
-use mathlib.Core.Bool.{true}
-use Prim.Native.Nat.{ℕ, _≤_, _<_, _+_, _*_, _-_}
+use mathlib.Core.Path.{_≡_}
+use Prim.Native.Nat.{ℕ, _≤_, _+_, _*_, _-_}
 use native.Mathlib.Omega.{arith}
 use lib.Dec.{leb}
-use lib.ListN.{length, getD, length-replicate}
+use lib.ListN.{getD, length-replicate}
 use Rattle.finite.specs.Range.{δ, sumTo, allTo}
 use Rattle.finite.proofs.All.{allTo-none, allTo-more}
 use Rattle.graph.specs.Tests.{degrees}
@@ -28,7 +27,7 @@ class-within-spec =
     tie.close (tie.spec Inv-loop μ-loop
     (λ c κs.
     let s = c .before in
-    (omega arith, omega arith, s .pre .2, length-replicate {A = ℕ} 41 0, zeros-at 41))  -- count-class-requires
+    (omega arith, omega arith, s .pre .2, length-replicate {A = ℕ} degrees 0, zeros-at degrees))  -- count-class-requires
     (λ c. (omega arith, rw allTo-none))  -- loop-holds
     (λ c. omega arith)  -- mul-wide32
     (λ c. omega arith)  -- array-read-wide32

@@ -1,15 +1,13 @@
 -- `adjacency::count_class` meets its contract: after w turns the first w vertices are counted.
 -- Assumes nothing.
-use mathlib.Core.Path.{_≡_, refl, sym, ap, _∙_}
-use mathlib.Core.Bool.{true}
+use mathlib.Core.Path.{_≡_}
 use Prim.Native.Nat.{ℕ, _≤_, _<_, _+_, _*_, _-_}
 use native.Mathlib.Nat.{zero-add}
 use native.Mathlib.Omega.{arith}
 use lib.ListN.{length, getD}
-use Rattle.finite.specs.Range.{δ}
 use Rattle.adjacency.specs.Adjacency.{side}
 use Rattle.adjacency.specs.Sums.{classIn, Added}
-use Rattle.adjacency.proofs.Sums.{set-atMost, added-none, added-more}
+use Rattle.adjacency.proofs.Sums.{more-atMost, added-none, added-more}
 use Rattle.adjacency.proofs.count_class.Statement.{statement}
 use Rattle.adjacency.proofs.count_class.Tie as tie
 
@@ -54,7 +52,7 @@ count-class-spec =
     let row : ℕ → ℕ = λ w. getD (s .args .sums .now) (s .args .k * side + w) 0 in
     let p : cls (l .loop .w) < length (s .args .counts .now) = omega (arith, s .pre .2 (l .loop .w) (omega arith)) in
     let q : cls (l .loop .w) < length (l .loop .counts) = rw (l .loop .inv .1 .long) p in
-    let m = set-atMost (l .loop .counts) (cls (l .loop .w)) (row (l .loop .w)) (255 * l .loop .w) q (l .loop .inv .2) in
+    let m = more-atMost (l .loop .counts) (cls (l .loop .w)) (row (l .loop .w)) (255 * l .loop .w) q (l .loop .inv .2) in
     rw (c .wide2 .ensures .0, u .wide32 .ensures .0, w .wide .ensures .0) (
       omega arith,
       added-more cls row (s .args .counts .now) (l .loop .w) (l .loop .counts) p (l .loop .inv .1),

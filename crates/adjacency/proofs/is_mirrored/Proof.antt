@@ -1,8 +1,8 @@
 -- `adjacency::is_mirrored` meets its contract: the rows passed are mirrored.
 -- Assumes nothing.
-use mathlib.Core.Path.{_≡_, refl, sym, _∙_}
+use mathlib.Core.Path.{_≡_, sym, _∙_}
 use mathlib.Core.Bool.{true}
-use Prim.Native.Nat.{_≤_, _+_, _*_, _-_}
+use Prim.Native.Nat.{_≤_, _-_}
 use native.Mathlib.Omega.{arith}
 use borrow.Author.Tests.{not-true, not-false}
 use Rattle.finite.specs.Range.{allTo}
@@ -25,5 +25,7 @@ is-mirrored-spec =
     (λ c. sym (allTo-fails _ _ _ (c .before .before .loop-test .taken) (sym (c .before .row-mirrored .ensures) ∙ not-true _ (c .if1 .taken))))  -- returns
     (λ c. omega arith)  -- add-v
     (λ c. omega arith)  -- loop-less
-    (λ c. (omega arith, rw allTo-more (and-both _ _ (c .before .before .before .loop .inv .1) (sym (c .before .row-mirrored .ensures) ∙ not-false _ (c .if1 .left)))))  -- loop-again
+    (λ c.
+    let m = c .before in
+    (omega arith, rw allTo-more (and-both _ _ (m .before .before .loop .inv .1) (sym (m .row-mirrored .ensures) ∙ not-false _ (c .if1 .left)))))  -- loop-again
     (λ c. let e : c .before .loop .v ≡ c .before .before .before .args .n = omega arith in sym (rw e at (c .before .loop .inv .1))))  -- returns-2

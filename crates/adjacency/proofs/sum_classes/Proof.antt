@@ -1,13 +1,11 @@
 -- `adjacency::sum_classes` meets its contract: after v turns the sums are over the first v vertices.
 -- Assumes nothing.
-use mathlib.Core.Path.{_≡_, refl, sym, ap, _∙_}
-use mathlib.Core.Bool.{true}
+use mathlib.Core.Path.{_≡_, sym, _∙_}
 use Prim.Native.Nat.{ℕ, _≤_, _<_, _+_, _*_, _-_}
 use native.Mathlib.Omega.{arith}
 use lib.ListN.{length, getD}
-use Rattle.finite.specs.Range.{δ}
 use Rattle.adjacency.specs.Adjacency.{side, edge}
-use Rattle.adjacency.specs.Sums.{classIn, classDegree}
+use Rattle.adjacency.specs.Sums.{sumsSize, classIn, classDegree}
 use Rattle.adjacency.proofs.Mirrored.{mirrored-simple}
 use Rattle.adjacency.proofs.Sums.{classDegree-none, classDegree-le, classDegrees-more}
 use Rattle.adjacency.proofs.sum_classes.Statement.{statement}
@@ -15,7 +13,7 @@ use Rattle.adjacency.proofs.sum_classes.Tie as tie
 
 abbrev Inv-loop : tie.InvT-loop
 Inv-loop adjacency n classes sums₀ v₀ sums v =
-    (v ≤ n) × (length sums ≡ 8200) × ((k w : ℕ) → w < n → getD sums (k * side + w) 0 ≡ classDegree v (classIn classes) (edge adjacency) k w)
+    (v ≤ n) × (length sums ≡ sumsSize) × ((k w : ℕ) → w < n → getD sums (k * side + w) 0 ≡ classDegree v (classIn classes) (edge adjacency) k w)
 
 abbrev μ-loop : tie.MeasureT-loop
 μ-loop adjacency n classes sums₀ v₀ sums v = n - v
