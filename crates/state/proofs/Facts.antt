@@ -1,0 +1,109 @@
+-- What a valid state is, as named facts, and back.
+-- Assumes nothing.
+use mathlib.Core.Path.{_≡_, refl, sym, ap, _∙_}
+use mathlib.Core.Bool.{Bool, true, false, _&&_, cond}
+use mathlib.Core.List.{List}
+use mathlib.Core.Logic.{_⊎_, inl, inr}
+use Prim.Native.Nat.{ℕ, _≤_}
+use native.Mathlib.Decide.{ℕ-discrete}
+use native.Mathlib.Omega.{arith}
+use lib.Dec.{eqb, leb}
+use lib.ListN.{length, getD}
+use borrow.Author.Tests.{eqb-true, eq-eqb, leb-true, le-leb}
+use Rattle.finite.proofs.All.{and-left, and-right, and-both}
+use Rattle.graph.specs.Target.{Target, Partial}
+use Rattle.graph.specs.Tests.{degrees, passes}
+use Rattle.graph.proofs.Passes.{passes-passed}
+use Rattle.graph.proofs.Realizability.{table-target}
+use Rattle.slices.specs.Slices.{allZero}
+use Rattle.slices.proofs.Zero.{all-zero-at, zeros-all-zero}
+use Rattle.table.specs.Layout.{mostVertices, vertices, vertexDegree}
+use Rattle.journal.specs.Journal.{journalSize, phase, journalOk, jdmOf}
+use Rattle.journal.proofs.Facts.{journal-facts}
+use Rattle.journal.proofs.Table.{jdm-table}
+use Rattle.adjacency.specs.Adjacency.{adjacencySize, adjacencyOk, edge}
+use Rattle.state.specs.Valid.{lengthsOk, laidOk, valid}
+use Rattle.state.specs.Laid.{vertexCount, degreeAt}
+
+-- a state in phase 1
+pub record Laid (j g : List ℕ) : Type 0 where
+  pub passed : passes (jdmOf j) ≡ true
+  pub vertices-le : vertexCount j ≤ mostVertices
+  pub adjacency-ok : adjacencyOk (vertexCount j) (degreeAt j) (jdmOf j) g ≡ true
+  pub target : Target (vertexCount j) degrees (degreeAt j) (λ k. k) (jdmOf j)
+
+-- a valid state: both lengths, the journal's check, and the matrix in either phase
+pub record StateFacts (j g : List ℕ) : Type 0 where
+  pub journal-length : length j ≡ journalSize
+  pub adjacency-length : length g ≡ adjacencySize
+  pub journal-ok : journalOk j ≡ true
+  pub empty : phase j ≡ 0 → (p : ℕ) → getD g p 0 ≡ 0
+  pub laid : phase j ≡ 1 → Laid j g
+
+module _ (j g : List ℕ) where
+  pub lengths-journal : lengthsOk j g ≡ true → length j ≡ journalSize
+  lengths-journal h = eqb-true (length j) journalSize (and-left (eqb (length j) journalSize) (eqb (length g) adjacencySize) h)
+
+  pub lengths-adjacency : lengthsOk j g ≡ true → length g ≡ adjacencySize
+  lengths-adjacency h = eqb-true (length g) adjacencySize (and-right (eqb (length j) journalSize) (eqb (length g) adjacencySize) h)
+
+  pub lengths-both : length j ≡ journalSize → length g ≡ adjacencySize → lengthsOk j g ≡ true
+  lengths-both a b = and-both _ _ (eq-eqb (length j) journalSize a) (eq-eqb (length g) adjacencySize b)
+
+  -- the check of the matrix, in either phase
+  matrixOk : Bool
+  matrixOk = cond (eqb (phase j) 0) (allZero g) (laidOk (jdmOf j) g)
+
+  pub valid-journal : valid j g ≡ true → journalOk j ≡ true
+  unfolding matrixOk
+  valid-journal h = and-left (journalOk j) matrixOk h
+
+  matrix-ok : valid j g ≡ true → matrixOk ≡ true
+  unfolding matrixOk
+  matrix-ok h = and-right (journalOk j) matrixOk h
+
+  laid-tests : laidOk (jdmOf j) g ≡ true → (passes (jdmOf j) ≡ true) × (vertexCount j ≤ mostVertices)
+      × (adjacencyOk (vertexCount j) (degreeAt j) (jdmOf j) g ≡ true)
+  laid-tests h =
+      let two = and-left (passes (jdmOf j) && leb (vertexCount j) mostVertices) (adjacencyOk (vertexCount j) (degreeAt j) (jdmOf j) g) h in (
+        and-left (passes (jdmOf j)) (leb (vertexCount j) mostVertices) two,
+        leb-true (vertexCount j) mostVertices (and-right (passes (jdmOf j)) (leb (vertexCount j) mostVertices) two),
+        and-right (passes (jdmOf j) && leb (vertexCount j) mostVertices) (adjacencyOk (vertexCount j) (degreeAt j) (jdmOf j) g) h,
+      )
+
+  laid-facts : journalOk j ≡ true → laidOk (jdmOf j) g ≡ true → Laid j g
+  laid-facts ok h =
+      let t = laid-tests h in
+      record {
+        passed = t .0;
+        vertices-le = t .1;
+        adjacency-ok = t .2;
+        target = table-target (jdmOf j) (jdm-table j ok) (passes-passed (jdmOf j) .0 (t .0));
+      }
+
+  pub valid-facts : lengthsOk j g ≡ true → valid j g ≡ true → StateFacts j g
+  unfolding matrixOk
+  valid-facts l h =
+      record {
+        journal-length = lengths-journal l;
+        adjacency-length = lengths-adjacency l;
+        journal-ok = valid-journal h;
+        empty = λ e. all-zero-at g (rw (eq-eqb (phase j) 0 e) at (matrix-ok h));
+        laid = λ e. laid-facts (valid-journal h) (rw e at (matrix-ok h));
+      }
+
+  pub facts-valid-0 : phase j ≡ 0 → journalOk j ≡ true → ((p : ℕ) → getD g p 0 ≡ 0) → valid j g ≡ true
+  facts-valid-0 e ok zeros = and-both (journalOk j) _ ok (rw (eq-eqb (phase j) 0 e) (zeros-all-zero g (λ p l. zeros p)))
+
+  pub facts-valid-1 : phase j ≡ 1 → journalOk j ≡ true → passes (jdmOf j) ≡ true → vertexCount j ≤ mostVertices
+      → adjacencyOk (vertexCount j) (degreeAt j) (jdmOf j) g ≡ true → valid j g ≡ true
+  facts-valid-1 e ok p n a =
+      and-both (journalOk j) _ ok (rw e (and-both (passes (jdmOf j) && leb (vertexCount j) mostVertices) _ (and-both _ _ p (le-leb _ _ n)) a))
+
+-- a valid journal is in phase 0 or in phase 1
+pub phases : (j : List ℕ) → journalOk j ≡ true → (phase j ≡ 0) ⊎ (phase j ≡ 1)
+phases j ok = go (ℕ-discrete (phase j) 0)
+  where
+    go : Dec (phase j ≡ 0) → (phase j ≡ 0) ⊎ (phase j ≡ 1)
+    go (yes e) = inl e
+    go (no e) = inr (omega (arith, journal-facts j ok .phase-le))

@@ -1,0 +1,33 @@
+-- The verdict on a table, and the check of a laid state.
+-- Assumes nothing.
+use mathlib.Core.Path.{_≡_, refl, sym, subst, _∙_}
+use mathlib.Core.Bool.{Bool, true, false, _&&_}
+use mathlib.Core.List.{List}
+use Prim.Native.Nat.{ℕ}
+use lib.Dec.{leb}
+use borrow.Author.Tests.{leb-true, le-leb}
+use Rattle.graph.specs.Tests.{passes}
+use Rattle.answer.specs.declared.Refusal.{Refusal}
+use Rattle.answer.specs.declared.Verdict.{Verdict}
+use Rattle.answer.specs.declared.Verdict.the-variants.{Go, Stop}
+use Rattle.table.specs.Layout.{mostVertices, vertices, vertexDegree, layoutVerdict}
+use Rattle.table.proofs.Verdict.{layout-go, go-layout}
+use Rattle.adjacency.specs.Adjacency.{adjacencyOk}
+use Rattle.state.specs.Valid.{laidOk}
+
+abbrev IsGo : Verdict → Type 0
+IsGo Go = Unit {0}
+IsGo (Stop r) = ⊥
+
+module _ (T : ℕ → ℕ → ℕ) (g : List ℕ) where
+  pub laid-go : layoutVerdict T ≡ Go → laidOk T g ≡ adjacencyOk (vertices T) (vertexDegree T) T g
+  laid-go e = rw (layout-go T e .0, le-leb (vertices T) mostVertices (layout-go T e .1))
+
+  -- a table that is turned down is not laid
+  pub laid-stop : (r : Refusal) → layoutVerdict T ≡ Stop r → laidOk T g ≡ false
+  laid-stop r e = go (passes T) refl (leb (vertices T) mostVertices) refl
+    where
+      go : (p : Bool) → passes T ≡ p → (q : Bool) → leb (vertices T) mostVertices ≡ q → laidOk T g ≡ false
+      go true a true b = absurd (subst IsGo (sym (go-layout T a (leb-true (vertices T) mostVertices b)) ∙ e) tt)
+      go true a false b = rw (a, b)
+      go false a q b = rw a
