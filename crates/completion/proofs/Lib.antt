@@ -1,2 +1,3 @@
 pub mod Cellwise
 pub mod Works
+pub mod Entry

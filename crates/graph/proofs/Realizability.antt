@@ -63,8 +63,9 @@ module _ (T : ℕ → ℕ → ℕ) (table : Table T) where
       past : (k l : ℕ) → mostDegree < k → ownJdm vertices E k l ≡ 0
       past k l a = jdm-none vertices (degree vertices E) E k l (λ v p e. absurd (omega (arith, low v p)))
 
-      cells : (k l : ℕ) → ownJdm vertices E k l ≡ T k l
-      cells k l = go (decLt k degrees) (decLt l degrees)
+      -- in every cell, those of degree 0 and above 40 included
+      pub has-table : (k l : ℕ) → ownJdm vertices E k l ≡ T k l
+      has-table k l = go (decLt k degrees) (decLt l degrees)
         where
           go : Dec (k < degrees) → Dec (l < degrees) → ownJdm vertices E k l ≡ T k l
           go (yes p) (yes q) = complete-has-target vertices degrees degreeOf T E table-target part full k l p q
@@ -117,7 +118,7 @@ realizability T table = (forth, back)
     forth h =
         let passed = passes-passed T .0 h in
         let r = target-reached (vertices T table passed) degrees (degreeOf T table passed) (λ k. k) T (table-target T table passed) in
-        (vertices T table passed, r .0, r .1 .simple, cells T table passed (r .0) (r .1) (r .2))
+        (vertices T table passed, r .0, r .1 .simple, has-table T table passed (r .0) (r .1) (r .2))
 
     back : Realized T → passes T ≡ true
     back r = passes-passed T .1 (graph-passed T table (r .0) (r .1) (r .2) (r .3))
