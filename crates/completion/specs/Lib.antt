@@ -1,3 +1,4 @@
 pub mod Choice
 pub mod Complete
 pub mod Cellwise
+pub mod Cursor
