@@ -1,3 +1,4 @@
 pub mod Cellwise
 pub mod Works
 pub mod Entry
+pub mod Cursor
