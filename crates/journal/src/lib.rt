@@ -4,12 +4,11 @@ ghost use mathlib.Core.Bool.{true, _&&_};
 ghost use lib.Dec.{eqb};
 ghost use Rattle.finite.specs.Range.{allTo};
 ghost use Rattle.slices.specs.Slices.{allZero};
-ghost use mathlib.Core.List.{_∷_};
-ghost use Prim.Native.Nat.{ℕ, _+_, _*_, _≤_, _<_};
+ghost use Prim.Native.Nat.{_+_, _*_, _≤_, _<_};
 ghost use lib.ListN.{length};
 ghost use Rattle.table.specs.Block.{blockMost, blockLength, records, firstBad};
 ghost use Rattle.table.specs.Cells.{matrixOf, AtMost, cellSumMost};
-ghost use Rattle.journal.specs.Journal.{journalSize, mostBlocks, slotSize, slotAt, slotLength, blockAt, slotRest, slotOk, journalOk, jdmOf, sameBlock, stored, laid, phase, blocks};
+ghost use Rattle.journal.specs.Journal.{journalSize, mostBlocks, slotLength, blockAt, slotRest, slotOk, journalOk, jdmOf, sameBlock, stored, laid, phase, blocks};
 use slices::all_zero;
 use slices::same_bytes;
 use slices::wide;
@@ -49,7 +48,7 @@ pub fn slot_length(journal: &[u8], i: usize) -> usize
 // The block of slot i, a part of the journal itself.
 pub fn block_part(journal: &[u8], i: usize) -> &[u8]
     requires { ⌜ (length (now journal) ≡ journalSize) × (i < mostBlocks) × (slotLength (now journal) i ≤ blockMost) ⌝ }
-    ensures { λ r. ⌜ now r ≡ blockAt (now (journal .entry)) i ⌝ }
+    ensures { λ r. ⌜ (now r ≡ blockAt (now (journal .entry)) i) × (length (now r) ≤ blockMost) ⌝ }
 {
     let n = slot_length(journal, i);
     let from = 3 + SLOT_SIZE * i;

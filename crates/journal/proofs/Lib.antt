@@ -1,0 +1,7 @@
+pub mod Facts
+pub mod Matrix
+pub mod Slot
+pub mod Store
+pub mod Laid
+pub mod Empty
+pub mod Table
