@@ -69,18 +69,18 @@ module _ (n : ℕ) (cls : ℕ → ℕ) (T : ℕ → ℕ → ℕ) (g : List ℕ) 
   w : ℕ
   w = openW n cls g k l v
 
-  g′ : List ℕ
+  abbrev g′ : List ℕ
   g′ = joinBytes n cls g (openV n cls g k l) (openW n cls g k l (openV n cls g k l))
 
   simple : Simple n (edge g)
   simple = f .partial .simple
 
   jo : Joined n cls own (edge g) v w (edge g′)
-  unfolding v w g′
+  unfolding v w
   jo = join-bytes n cls T g v w (f .sized) (f .few) (f .target) (f .partial) (c .pair)
 
   after : AfterJoin n degrees cls own T (edge g) v w (jo .twice) (edge g′)
-  unfolding v w g′
+  unfolding v w
   after = join-works n degrees cls own T (edge g) v w (f .target) (f .partial) (c .pair) (edge g′) jo
 
   -- before the join: no row below v has an open column
@@ -101,7 +101,7 @@ module _ (n : ℕ) (cls : ℕ → ℕ) (T : ℕ → ℕ → ℕ) (g : List ℕ) 
       (λ e q. e (sym uk ∙ ap cls q ∙ xl))
 
   pub rows-after : RowsDone n cls g′ k l (openV n cls g k l)
-  unfolding v w g′
+  unfolding v w
   rows-after u x uv xn uk = go (closed-either cls g k l u x g′ (rows-before u x uv xn uk))
     where
       go : (edge g u x ≡ 0 → ⊥) ⊎ (openColumn cls g′ k l u x ≡ false) → openColumn cls g′ k l u x ≡ false
@@ -112,13 +112,16 @@ module _ (n : ℕ) (cls : ℕ → ℕ) (T : ℕ → ℕ → ℕ) (g : List ℕ) 
           closed false p = p
           closed true p =
               let cf = column-facts cls g′ k l u x p in
-              absurd (omega (arith, cf .1,
-                join-rows n degrees cls own T (f .target) (edge g) v w (f .partial) (c .pair) (edge g′) jo k l (c .row) (c .column) (c .above) full-before u uv uk x xn (cf .0) (cf .2)))
+              absurd (omega (
+                arith,
+                cf .1,
+                join-rows n degrees cls own T (f .target) (edge g) v w (f .partial) (c .pair) (edge g′) jo k l (c .row) (c .column) (c .above) full-before u uv uk x xn (cf .0) (cf .2),
+              ))
 
   -- in the row of the pair, the columns below w are done, and below what its switch freed they stay so
   pub columns-after : ColumnsDone cls g′ k l (openV n cls g k l) (min (freed n cls g (openV n cls g k l) (openW n cls g k l (openV n cls g k l)))
       (openW n cls g k l (openV n cls g k l) + 1))
-  unfolding v w g′
+  unfolding v w
   columns-after x h = go (decLt x w)
     where
       not-freed : unsaturated n cls own (edge g) v ≡ false → x ≢ transferAt n cls g v w

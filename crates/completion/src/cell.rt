@@ -1,5 +1,6 @@
 // Filling one cell, one row of cells, all cells.
-use crate::pair::{open_pair, Cell};
+use crate::pair::Cell;
+use crate::pair::open_pair;
 
 // Edges added and switches made.
 pub struct Totals {
@@ -21,8 +22,7 @@ pub struct Step {
 }
 
 // The lowest vertex of from, .., to - 1 with fewer than k edges; to where there is none.
-fn advance(held: &[usize; 200], from: usize, to: usize, k: usize) -> usize
-{
+fn advance(held: &[usize; 200], from: usize, to: usize, k: usize) -> usize {
     let mut i = from;
     while i < to {
         if held[i] < k {
@@ -33,8 +33,7 @@ fn advance(held: &[usize; 200], from: usize, to: usize, k: usize) -> usize
     i
 }
 
-fn least(a: usize, b: usize) -> usize
-{
+fn least(a: usize, b: usize) -> usize {
     if a < b {
         return a;
     }
@@ -42,8 +41,15 @@ fn least(a: usize, b: usize) -> usize
 }
 
 // The lowest open pair of the cell joined. A switch of v frees a column that was passed: the cursor falls to it.
-fn fill_step(adjacency: &mut [u8], held: &mut [usize; 200], classes: &[u8; 200], n: usize, cell: Cell, at: Cursor, totals: Totals) -> Step
-{
+fn fill_step(
+    adjacency: &mut [u8],
+    held: &mut [usize; 200],
+    classes: &[u8; 200],
+    n: usize,
+    cell: Cell,
+    at: Cursor,
+    totals: Totals,
+) -> Step {
     let pair = open_pair(adjacency, cell, at.v, at.w);
     let low_k = advance(held, at.low_k, cell.to_k, cell.k);
     let low_l = advance(held, at.low_l, cell.to_l, cell.l);
@@ -63,8 +69,15 @@ fn fill_step(adjacency: &mut [u8], held: &mut [usize; 200], classes: &[u8; 200],
 }
 
 // m joins in the cell.
-fn fill_cell(adjacency: &mut [u8], held: &mut [usize; 200], classes: &[u8; 200], n: usize, cell: Cell, m: usize, totals: Totals) -> Totals
-{
+fn fill_cell(
+    adjacency: &mut [u8],
+    held: &mut [usize; 200],
+    classes: &[u8; 200],
+    n: usize,
+    cell: Cell,
+    m: usize,
+    totals: Totals,
+) -> Totals {
     let mut at = Cursor {
         v: cell.from_k,
         w: 0,
@@ -81,8 +94,7 @@ fn fill_cell(adjacency: &mut [u8], held: &mut [usize; 200], classes: &[u8; 200],
 }
 
 // The joins that cell (k, l) misses.
-fn missing(adjacency: &[u8], cells: &[u32; 1681], cell: Cell) -> usize
-{
+fn missing(adjacency: &[u8], cells: &[u32; 1681], cell: Cell) -> usize {
     let want = table::cells::cell(cells, cell.k, cell.l);
     let have = joining::cell::block_sum(adjacency, cell.from_k, cell.to_k, cell.from_l, cell.to_l);
     if cell.k == cell.l {

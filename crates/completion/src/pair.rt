@@ -8,7 +8,6 @@ ghost use Rattle.finite.specs.Range.{lowest};
 ghost use Rattle.adjacency.specs.Adjacency.{adjacencySize, side, edge};
 ghost use Rattle.completion.specs.Choice.{openV, openW};
 ghost use Rattle.completion.specs.Cursor.{freeColumn, CellRange, RowsDone, ColumnsDone};
-
 use adjacency::SIDE;
 
 // Cell (k, l): the vertices of degree k are from_k, .., to_k - 1, those of degree l are from_l, .., to_l - 1.
@@ -67,8 +66,7 @@ fn first_column(cell: Cell, v: usize, w: usize) -> usize
 }
 
 // The lowest open pair of the cell. All rows of the cell below v are done, and so are the columns below w in row v.
-pub fn open_pair(adjacency: &[u8], cell: Cell, v: usize, w: usize) -> Pair
-{
+pub fn open_pair(adjacency: &[u8], cell: Cell, v: usize, w: usize) -> Pair {
     let to_k = cell.to_k;
     let to_l = cell.to_l;
     let mut row = v;

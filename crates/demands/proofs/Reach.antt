@@ -104,7 +104,7 @@ module _ (s : State) (t : Tally) (r : Reach s t) where
 
   not-laid : (number : ℕ) (b : List ℕ) → counts t number b ≡ true → t .laid ≡ false
   not-laid number b h = go (t .laid) refl (and-right (wellFormed b && eqb number (t .blocks)) (not (t .laid))
-        (and-left (wellFormed b && eqb number (t .blocks) && not (t .laid)) (ltb (t .blocks) mostBlocks) h))
+      (and-left (wellFormed b && eqb number (t .blocks) && not (t .laid)) (ltb (t .blocks) mostBlocks) h))
     where
       go : (l : Bool) → t .laid ≡ l → not (t .laid) ≡ true → t .laid ≡ false
       go false p q = p
@@ -126,7 +126,7 @@ module _ (s : State) (t : Tally) (r : Reach s t) where
             phased = x .phase ∙ r .phased;
             counted =
                 subst (λ (b : Bool). Counted b (edgeTotal (takeJournal (takeAnswer (s .journal) (s .adjacency) number b′) (s .journal) b′) (s .adjacency)) (t .edges)) (sym l)
-                    (subst (λ (b : Bool). Counted b (edgeTotal (s .journal) (s .adjacency)) (t .edges)) l (r .counted));
+                (subst (λ (b : Bool). Counted b (edgeTotal (s .journal) (s .adjacency)) (t .edges)) l (r .counted));
           }
         where
           b′ : List ℕ
