@@ -1,0 +1,107 @@
+// The C interface: one export for each entry (include/replica.h). Each calls the entry and hands its answer back in document 01's numbers.
+mod numbers;
+
+ghost use mathlib.Core.Path.{_≡_};
+ghost use lib.ListN.{length};
+ghost use Rattle.answer.specs.Numbers.{clearNumbers, takeNumbers, layOutNumbers, figuresNumbers, addNumbers, removeNumbers, completeNumbers, writtenNumbers};
+ghost use Rattle.intake.specs.Clear.{clearAnswer, clearBytes};
+ghost use Rattle.intake.specs.Take.{takeAnswer, takeJournal};
+ghost use Rattle.intake.specs.Held.{lengthAnswer};
+ghost use Rattle.intake.specs.LayOut.{layOutAnswer, layOutJournal};
+ghost use Rattle.intake.specs.Figures.{figuresAnswer};
+ghost use Rattle.editing.specs.Add.{addAnswer, addAdjacency};
+ghost use Rattle.editing.specs.Remove.{removeAnswer, removeAdjacency};
+ghost use Rattle.editing.specs.List.{listAnswer, listOutput};
+ghost use Rattle.survey.specs.Survey.{surveyAnswer, surveyOutput};
+ghost use Rattle.completion.specs.Complete.{completeAnswer, completeAdjacency};
+ghost use Rattle.capi.specs.Flat.{flat, heldNumbers};
+
+// number is 0 where the call did its work, else the refusal's number with its places in first and second. What is not named is 0.
+#[repr(C)]
+pub struct ReplicaAnswer {
+    pub number: usize,
+    pub first: usize,
+    pub second: usize,
+    pub third: usize,
+    pub fourth: usize,
+    pub fifth: usize,
+}
+
+#[no_mangle]
+pub extern "C" fn replica_clear(journal: &mut [u8], adjacency: &mut [u8]) -> ReplicaAnswer
+    ensures { λ r. ⌜ r ≡ flat (clearNumbers (clearAnswer (now (journal .entry)) (now (adjacency .entry)))) ⌝ }
+    ensures { λ _. ⌜ now (journal .exit) ≡ clearBytes (clearAnswer (now (journal .entry)) (now (adjacency .entry))) (now (journal .entry)) ⌝ }
+    ensures { λ _. ⌜ now (adjacency .exit) ≡ clearBytes (clearAnswer (now (journal .entry)) (now (adjacency .entry))) (now (adjacency .entry)) ⌝ }
+{
+    numbers::of_clear(intake::clearing::clear(journal, adjacency))
+}
+
+#[no_mangle]
+pub extern "C" fn replica_take_block(journal: &mut [u8], adjacency: &[u8], number: usize, block: &[u8]) -> ReplicaAnswer
+    ensures { λ r. ⌜ r ≡ flat (takeNumbers (takeAnswer (now (journal .entry)) (now (adjacency .entry)) number (now (block .entry)))) ⌝ }
+    ensures { λ _. ⌜ now (journal .exit) ≡ takeJournal (takeAnswer (now (journal .entry)) (now (adjacency .entry)) number (now (block .entry))) (now (journal .entry)) (now (block .entry)) ⌝ }
+{
+    numbers::of_take(intake::taking::take_block(journal, adjacency, number, block))
+}
+
+#[no_mangle]
+pub extern "C" fn replica_held_block(journal: &[u8], adjacency: &[u8], number: usize) -> ReplicaAnswer
+    ensures { λ r. ⌜ r ≡ flat (heldNumbers number (lengthAnswer (now (journal .entry)) (now (adjacency .entry)) number)) ⌝ }
+{
+    numbers::of_held(number, intake::reading_back::held_block_length(journal, adjacency, number))
+}
+
+#[no_mangle]
+pub extern "C" fn replica_lay_out(journal: &mut [u8], adjacency: &[u8]) -> ReplicaAnswer
+    ensures { λ r. ⌜ r ≡ flat (layOutNumbers (layOutAnswer (now (journal .entry)) (now (adjacency .entry)))) ⌝ }
+    ensures { λ _. ⌜ now (journal .exit) ≡ layOutJournal (layOutAnswer (now (journal .entry)) (now (adjacency .entry))) (now (journal .entry)) ⌝ }
+{
+    numbers::of_lay_out(intake::laying_out::lay_out(journal, adjacency))
+}
+
+#[no_mangle]
+pub extern "C" fn replica_add_edge(journal: &[u8], adjacency: &mut [u8], v: usize, w: usize) -> ReplicaAnswer
+    ensures { λ r. ⌜ r ≡ flat (addNumbers (addAnswer (now (journal .entry)) (now (adjacency .entry)) v w)) ⌝ }
+    ensures { λ _. ⌜ now (adjacency .exit) ≡ addAdjacency (addAnswer (now (journal .entry)) (now (adjacency .entry)) v w) (now (journal .entry)) (now (adjacency .entry)) v w ⌝ }
+{
+    numbers::of_add(editing::add::add_edge(journal, adjacency, v, w))
+}
+
+#[no_mangle]
+pub extern "C" fn replica_remove_edge(journal: &[u8], adjacency: &mut [u8], v: usize, w: usize) -> ReplicaAnswer
+    ensures { λ r. ⌜ r ≡ flat (removeNumbers (removeAnswer (now (journal .entry)) (now (adjacency .entry)) v w)) ⌝ }
+    ensures { λ _. ⌜ now (adjacency .exit) ≡ removeAdjacency (removeAnswer (now (journal .entry)) (now (adjacency .entry)) v w) (now (adjacency .entry)) v w ⌝ }
+{
+    numbers::of_remove(editing::remove::remove_edge(journal, adjacency, v, w))
+}
+
+#[no_mangle]
+pub extern "C" fn replica_complete(journal: &[u8], adjacency: &mut [u8]) -> ReplicaAnswer
+    ensures { λ r. ⌜ r ≡ flat (completeNumbers (completeAnswer (now (journal .entry)) (now (adjacency .entry)))) ⌝ }
+    ensures { λ _. ⌜ now (adjacency .exit) ≡ completeAdjacency (completeAnswer (now (journal .entry)) (now (adjacency .entry))) (now (journal .entry)) (now (adjacency .entry)) ⌝ }
+{
+    numbers::of_complete(completion::entry::complete(journal, adjacency))
+}
+
+#[no_mangle]
+pub extern "C" fn replica_edge_list(journal: &[u8], adjacency: &[u8], output: &mut [u8]) -> ReplicaAnswer
+    ensures { λ r. ⌜ r ≡ flat (writtenNumbers (listAnswer (now (journal .entry)) (now (adjacency .entry)) (length (now (output .entry))))) ⌝ }
+    ensures { λ _. ⌜ now (output .exit) ≡ listOutput (listAnswer (now (journal .entry)) (now (adjacency .entry)) (length (now (output .entry)))) (now (journal .entry)) (now (adjacency .entry)) (now (output .entry)) ⌝ }
+{
+    numbers::of_written(editing::list::edge_list(journal, adjacency, output))
+}
+
+#[no_mangle]
+pub extern "C" fn replica_jdm_of_edges(edges: &[u8], output: &mut [u8]) -> ReplicaAnswer
+    ensures { λ r. ⌜ r ≡ flat (writtenNumbers (surveyAnswer (now (edges .entry)) (length (now (output .entry))))) ⌝ }
+    ensures { λ _. ⌜ now (output .exit) ≡ surveyOutput (surveyAnswer (now (edges .entry)) (length (now (output .entry)))) (now (edges .entry)) (now (output .entry)) ⌝ }
+{
+    numbers::of_written(survey::jdm_of_edges(edges, output))
+}
+
+#[no_mangle]
+pub extern "C" fn replica_figures(journal: &[u8], adjacency: &[u8]) -> ReplicaAnswer
+    ensures { λ r. ⌜ r ≡ flat (figuresNumbers (figuresAnswer (now (journal .entry)) (now (adjacency .entry)))) ⌝ }
+{
+    numbers::of_figures(intake::figures::figures(journal, adjacency))
+}

@@ -1,0 +1,145 @@
+// Document 01's numbers of each answer.
+ghost use mathlib.Core.Path.{_≡_};
+ghost use Prim.Native.Nat.{_<_};
+ghost use Rattle.answer.specs.Numbers.{numberOf, done, refused, clearNumbers, takeNumbers, layOutNumbers, figuresNumbers, addNumbers, removeNumbers, completeNumbers, writtenNumbers};
+ghost use Rattle.capi.specs.Flat.{flat, heldNumbers};
+
+use answer::{AddAnswer, Cause, ClearAnswer, CompleteAnswer, FiguresAnswer, LayOutAnswer, LengthAnswer, Refusal, RemoveAnswer, TakeAnswer, WrittenAnswer};
+use crate::ReplicaAnswer;
+
+fn number_of(cause: Cause) -> usize
+    ensures { λ r. ⌜ r ≡ numberOf cause ⌝ }
+{
+    match cause {
+        Cause::Length => 1,
+        Cause::Invalid => 2,
+        Cause::Phase => 3,
+        Cause::BlockLength => 4,
+        Cause::Record => 5,
+        Cause::BlockNumber => 6,
+        Cause::Conflict => 7,
+        Cause::JournalFull => 8,
+        Cause::OddDiagonal => 9,
+        Cause::UnevenRow => 10,
+        Cause::OverfullCell => 11,
+        Cause::TooManyVertices => 12,
+        Cause::VertexNumber => 13,
+        Cause::SameVertex => 14,
+        Cause::Linked => 15,
+        Cause::CellFull => 16,
+        Cause::NotLinked => 17,
+        Cause::OutputLength => 18,
+        Cause::EdgeList => 19,
+        Cause::DegreeAbove => 20,
+    }
+}
+
+fn two(number: usize, first: usize, second: usize) -> ReplicaAnswer
+    ensures { λ r. ⌜ r ≡ flat (record { number = number; first = first; second = second; third = 0; fourth = 0; fifth = 0 }) ⌝ }
+{
+    ReplicaAnswer {
+        number,
+        first,
+        second,
+        third: 0,
+        fourth: 0,
+        fifth: 0,
+    }
+}
+
+fn of_refusal(r: Refusal) -> ReplicaAnswer
+    ensures { λ a. ⌜ a ≡ flat (refused r) ⌝ }
+{
+    let cause = r.cause;
+    two(number_of(cause), r.first, r.second)
+}
+
+pub fn of_clear(answer: ClearAnswer) -> ReplicaAnswer
+    ensures { λ r. ⌜ r ≡ flat (clearNumbers answer) ⌝ }
+{
+    match answer {
+        ClearAnswer::Cleared => two(0, 0, 0),
+        ClearAnswer::Refused(r) => of_refusal(r),
+    }
+}
+
+pub fn of_take(answer: TakeAnswer) -> ReplicaAnswer
+    ensures { λ r. ⌜ r ≡ flat (takeNumbers answer) ⌝ }
+{
+    match answer {
+        TakeAnswer::Taken(next) => two(0, 0, next),
+        TakeAnswer::Held => two(0, 1, 0),
+        TakeAnswer::Refused(r) => of_refusal(r),
+    }
+}
+
+pub fn of_held(number: usize, answer: LengthAnswer) -> ReplicaAnswer
+    requires { ⌜ number < 64 ⌝ }
+    ensures { λ r. ⌜ r ≡ flat (heldNumbers number answer) ⌝ }
+{
+    match answer {
+        LengthAnswer::Length(n) => two(0, 3 + journal::SLOT_SIZE * number, n),
+        LengthAnswer::Refused(r) => of_refusal(r),
+    }
+}
+
+pub fn of_lay_out(answer: LayOutAnswer) -> ReplicaAnswer
+    ensures { λ r. ⌜ r ≡ flat (layOutNumbers answer) ⌝ }
+{
+    match answer {
+        LayOutAnswer::LaidOut(n) => two(0, n, 0),
+        LayOutAnswer::Refused(r) => of_refusal(r),
+    }
+}
+
+pub fn of_add(answer: AddAnswer) -> ReplicaAnswer
+    ensures { λ r. ⌜ r ≡ flat (addNumbers answer) ⌝ }
+{
+    match answer {
+        AddAnswer::Added(switches) => two(0, switches, 0),
+        AddAnswer::Refused(r) => of_refusal(r),
+    }
+}
+
+pub fn of_remove(answer: RemoveAnswer) -> ReplicaAnswer
+    ensures { λ r. ⌜ r ≡ flat (removeNumbers answer) ⌝ }
+{
+    match answer {
+        RemoveAnswer::Removed => two(0, 0, 0),
+        RemoveAnswer::Refused(r) => of_refusal(r),
+    }
+}
+
+pub fn of_complete(answer: CompleteAnswer) -> ReplicaAnswer
+    ensures { λ r. ⌜ r ≡ flat (completeNumbers answer) ⌝ }
+{
+    match answer {
+        CompleteAnswer::Completed(joins, switches) => two(0, joins, switches),
+        CompleteAnswer::Refused(r) => of_refusal(r),
+    }
+}
+
+pub fn of_written(answer: WrittenAnswer) -> ReplicaAnswer
+    ensures { λ r. ⌜ r ≡ flat (writtenNumbers answer) ⌝ }
+{
+    match answer {
+        WrittenAnswer::Written(n) => two(0, n, 0),
+        WrittenAnswer::Refused(r) => of_refusal(r),
+    }
+}
+
+pub fn of_figures(answer: FiguresAnswer) -> ReplicaAnswer
+    ensures { λ r. ⌜ r ≡ flat (figuresNumbers answer) ⌝ }
+{
+    match answer {
+        FiguresAnswer::Reported(f) => ReplicaAnswer {
+            number: 0,
+            first: f.phase,
+            second: f.blocks,
+            third: f.vertices,
+            fourth: f.wanted,
+            fifth: f.laid,
+        },
+        FiguresAnswer::Refused(r) => of_refusal(r),
+    }
+}
