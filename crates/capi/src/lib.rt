@@ -37,7 +37,12 @@ pub extern "C" fn replica_clear(journal: &mut [u8], adjacency: &mut [u8]) -> Rep
 }
 
 #[no_mangle]
-pub extern "C" fn replica_take_block(journal: &mut [u8], adjacency: &[u8], number: usize, block: &[u8]) -> ReplicaAnswer
+pub extern "C" fn replica_take_block(
+    journal: &mut [u8],
+    adjacency: &[u8],
+    number: usize,
+    block: &[u8],
+) -> ReplicaAnswer
     ensures { λ r. ⌜ r ≡ flat (takeNumbers (takeAnswer (now (journal .entry)) (now (adjacency .entry)) number (now (block .entry)))) ⌝ }
     ensures { λ _. ⌜ now (journal .exit) ≡ takeJournal (takeAnswer (now (journal .entry)) (now (adjacency .entry)) number (now (block .entry))) (now (journal .entry)) (now (block .entry)) ⌝ }
 {
@@ -45,10 +50,17 @@ pub extern "C" fn replica_take_block(journal: &mut [u8], adjacency: &[u8], numbe
 }
 
 #[no_mangle]
-pub extern "C" fn replica_held_block(journal: &[u8], adjacency: &[u8], number: usize) -> ReplicaAnswer
+pub extern "C" fn replica_held_block(
+    journal: &[u8],
+    adjacency: &[u8],
+    number: usize,
+) -> ReplicaAnswer
     ensures { λ r. ⌜ r ≡ flat (heldNumbers number (lengthAnswer (now (journal .entry)) (now (adjacency .entry)) number)) ⌝ }
 {
-    numbers::of_held(number, intake::reading_back::held_block_length(journal, adjacency, number))
+    numbers::of_held(
+        number,
+        intake::reading_back::held_block_length(journal, adjacency, number),
+    )
 }
 
 #[no_mangle]
@@ -60,7 +72,12 @@ pub extern "C" fn replica_lay_out(journal: &mut [u8], adjacency: &[u8]) -> Repli
 }
 
 #[no_mangle]
-pub extern "C" fn replica_add_edge(journal: &[u8], adjacency: &mut [u8], v: usize, w: usize) -> ReplicaAnswer
+pub extern "C" fn replica_add_edge(
+    journal: &[u8],
+    adjacency: &mut [u8],
+    v: usize,
+    w: usize,
+) -> ReplicaAnswer
     ensures { λ r. ⌜ r ≡ flat (addNumbers (addAnswer (now (journal .entry)) (now (adjacency .entry)) v w)) ⌝ }
     ensures { λ _. ⌜ now (adjacency .exit) ≡ addAdjacency (addAnswer (now (journal .entry)) (now (adjacency .entry)) v w) (now (journal .entry)) (now (adjacency .entry)) v w ⌝ }
 {
@@ -68,7 +85,12 @@ pub extern "C" fn replica_add_edge(journal: &[u8], adjacency: &mut [u8], v: usiz
 }
 
 #[no_mangle]
-pub extern "C" fn replica_remove_edge(journal: &[u8], adjacency: &mut [u8], v: usize, w: usize) -> ReplicaAnswer
+pub extern "C" fn replica_remove_edge(
+    journal: &[u8],
+    adjacency: &mut [u8],
+    v: usize,
+    w: usize,
+) -> ReplicaAnswer
     ensures { λ r. ⌜ r ≡ flat (removeNumbers (removeAnswer (now (journal .entry)) (now (adjacency .entry)) v w)) ⌝ }
     ensures { λ _. ⌜ now (adjacency .exit) ≡ removeAdjacency (removeAnswer (now (journal .entry)) (now (adjacency .entry)) v w) (now (adjacency .entry)) v w ⌝ }
 {
@@ -84,7 +106,11 @@ pub extern "C" fn replica_complete(journal: &[u8], adjacency: &mut [u8]) -> Repl
 }
 
 #[no_mangle]
-pub extern "C" fn replica_edge_list(journal: &[u8], adjacency: &[u8], output: &mut [u8]) -> ReplicaAnswer
+pub extern "C" fn replica_edge_list(
+    journal: &[u8],
+    adjacency: &[u8],
+    output: &mut [u8],
+) -> ReplicaAnswer
     ensures { λ r. ⌜ r ≡ flat (writtenNumbers (listAnswer (now (journal .entry)) (now (adjacency .entry)) (length (now (output .entry))))) ⌝ }
     ensures { λ _. ⌜ now (output .exit) ≡ listOutput (listAnswer (now (journal .entry)) (now (adjacency .entry)) (length (now (output .entry)))) (now (journal .entry)) (now (adjacency .entry)) (now (output .entry)) ⌝ }
 {

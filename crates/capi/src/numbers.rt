@@ -1,11 +1,20 @@
 // Document 01's numbers of each answer.
 ghost use mathlib.Core.Path.{_≡_};
-ghost use Prim.Native.Nat.{_<_};
+ghost use Prim.Native.Nat.{ℕ, _<_};
 ghost use Rattle.answer.specs.Numbers.{numberOf, done, refused, clearNumbers, takeNumbers, layOutNumbers, figuresNumbers, addNumbers, removeNumbers, completeNumbers, writtenNumbers};
 ghost use Rattle.capi.specs.Flat.{flat, heldNumbers};
-
-use answer::{AddAnswer, Cause, ClearAnswer, CompleteAnswer, FiguresAnswer, LayOutAnswer, LengthAnswer, Refusal, RemoveAnswer, TakeAnswer, WrittenAnswer};
 use crate::ReplicaAnswer;
+use answer::AddAnswer;
+use answer::Cause;
+use answer::ClearAnswer;
+use answer::CompleteAnswer;
+use answer::FiguresAnswer;
+use answer::LayOutAnswer;
+use answer::LengthAnswer;
+use answer::Refusal;
+use answer::RemoveAnswer;
+use answer::TakeAnswer;
+use answer::WrittenAnswer;
 
 fn number_of(cause: Cause) -> usize
     ensures { λ r. ⌜ r ≡ numberOf cause ⌝ }
@@ -74,7 +83,7 @@ pub fn of_take(answer: TakeAnswer) -> ReplicaAnswer
 }
 
 pub fn of_held(number: usize, answer: LengthAnswer) -> ReplicaAnswer
-    requires { ⌜ number < 64 ⌝ }
+    requires { ⌜ ((n : ℕ) → answer ≡ LengthAnswer.Length n → number < 64) ⌝ }
     ensures { λ r. ⌜ r ≡ flat (heldNumbers number answer) ⌝ }
 {
     match answer {
