@@ -21,12 +21,12 @@ IsLength (Refused r) = ⊥
 refused-no-length : (r : Refusal) (n : ℕ) → Refused r ≡ Length n → ⊥
 refused-no-length r n e = subst IsLength (sym e) tt
 
-pub record HeldFacts (j g : List ℕ) (number : ℕ) : Type 0 where
+pub record LengthFacts (j g : List ℕ) (number : ℕ) : Type 0 where
   pub lengths : lengthsOk j g ≡ true
   pub sound : valid j g ≡ true
   pub low : number < blocks j
 
-pub length-facts : (j g : List ℕ) (number n : ℕ) → lengthAnswer j g number ≡ Length n → HeldFacts j g number
+pub length-facts : (j g : List ℕ) (number n : ℕ) → lengthAnswer j g number ≡ Length n → LengthFacts j g number
 length-facts j g number n e =
     let l = unless-passed (lengthsOk j g) _ _ (Length n) (refused-no-length _ n) e in
     let v = unless-passed (valid j g) _ _ (Length n) (refused-no-length _ n) (l .1) in

@@ -4,7 +4,7 @@ use borrow.Author.Needs.{needs}
 use lib.ListN.{length}
 use Rattle.journal.proofs.Facts.{length-most, well-formed-length}
 use Rattle.state.proofs.Facts.{lengths-journal}
-use Rattle.intake.proofs.Take.{take-facts}
+use Rattle.intake.proofs.Take.{taken-facts}
 use Rattle.intake.proofs.taking.take_block.Statement.{statement}
 use Rattle.intake.proofs.taking.take_block.Tie as tie
 
@@ -18,7 +18,7 @@ take-block-spec =
     let t = k .before .before in
     let a = t .before .before .before .before .before .args in
     let b = a .block .now in
-    let f = take-facts (a .journal .now) (a .adjacency .now) (a .number) b _ (sym (t .take-check .ensures) ∙ k .answer .given .1) in
+    let f = taken-facts (a .journal .now) (a .adjacency .now) (a .number) b _ (sym (t .take-check .ensures) ∙ k .answer .given .1) in
     (lengths-journal (a .journal .now) (a .adjacency .now) (f .lengths), f .room, length-most (length b) (well-formed-length b (f .good))))  -- store-block-requires
     (λ c. search needs)  -- enum-told
     (λ c. search needs)  -- enum-known-answer-2
