@@ -10,3 +10,9 @@ use Rattle.answer.specs.declared.Verdict.the-variants.{Go, Stop}
 pub unless-go : (t : Bool) (r : Refusal) (rest : Verdict) → unless t (Stop r) rest ≡ Go → (t ≡ true) × (rest ≡ Go)
 unless-go true r rest e = (refl, e)
 unless-go false r rest e = (cc, cc)
+
+-- the same at any answer: an outcome other than the refusal comes only behind a check that passes
+pub unless-passed : {A : Type 0} (t : Bool) (refused rest outcome : A) → (refused ≡ outcome → ⊥) → unless t refused rest ≡ outcome
+    → (t ≡ true) × (rest ≡ outcome)
+unless-passed true refused rest outcome other e = (refl, e)
+unless-passed false refused rest outcome other e = absurd (other e)

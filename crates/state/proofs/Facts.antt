@@ -1,7 +1,7 @@
 -- What a valid state is, as named facts, and back.
 -- Assumes nothing.
-use mathlib.Core.Path.{_≡_, refl, sym, ap, _∙_}
-use mathlib.Core.Bool.{Bool, true, false, _&&_, cond}
+use mathlib.Core.Path.{_≡_}
+use mathlib.Core.Bool.{Bool, true, _&&_, cond}
 use mathlib.Core.List.{List}
 use mathlib.Core.Logic.{_⊎_, inl, inr}
 use Prim.Native.Nat.{ℕ, _≤_}
@@ -17,11 +17,12 @@ use Rattle.graph.proofs.Passes.{passes-passed}
 use Rattle.graph.proofs.Realizability.{table-target}
 use Rattle.slices.specs.Slices.{allZero}
 use Rattle.slices.proofs.Zero.{all-zero-at, zeros-all-zero}
-use Rattle.table.specs.Layout.{mostVertices, vertices, vertexDegree}
+use Rattle.table.specs.Layout.{mostVertices}
 use Rattle.journal.specs.Journal.{journalSize, phase, journalOk, jdmOf}
 use Rattle.journal.proofs.Facts.{journal-facts}
 use Rattle.journal.proofs.Table.{jdm-table}
 use Rattle.adjacency.specs.Adjacency.{adjacencySize, adjacencyOk, edge}
+use Rattle.adjacency.proofs.Facts.{ZeroOutside, adjacency-facts}
 use Rattle.state.specs.Valid.{lengthsOk, laidOk, valid}
 use Rattle.state.specs.Laid.{vertexCount, degreeAt}
 
@@ -31,6 +32,8 @@ pub record Laid (j g : List ℕ) : Type 0 where
   pub vertices-le : vertexCount j ≤ mostVertices
   pub adjacency-ok : adjacencyOk (vertexCount j) (degreeAt j) (jdmOf j) g ≡ true
   pub target : Target (vertexCount j) degrees (degreeAt j) (λ k. k) (jdmOf j)
+  pub partial : Partial (vertexCount j) degrees (degreeAt j) (λ k. k) (jdmOf j) (edge g)
+  pub outside : ZeroOutside (vertexCount j) g
 
 -- a valid state: both lengths, the journal's check, and the matrix in either phase
 pub record StateFacts (j g : List ℕ) : Type 0 where
@@ -74,11 +77,14 @@ module _ (j g : List ℕ) where
   laid-facts : journalOk j ≡ true → laidOk (jdmOf j) g ≡ true → Laid j g
   laid-facts ok h =
       let t = laid-tests h in
+      let a = adjacency-facts (vertexCount j) (degreeAt j) (jdmOf j) g (t .2) in
       record {
         passed = t .0;
         vertices-le = t .1;
         adjacency-ok = t .2;
         target = table-target (jdmOf j) (jdm-table j ok) (passes-passed (jdmOf j) .0 (t .0));
+        partial = record { simple = a .simple; within = a .within; room = a .room };
+        outside = a .outside;
       }
 
   pub valid-facts : lengthsOk j g ≡ true → valid j g ≡ true → StateFacts j g

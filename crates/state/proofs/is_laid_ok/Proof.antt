@@ -1,7 +1,6 @@
 -- `state::is_laid_ok` meets its contract.
-use mathlib.Core.Path.{refl, sym, _∙_, ap}
+use mathlib.Core.Path.{sym, _∙_, ap}
 use Prim.Native.Nat.{ℕ}
-use native.Mathlib.Omega.{arith}
 use borrow.Author.Needs.{needs}
 use Rattle.table.specs.Layout.{layoutVerdict}
 use Rattle.table.specs.Cells.{matrixOf}
