@@ -1,18 +1,18 @@
 -- Making room at a vertex, and joining: the choices, the degrees in the array, the count of switches, and what holds for the next step.
 -- Assumes nothing.
-use mathlib.Core.Path.{_≡_, refl, sym, _∙_}
+use mathlib.Core.Path.{_≡_, refl, sym, ap, _∙_}
 use mathlib.Core.Bool.{Bool, true, false, cond}
 use mathlib.Core.Logic.{_≢_}
 use mathlib.Core.List.{List}
 use Prim.Native.Nat.{ℕ, _+_, _-_, _≤_, _<_}
 use native.Mathlib.Omega.{arith}
 use lib.Dec.{ltb}
-use lib.ListN.{getD, set}
+use lib.ListN.{length, getD, set}
 use borrow.Author.Tests.{ltb-false, lt-ltb, le-ltb}
 use Rattle.finite.specs.Range.{δ}
 use Rattle.finite.proofs.Delta.{δ-self, δ-other}
 use Rattle.graph.specs.Graph.{degree, AddsEdge}
-use Rattle.graph.specs.Switch.{unsaturated}
+use Rattle.graph.specs.Switch.{unsaturated, transfer}
 use Rattle.graph.specs.Tests.{degrees}
 use Rattle.graph.specs.Theorems.{Choices, Kept}
 use Rattle.graph.proofs.Switch.{switch-works}
@@ -20,7 +20,7 @@ use Rattle.graph.proofs.Join.{Ready}
 use Rattle.graph.proofs.Resume.{relief-degree}
 use Rattle.graph.proofs.Update.{degree-adds}
 use Rattle.table.specs.Layout.{mostVertices}
-use Rattle.adjacency.specs.Adjacency.{edge, setEdge}
+use Rattle.adjacency.specs.Adjacency.{adjacencySize, side, edge, setEdge}
 use Rattle.adjacency.proofs.Set.{set-adds}
 use Rattle.joining.specs.Join.{own, substituteAt, transferAt, switchBytes, relieveBytes, relieveCount}
 use Rattle.joining.specs.Work.{degreesOf, Joinable, SaturatedBelow, SaturatedBut, freed}
@@ -28,6 +28,10 @@ use Rattle.joining.proofs.Bytes.{relieve-bytes, ready-v, pair-w, sized-
 use Rattle.joining.proofs.Held.{held-at, held-moved}
 
 module _ (n : ℕ) (cls : ℕ → ℕ) (g : List ℕ) (a o : ℕ) (j : Joinable n cls g a o) where
+  -- the array tells whether a is saturated
+  pub saturated-in : (held : List ℕ) (k : ℕ) → held ≡ degreesOf n g → k ≡ cls a → ltb (getD held a 0) k ≡ unsaturated n cls own (edge g) a
+  saturated-in held k h e = rw (h, e, held-at n (j .few) g a (j .pair .first))
+
   -- a is saturated, so it is switched
   module _ (full : unsaturated n cls own (edge g) a ≡ false) where
     pub chosen : Choices n degrees cls own (j .table) (edge g) a o (substituteAt n cls g a o) (transferAt n cls g a o)
@@ -41,10 +45,10 @@ module _ (n : ℕ) (cls : ℕ → ℕ) (g : List ℕ) (a o : ℕ) (j : Joinable 
         (rw full at (relieve-bytes n cls (j .table) g a o (j .sized) (j .few) (j .target) (j .partial) (j .pair) .switched full))
 
     -- a has an edge to lose, and b has few
-    pub held-a : 0 < getD (degreesOf n g) a 0
+    held-a : 0 < getD (degreesOf n g) a 0
     held-a = omega (arith, held-at n (j .few) g a (j .pair .first), kept .from-a)
 
-    pub held-b : getD (degreesOf n g) (substituteAt n cls g a o) 0 < degrees
+    held-b : getD (degreesOf n g) (substituteAt n cls g a o) 0 < degrees
     held-b =
         omega (
           arith,
@@ -53,7 +57,7 @@ module _ (n : ℕ) (cls : ℕ → ℕ) (g : List ℕ) (a o : ℕ) (j : Joinable 
           j .target .classed (substituteAt n cls g a o) (chosen .b-vertex),
         )
 
-    pub held-switched :
+    held-switched :
         set (set (degreesOf n g) a (getD (degreesOf n g) a 0 - 1)) (substituteAt n cls g a o) (getD (degreesOf n g) (substituteAt n cls g a o) 0 + 1)
         ≡ degreesOf n (switchBytes g a (substituteAt n cls g a o) (transferAt n cls g a o))
     held-switched =
@@ -66,6 +70,32 @@ module _ (n : ℕ) (cls : ℕ → ℕ) (g : List ℕ) (a o : ℕ) (j : Joinable 
         (omega (arith, kept .from-a, held-at n (j .few) g a (j .pair .first)))
         (omega (arith, kept .to-b, held-at n (j .few) g (substituteAt n cls g a o) (chosen .b-vertex)))
         (kept .others)
+
+    -- what the switch asks for, and what it leaves, with the array and the choices as the code has them
+    module _ (held : List ℕ) (b t : ℕ) (is : held ≡ degreesOf n g) (chose : b ≡ substituteAt n cls g a o) (took : t ≡ transfer n (edge g) a b) where
+      t-is : t ≡ transferAt n cls g a o
+      t-is = took ∙ ap (transfer n (edge g) a) chose
+
+      pub switchable : (length g ≡ adjacencySize) × (a < side) × (b < side) × (t < side) × (b ≡ a → ⊥) × (0 < getD held a 0)
+          × (getD held b 0 < degrees)
+      switchable = rw (is, t-is, chose) (
+        j .sized,
+        omega (arith, j .few, j .pair .first),
+        omega (arith, j .few, chosen .b-vertex),
+        omega (arith, j .few, chosen .t-vertex),
+        chosen .b-other,
+        held-a,
+        held-b,
+      )
+
+      pub switch-freed : t ≡ freed n cls g a o
+      switch-freed = rw full t-is
+
+      pub switch-bytes : switchBytes g a b t ≡ relieveBytes n cls g a o
+      switch-bytes = rw (t-is, chose, full)
+
+      pub switch-held : set (set held a (getD held a 0 - 1)) b (getD held b 0 + 1) ≡ degreesOf n (relieveBytes n cls g a o)
+      switch-held = rw (is, chose, full) held-switched
 
   -- the vertex cut off tells whether there was a switch
   pub freed-count : cond (ltb (freed n cls g a o) n) 1 0 ≡ relieveCount n cls g a

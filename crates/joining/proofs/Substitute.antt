@@ -11,10 +11,10 @@ use borrow.Author.Tests.{eq-eqb, ne-eqb}
 use Rattle.finite.specs.Range.{lowest}
 use Rattle.finite.proofs.All.{and-false}
 use Rattle.finite.proofs.Lowest.{lowest-skip, lowest-cong}
-use Rattle.graph.specs.Switch.{unsaturated, canSubstitute}
+use Rattle.graph.specs.Switch.{unsaturated, canSubstitute, orElse}
 use Rattle.table.specs.Layout.{mostVertices}
 use Rattle.adjacency.specs.Adjacency.{edge}
-use Rattle.joining.specs.Join.{own}
+use Rattle.joining.specs.Join.{own, substituteAt}
 use Rattle.joining.specs.Work.{classAt, degreesOf, SaturatedBut, canSubstituteIn}
 use Rattle.joining.proofs.Held.{held-at}
 
@@ -29,9 +29,13 @@ module _ (n : ℕ) (classes g : List ℕ) (a o from : ℕ) (few : n ≤ mostVert
           rw (eq-eqb (classAt classes i) (classAt classes a) e, eq-eqb i o d) (and-false (unsaturated n (classAt classes) own (edge g) i))
       go (yes e) (no d) = rw (eq-eqb (classAt classes i) (classAt classes a) e, saturated i l e d)
 
-  pub substitute-in : lowest from n (canSubstituteIn classes (degreesOf n g) (classAt classes a) o)
+  found : lowest from n (canSubstituteIn classes (degreesOf n g) (classAt classes a) o)
       ≡ lowest 0 n (canSubstitute n (classAt classes) own (edge g) a o)
-  substitute-in =
+  found =
       lowest-cong from n (canSubstituteIn classes (degreesOf n g) (classAt classes a) o) (canSubstitute n (classAt classes) own (edge g) a o)
       (λ i p l. rw (held-at n few g i l))
       ∙ sym (lowest-skip 0 from n (canSubstitute n (classAt classes) own (edge g) a o) zero-le inside (λ i p l. fails i l))
+
+  pub substitute-in : (held : List ℕ) (k : ℕ) → held ≡ degreesOf n g → k ≡ classAt classes a
+      → orElse n o (lowest from n (canSubstituteIn classes held k o)) ≡ substituteAt n (classAt classes) g a o
+  substitute-in held k h e = rw (h, e, found)

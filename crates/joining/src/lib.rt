@@ -111,13 +111,7 @@ fn choose_transfer(adjacency: &[u8], n: usize, a: usize, b: usize) -> usize
 }
 
 // The neighbour switch of a: the edge a – t removed, b – t added.
-fn neighbor_switch(
-    adjacency: &mut [u8],
-    held: &mut [usize; 200],
-    a: usize,
-    b: usize,
-    t: usize,
-)
+fn neighbor_switch(adjacency: &mut [u8], held: &mut [usize; 200], a: usize, b: usize, t: usize)
     requires { ⌜ (length (now adjacency) ≡ adjacencySize) × (a < side) × (b < side) × (t < side) × (b ≡ a → ⊥) × (0 < getD (now held) a 0) × (getD (now held) b 0 < degrees) ⌝ }
     ensures { λ _. ⌜ now (adjacency .exit) ≡ switchBytes (now (adjacency .entry)) a b t ⌝ }
     ensures { λ _. ⌜ now (held .exit) ≡ set (set (now (held .entry)) a (getD (now (held .entry)) a 0 - 1)) b (getD (now (held .entry)) b 0 + 1) ⌝ }
