@@ -98,12 +98,15 @@ module _ (n : ℕ) (cls : ℕ → ℕ) (g : List ℕ) (a o : ℕ) (j : Joinable 
       switch-held = rw (is, chose, full) held-switched
 
   -- the vertex cut off tells whether there was a switch
-  pub freed-count : cond (ltb (freed n cls g a o) n) 1 0 ≡ relieveCount n cls g a
-  freed-count = go (unsaturated n cls own (edge g) a) refl
+  pub freed-count : (x : ℕ) → x ≡ freed n cls g a o → cond (ltb x n) 1 0 ≡ relieveCount n cls g a
+  freed-count x h = rw h (go (unsaturated n cls own (edge g) a) refl)
     where
       go : (u : Bool) → unsaturated n cls own (edge g) a ≡ u → _≡_ {A = ℕ} (cond (ltb (cond u n (transferAt n cls g a o)) n) 1 0) (cond u 0 1)
       go true e = rw (le-ltb n n (omega arith))
       go false e = rw (lt-ltb (transferAt n cls g a o) n (chosen e .t-vertex))
+
+  ready : Ready n degrees cls own (j .table) (edge g) a o (edge (relieveBytes n cls g a o))
+  ready = ready-v n cls (j .table) g a o (j .sized) (j .few) (j .target) (j .partial) (j .pair)
 
   -- then room may be made at o
   pub joinable-next : Joinable n cls (relieveBytes n cls g a o) o a
@@ -113,7 +116,7 @@ module _ (n : ℕ) (cls : ℕ → ℕ) (g : List ℕ) (a o : ℕ) (j : Joinable 
         sized = sized-once n cls (j .table) g a o (j .sized) (j .few) (j .target) (j .partial) (j .pair);
         few = j .few;
         target = j .target;
-        partial = ready-v n cls (j .table) g a o (j .sized) (j .few) (j .target) (j .partial) (j .pair) .partial;
+        partial = ready .partial;
         pair = pair-w n cls (j .table) g a o (j .sized) (j .few) (j .target) (j .partial) (j .pair);
       }
 
@@ -129,20 +132,9 @@ module _ (n : ℕ) (cls : ℕ → ℕ) (g : List ℕ) (a o : ℕ) (j : Joinable 
         δ-other i a d,
       ))
 
-  ready : Ready n degrees cls own (j .table) (edge g) a o (edge (relieveBytes n cls g a o))
-  ready = ready-v n cls (j .table) g a o (j .sized) (j .few) (j .target) (j .partial) (j .pair)
-
-  -- a has room then, and o has where it had
-  pub room-next : degree n (edge (relieveBytes n cls g a o)) a < cls a
-  room-next = ready .room
-
-  pub room-other : degree n (edge g) o < cls o → degree n (edge (relieveBytes n cls g a o)) o < cls o
-  room-other = ready .o-able
-
--- the last step: both have room, and the edge is added
+-- the last step: the edge is added between two vertices with room
 module _ (n : ℕ) (cls : ℕ → ℕ) (g : List ℕ) (v w : ℕ) (j : Joinable n cls g v w) where
-  -- a vertex with room has few edges
-  pub held-few : (x : ℕ) → x < n → degree n (edge g) x < cls x → getD (degreesOf n g) x 0 < degrees
+  held-few : (x : ℕ) → x < n → degree n (edge g) x < cls x → getD (degreesOf n g) x 0 < degrees
   held-few x xn h = omega (arith, held-at n (j .few) g x xn, j .target .classed x xn)
 
   adds : AddsEdge n (edge g) v w (edge (setEdge g v w 1))
@@ -154,10 +146,36 @@ module _ (n : ℕ) (cls : ℕ → ℕ) (g : List ℕ) (v w : ℕ) (j : Joinable 
   more : (x : ℕ) → x < n → degree n (edge (setEdge g v w 1)) x ≡ degree n (edge g) x + (δ x v + δ x w)
   more = degree-adds n (edge g) (edge (setEdge g v w 1)) v w adds (j .pair .first) (j .pair .second)
 
-  pub held-linked : set (set (degreesOf n g) v (getD (degreesOf n g) v 0 + 1)) w (getD (degreesOf n g) w 0 + 1) ≡ degreesOf n (setEdge g v w 1)
-  held-linked =
-      held-moved n (j .few) g (setEdge g v w 1) v w (getD (degreesOf n g) v 0 + 1) (getD (degreesOf n g) w 0 + 1) (j .pair .first) (j .pair .second)
-      (λ e. j .pair .distinct (sym e))
-      (omega (arith, more v (j .pair .first), held-at n (j .few) g v (j .pair .first), δ-self v, δ-other v w (j .pair .distinct)))
-      (omega (arith, more w (j .pair .second), held-at n (j .few) g w (j .pair .second), δ-self w, δ-other w v (λ e. j .pair .distinct (sym e))))
-      (λ x xn p q. omega (arith, more x xn, δ-other x v p, δ-other x w q))
+  -- what adding the edge asks for, and what it leaves, with the array as the code has it
+  module _ (held : List ℕ) (is : held ≡ degreesOf n g) where
+    pub linkable : degree n (edge g) v < cls v → degree n (edge g) w < cls w →
+        (length g ≡ adjacencySize) × (v < side) × (w < side) × (w ≡ v → ⊥) × (getD held v 0 < degrees) × (getD held w 0 < degrees)
+    linkable room-v room-w = rw is (
+      j .sized,
+      omega (arith, j .few, j .pair .first),
+      omega (arith, j .few, j .pair .second),
+      λ e. j .pair .distinct (sym e),
+      held-few v (j .pair .first) room-v,
+      held-few w (j .pair .second) room-w,
+    )
+
+    pub link-held : set (set held v (getD held v 0 + 1)) w (getD held w 0 + 1) ≡ degreesOf n (setEdge g v w 1)
+    link-held =
+        rw is
+        (held-moved n (j .few) g (setEdge g v w 1) v w (getD (degreesOf n g) v 0 + 1) (getD (degreesOf n g) w 0 + 1) (j .pair .first)
+        (j .pair .second)
+        (λ e. j .pair .distinct (sym e))
+        (omega (arith, more v (j .pair .first), held-at n (j .few) g v (j .pair .first), δ-self v, δ-other v w (j .pair .distinct)))
+        (omega (arith, more w (j .pair .second), held-at n (j .few) g w (j .pair .second), δ-self w, δ-other w v (λ e. j .pair .distinct (sym e))))
+        (λ x xn p q. omega (arith, more x xn, δ-other x v p, δ-other x w q)))
+
+-- after both reliefs: the pair may be linked, and both have room
+module _ (n : ℕ) (cls : ℕ → ℕ) (g : List ℕ) (v w : ℕ) (j : Joinable n cls g v w) where
+  pub joinable-last : Joinable n cls (relieveBytes n cls (relieveBytes n cls g v w) w v) v w
+  joinable-last = joinable-next n cls (relieveBytes n cls g v w) w v (joinable-next n cls g v w j)
+
+  pub room-v : degree n (edge (relieveBytes n cls (relieveBytes n cls g v w) w v)) v < cls v
+  room-v = ready n cls (relieveBytes n cls g v w) w v (joinable-next n cls g v w j) .o-able (ready n cls g v w j .room)
+
+  pub room-w : degree n (edge (relieveBytes n cls (relieveBytes n cls g v w) w v)) w < cls w
+  room-w = ready n cls (relieveBytes n cls g v w) w v (joinable-next n cls g v w j) .room
