@@ -15,7 +15,7 @@ use Rattle.graph.specs.Switch.{unsaturated, canSubstitute, orElse}
 use Rattle.table.specs.Layout.{mostVertices}
 use Rattle.adjacency.specs.Adjacency.{edge}
 use Rattle.joining.specs.Join.{own, substituteAt}
-use Rattle.joining.specs.Work.{classAt, degreesOf, SaturatedBut, canSubstituteIn}
+use Rattle.joining.specs.Work.{classAt, degreesOf, Joinable, SaturatedBut, canSubstituteIn}
 use Rattle.joining.proofs.Held.{held-at}
 
 module _ (n : ℕ) (classes g : List ℕ) (a o from : ℕ) (few : n ≤ mostVertices) (inside : from ≤ n)
@@ -36,6 +36,8 @@ module _ (n : ℕ) (classes g : List ℕ) (a o from : ℕ) (few : n ≤ mostVert
       (λ i p l. rw (held-at n few g i l))
       ∙ sym (lowest-skip 0 from n (canSubstitute n (classAt classes) own (edge g) a o) zero-le inside (λ i p l. fails i l))
 
-  pub substitute-in : (held : List ℕ) (k : ℕ) → held ≡ degreesOf n g → k ≡ classAt classes a
-      → orElse n o (lowest from n (canSubstituteIn classes held k o)) ≡ substituteAt n (classAt classes) g a o
-  substitute-in held k h e = rw (h, e, found)
+-- with the arrays and the class as the code has them
+pub substitute-in : {n : ℕ} (classes : List ℕ) {g held : List ℕ} {a o from k : ℕ} → Joinable n (classAt classes) g a o → held ≡ degreesOf n g
+    → from ≤ n → SaturatedBut n (classAt classes) g a o from → k ≡ classAt classes a
+    → orElse n o (lowest from n (canSubstituteIn classes held k o)) ≡ substituteAt n (classAt classes) g a o
+substitute-in {n} classes {g} {held} {a} {o} {from} j is inside saturated e = rw (is, e, found n classes g a o from (j .few) inside saturated)

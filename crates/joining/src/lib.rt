@@ -112,14 +112,16 @@ fn choose_transfer(adjacency: &[u8], n: usize, a: usize, b: usize) -> usize
 
 // The neighbour switch of a: the edge a – t removed, b – t added.
 fn neighbor_switch(adjacency: &mut [u8], held: &mut [usize; 200], a: usize, b: usize, t: usize)
-    requires { ⌜ (length (now adjacency) ≡ adjacencySize) × (a < side) × (b < side) × (t < side) × (b ≡ a → ⊥) × (0 < getD (now held) a 0) × (getD (now held) b 0 < degrees) ⌝ }
+    requires { ⌜ (length (now adjacency) ≡ adjacencySize) × (a < side) × (b < side) × (t < side) × (0 < getD (now held) a 0) × (getD (now held) b 0 < degrees) ⌝ }
     ensures { λ _. ⌜ now (adjacency .exit) ≡ switchBytes (now (adjacency .entry)) a b t ⌝ }
     ensures { λ _. ⌜ now (held .exit) ≡ set (set (now (held .entry)) a (getD (now (held .entry)) a 0 - 1)) b (getD (now (held .entry)) b 0 + 1) ⌝ }
 {
     set_edge(adjacency, a, t, 0);
     set_edge(adjacency, b, t, 1);
-    held[a] -= 1;
-    held[b] += 1;
+    let less = held[a] - 1;
+    let more = held[b] + 1;
+    held[a] = less;
+    held[b] = more;
 }
 
 // Makes room at a: a neighbour switch if it is saturated. The vertex cut off from a; n where there was no switch.
@@ -149,13 +151,15 @@ fn relieve(
 
 // The edge v – w added.
 fn link(adjacency: &mut [u8], held: &mut [usize; 200], v: usize, w: usize)
-    requires { ⌜ (length (now adjacency) ≡ adjacencySize) × (v < side) × (w < side) × (w ≡ v → ⊥) × (getD (now held) v 0 < degrees) × (getD (now held) w 0 < degrees) ⌝ }
+    requires { ⌜ (length (now adjacency) ≡ adjacencySize) × (v < side) × (w < side) × (getD (now held) v 0 < degrees) × (getD (now held) w 0 < degrees) ⌝ }
     ensures { λ _. ⌜ now (adjacency .exit) ≡ setEdge (now (adjacency .entry)) v w 1 ⌝ }
     ensures { λ _. ⌜ now (held .exit) ≡ set (set (now (held .entry)) v (getD (now (held .entry)) v 0 + 1)) w (getD (now (held .entry)) w 0 + 1) ⌝ }
 {
     set_edge(adjacency, v, w, 1);
-    held[v] += 1;
-    held[w] += 1;
+    let more_v = held[v] + 1;
+    let more_w = held[w] + 1;
+    held[v] = more_v;
+    held[w] = more_w;
 }
 
 // 1 where a vertex was cut off, else 0.

@@ -4,8 +4,6 @@ use mathlib.Core.Path.{refl, ap₂, _∙_}
 use Prim.Native.Nat.{_+_}
 use native.Mathlib.Omega.{arith}
 use borrow.Author.Needs.{needs}
-use Rattle.joining.specs.Join.{relieveBytes}
-use Rattle.joining.specs.Work.{classAt}
 use Rattle.joining.proofs.Relief.{freed-count, joinable-next, saturated-next, linkable, link-held, joinable-last, room-v, room-w}
 use Rattle.joining.proofs.join.Statement.{statement}
 use Rattle.joining.proofs.join.Tie as tie
@@ -19,28 +17,18 @@ join-spec =
     (λ c κs.
     let r = c .before .before .before .before in
     let s = r .before .before .before .before in
-    let x = s .args in
-    let cls = classAt (x .classes .now) in
     rw (r .relieve .ensures .1 .0, r .relieve .ensures .1 .1) (
-      joinable-next (x .n) cls (x .adjacency .now) (x .v) (x .w) (s .pre .0),
+      joinable-next (s .pre .0),
       refl,
       s .pre .3,
-      saturated-next (x .n) cls (x .adjacency .now) (x .v) (x .w) (s .pre .0) (x .from-w) (s .pre .3) (s .pre .5),
+      saturated-next (s .pre .0) (s .pre .3) (s .pre .5),
     ))  -- relieve-requires-2
     (λ c κs.
     let r2 = c .before .before .before .before in
     let r = r2 .before .before .before .before .before in
-    let s = r .before .before .before .before in
-    let x = s .args in
-    let cls = classAt (x .classes .now) in
-    let once = relieveBytes (x .n) cls (x .adjacency .now) (x .v) (x .w) in
+    let j = r .before .before .before .before .pre .0 in
     let q = rw (r .relieve .ensures .1 .0) at (r2 .relieve2 .ensures .1) in
-    rw (q .0)
-    (linkable (x .n) cls (relieveBytes (x .n) cls once (x .w) (x .v)) (x .v) (x .w)
-    (joinable-last (x .n) cls (x .adjacency .now) (x .v) (x .w) (s .pre .0))
-    _ (q .1)
-    (room-v (x .n) cls (x .adjacency .now) (x .v) (x .w) (s .pre .0))
-    (room-w (x .n) cls (x .adjacency .now) (x .v) (x .w) (s .pre .0))))  -- link-requires
+    rw (q .0) (linkable (joinable-last j) (q .1) (room-v j) (room-w j)))  -- link-requires
     (λ c κs. tt)  -- switch-count-requires
     (λ c κs. tt)  -- switch-count-requires-2
     (λ c. omega arith)  -- add-t23
@@ -50,20 +38,13 @@ join-spec =
     let r2 = k .before .before .before .before .before in
     let r = r2 .before .before .before .before .before in
     let s = r .before .before .before .before in
-    let x = s .args in
-    let cls = classAt (x .classes .now) in
-    let once = relieveBytes (x .n) cls (x .adjacency .now) (x .v) (x .w) in
+    let j = s .pre .0 in
     let q = rw (r .relieve .ensures .1 .0) at (r2 .relieve2 .ensures) in
-    let next = joinable-next (x .n) cls (x .adjacency .now) (x .v) (x .w) (s .pre .0) in
     let l = rw (q .1 .0) at (k .link .ensures) in (
       (
-        ap₂ _+_ (c .before .switch-count .ensures .0 ∙ freed-count (x .n) cls (x .adjacency .now) (x .v) (x .w) (s .pre .0) _ (r .relieve .ensures .0))
-            (c .switch-count2 .ensures .0 ∙ freed-count (x .n) cls once (x .w) (x .v) next _ (q .0)),
+        ap₂ _+_ (c .before .switch-count .ensures .0 ∙ freed-count j (r .relieve .ensures .0))
+            (c .switch-count2 .ensures .0 ∙ freed-count (joinable-next j) (q .0)),
         r .relieve .ensures .0,
       ),
-      (
-        l .0,
-        l .1 ∙ link-held (x .n) cls (relieveBytes (x .n) cls once (x .w) (x .v)) (x .v) (x .w)
-            (joinable-last (x .n) cls (x .adjacency .now) (x .v) (x .w) (s .pre .0)) _ (q .1 .1),
-      ),
+      (l .0, l .1 ∙ link-held (joinable-last j) (q .1 .1)),
     )))  -- returns

@@ -1,10 +1,8 @@
--- `joining::neighbor_switch` meets its contract: the entry of b is not the one of a, which was set before it.
+-- `joining::neighbor_switch` meets its contract.
 -- Assumes nothing.
-use Prim.Native.Nat.{_-_}
+use mathlib.Core.Path.{refl}
 use native.Mathlib.Omega.{arith}
 use borrow.Author.Needs.{needs}
-use lib.ListN.{getD}
-use lib.Seq.{getD-set-other}
 use Rattle.joining.proofs.neighbor_switch.Statement.{statement}
 use Rattle.joining.proofs.neighbor_switch.Tie as tie
 
@@ -13,19 +11,18 @@ neighbor-switch-spec =
     tie.close (tie.spec
     (λ c κs. search needs)  -- set-edge-requires
     (λ c κs. search needs)  -- set-edge-requires-2
+    (λ c. omega arith)  -- mul-less
+    (λ c. omega arith)  -- element-copy-out-less
+    (λ c. omega arith)  -- sub-less
+    (λ c. omega arith)  -- mul-more
+    (λ c. omega arith)  -- element-copy-out-more
+    (λ c. omega arith)  -- add-more
     (λ c. omega arith)  -- mul-held
-    (λ c. search needs)  -- element-copy-out-held
-    (λ c. omega arith)  -- sub-held
-    (λ c. search needs)  -- element-write-held
+    (λ c. omega arith)  -- element-write-held
     (λ c. omega arith)  -- mul-held-2
-    (λ c. search needs)  -- element-copy-out-held-2
-    (λ c.
-    let s = c .before .before .before .before .before .before .before .before .before .before .before in
-    omega (arith, getD-set-other (s .args .held .now) (s .args .a) (s .args .b) (getD (s .args .held .now) (s .args .a) 0 - 1) 0 (s .pre .4)))  -- add-held
-    (λ c. search needs)  -- element-write-held-2
+    (λ c. omega arith)  -- element-write-held-2
     (λ c. search needs)  -- same-length
     (λ c.
     let p = c .before .before .before .before in
     let q = p .before .before .before .before in
-    let s = q .before .before .before in
-    (rw (p .set-edge2 .ensures, q .set-edge .ensures), rw (getD-set-other (s .args .held .now) (s .args .a) (s .args .b) (getD (s .args .held .now) (s .args .a) 0 - 1) 0 (s .pre .4)))))  -- returns
+    (rw (p .set-edge2 .ensures, q .set-edge .ensures), refl)))  -- returns
