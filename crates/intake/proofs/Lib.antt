@@ -1,0 +1,4 @@
+pub mod Take
+pub mod Held
+pub mod LayOut
+pub mod Clear

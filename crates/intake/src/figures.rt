@@ -1,0 +1,55 @@
+// Figures.
+ghost use mathlib.Core.Path.{_≡_};
+ghost use mathlib.Core.Bool.{true, false};
+ghost use Prim.Native.Nat.{_≤_};
+ghost use lib.ListN.{length};
+ghost use Rattle.table.specs.Layout.{vertices, mostVertices};
+ghost use Rattle.journal.specs.Journal.{journalSize, journalOk, jdmOf};
+ghost use Rattle.adjacency.specs.Adjacency.{adjacencySize};
+ghost use Rattle.intake.specs.Figures.{figuresAnswer, figuresOf};
+use answer::Cause;
+use answer::Figures;
+use answer::FiguresAnswer;
+use answer::refuse;
+use journal::block_count;
+use journal::phase_of;
+use state::is_valid;
+use state::lengths_ok;
+
+// The figures of a laid state.
+fn figures_laid(journal: &[u8], adjacency: &[u8]) -> Figures
+    requires { ⌜ (length (now journal) ≡ journalSize) × (length (now adjacency) ≡ adjacencySize) × (journalOk (now journal) ≡ true) × (vertices (jdmOf (now journal)) ≤ mostVertices) ⌝ }
+    ensures { λ r. ⌜ r ≡ figuresOf false (now (journal .entry)) (now (adjacency .entry)) ⌝ }
+{
+    let cells = journal::cells_of(journal);
+    let counts = table::layout::counts(&cells);
+    let n = table::layout::vertex_count(&cells, &counts);
+    Figures {
+        phase: 1,
+        blocks: block_count(journal),
+        vertices: n,
+        wanted: table::layout::edges_wanted(&cells),
+        laid: adjacency::edge_count(adjacency, n),
+    }
+}
+
+pub fn figures(journal: &[u8], adjacency: &[u8]) -> FiguresAnswer
+    ensures { λ r. ⌜ r ≡ figuresAnswer (now (journal .entry)) (now (adjacency .entry)) ⌝ }
+{
+    if !lengths_ok(journal, adjacency) {
+        return FiguresAnswer::Refused(refuse(Cause::Length, 0, 0));
+    }
+    if !is_valid(journal, adjacency) {
+        return FiguresAnswer::Refused(refuse(Cause::Invalid, 0, 0));
+    }
+    if phase_of(journal) == 0 {
+        return FiguresAnswer::Reported(Figures {
+            phase: 0,
+            blocks: block_count(journal),
+            vertices: 0,
+            wanted: 0,
+            laid: 0,
+        });
+    }
+    FiguresAnswer::Reported(figures_laid(journal, adjacency))
+}

@@ -1,0 +1,38 @@
+// Reading a held block back.
+ghost use mathlib.Core.Path.{_≡_};
+ghost use Rattle.intake.specs.Held.{lengthAnswer, heldPart};
+use answer::Cause;
+use answer::LengthAnswer;
+use answer::refuse;
+use journal::block_count;
+use journal::block_part;
+use journal::slot_length;
+use state::is_valid;
+use state::lengths_ok;
+
+// The length of held block `number`, or why there is none.
+pub fn held_block_length(journal: &[u8], adjacency: &[u8], number: usize) -> LengthAnswer
+    ensures { λ r. ⌜ r ≡ lengthAnswer (now (journal .entry)) (now (adjacency .entry)) number ⌝ }
+{
+    if !lengths_ok(journal, adjacency) {
+        return LengthAnswer::Refused(refuse(Cause::Length, 0, 0));
+    }
+    if !is_valid(journal, adjacency) {
+        return LengthAnswer::Refused(refuse(Cause::Invalid, 0, 0));
+    }
+    if block_count(journal) <= number {
+        return LengthAnswer::Refused(refuse(Cause::BlockNumber, 0, 0));
+    }
+    LengthAnswer::Length(slot_length(journal, number))
+}
+
+// Held block `number`, the part of the journal itself; an empty part where there is none.
+pub fn held_block<'a>(journal: &'a [u8], adjacency: &'a [u8], number: usize) -> &'a [u8]
+    ensures { λ r. ⌜ now r ≡ heldPart (lengthAnswer (now (journal .entry)) (now (adjacency .entry)) number) (now (journal .entry)) number ⌝ }
+{
+    let answer = held_block_length(journal, adjacency, number);
+    match answer {
+        LengthAnswer::Length(_) => block_part(journal, number),
+        LengthAnswer::Refused(_) => &journal[..0],
+    }
+}
