@@ -181,3 +181,7 @@ pub above-same : (e d : List ℕ) → HasDegrees d (graphOf e) → firstAboveIn 
 above-same e d h =
     lowest-cong 0 mostVertices (λ v. ltb mostDegree (degreeIn d v)) (λ v. ltb mostDegree (degree mostVertices (graphOf e) v)) (omega arith)
     (λ v m l. ap (ltb mostDegree) (h v l))
+
+-- a small cell as it stands in the array
+pub cell-room : (c : List ℕ) (k l : ℕ) → CellsSmall c → k < degrees → l < degrees → getD c (place k l) 0 ≤ cellMostOwn
+cell-room c k l h hk hl = rw (lt-ltb k degrees hk, lt-ltb l degrees hl) at (h k l)

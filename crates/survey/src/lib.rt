@@ -6,7 +6,7 @@ use crate::count::cells_of;
 use crate::count::degrees_of;
 use crate::count::first_above;
 use crate::edges::first_bad_edge;
-use crate::records::put_records;
+use crate::write::put_records;
 use answer::Cause;
 use answer::WrittenAnswer;
 use answer::refuse;
@@ -15,7 +15,7 @@ use table::layout::MOST_VERTICES;
 
 pub mod count;
 pub mod edges;
-pub mod records;
+pub mod write;
 
 // Writes the records of the list's own joint degree matrix, or refuses and changes no byte.
 pub fn jdm_of_edges(edges: &[u8], output: &mut [u8]) -> WrittenAnswer
