@@ -28,6 +28,17 @@ pub catTo-more : (f : ℕ → List ℕ) (n : ℕ) → catTo (n + 1) f ≡ catTo 
 unfolding catTo
 catTo-more f n = rw add-one
 
+-- equal lists, one after the other, are equal
+pub catTo-cong : (f g : ℕ → List ℕ) (n : ℕ) → ((i : ℕ) → i < n → f i ≡ g i) → catTo n f ≡ catTo n g
+unfolding catTo
+catTo-cong f g zero h = refl
+catTo-cong f g (suc n) h = rw (catTo-cong f g n (λ i l. h i (omega arith)), h n (omega arith))
+
+pub catTo-empty : (f : ℕ → List ℕ) (n : ℕ) → ((i : ℕ) → i < n → f i ≡ []) → catTo n f ≡ []
+unfolding catTo
+catTo-empty f zero h = refl
+catTo-empty f (suc n) h = rw (catTo-empty f n (λ i l. h i (omega arith)), h n (omega arith))
+
 -- what is written after a is written behind it
 pub sets-append : (l : List ℕ) (i : ℕ) (a b : List ℕ) → sets l i (a ++ b) ≡ sets (sets l i a) (i + length a) b
 sets-append l i [] b = rw add-zero

@@ -1,13 +1,13 @@
 -- Reading a part of a list, and a list into which another is written.
 -- Assumes nothing.
 use mathlib.Core.Path.{_≡_, refl, sym, ap, _∙_}
-use mathlib.Core.List.{List, [], _∷_}
+use mathlib.Core.List.{List, [], _∷_, _++_}
 use Prim.Native.Nat.{ℕ, zero, suc, _+_, _-_, _≤_, _<_, min}
-use native.Mathlib.Nat.{add-zero}
+use native.Mathlib.Nat.{add-zero, zero-add}
 use native.Mathlib.Decide.{decLt}
 use native.Mathlib.Omega.{arith}
 use lib.ListN.{length, getD, set, take, drop, length-take, length-drop, length-set, List·getD-eq-default}
-use lib.Seq.{sets, getD-take, getD-drop, getD-set-same, getD-set-other, ext-getD}
+use lib.Seq.{sets, sets-eq, take-append-seam, drop-append-seam, getD-take, getD-drop, getD-set-same, getD-set-other, ext-getD}
 
 -- the n elements from place k on
 module _ (n k : ℕ) (l : List ℕ) where
@@ -56,3 +56,14 @@ getD-sets-in l i (v ∷ vs) zero h m =
 getD-sets-in l i (v ∷ vs) (suc q) h m =
     let e : i + suc q ≡ suc i + q = omega arith in
     rw e (getD-sets-in (set l i v) (suc i) vs q (rw (length-set l i v) (omega arith)) (omega arith))
+
+-- a list written at the start, and what is behind it
+module _ (l vs : List ℕ) (h : length vs ≤ length l) where
+  sets-start : sets l 0 vs ≡ vs ++ drop (length vs) l
+  sets-start = rw zero-add at (sets-eq vs l 0 (rw zero-add h))
+
+  pub take-sets : take (length vs) (sets l 0 vs) ≡ vs
+  take-sets = rw sets-start (take-append-seam vs (drop (length vs) l))
+
+  pub drop-sets : drop (length vs) (sets l 0 vs) ≡ drop (length vs) l
+  drop-sets = rw sets-start (drop-append-seam vs (drop (length vs) l))

@@ -1,7 +1,7 @@
-// Byte slices: a byte as a number, all zero, equal, copied into another.
+// Byte slices: a byte as a number, all zero, equal, one byte stored, copied into another.
 ghost use mathlib.Core.Path.{_≡_};
 ghost use Prim.Native.Nat.{_+_, _≤_, _<_};
-ghost use lib.ListN.{length, replicate};
+ghost use lib.ListN.{length, replicate, set};
 ghost use lib.Seq.{sets};
 ghost use Rattle.slices.specs.Slices.{allZero, sameBytes};
 
@@ -36,6 +36,15 @@ pub fn same_bytes(a: &[u8], b: &[u8]) -> bool
         }
     }
     true
+}
+
+// The byte b at place at, if there is such a place.
+pub fn put(out: &mut [u8], at: usize, b: u8)
+    ensures { λ _. ⌜ now (out .exit) ≡ set (now (out .entry)) at b ⌝ }
+{
+    if at < out.len() {
+        out[at] = b;
+    }
 }
 
 // The bytes of src in dst, from place at on.

@@ -75,23 +75,23 @@ matrix-most m c h k l = go (ltb k degrees && ltb l degrees)
 
 -- two pairs of degrees stand in one place where they are the same pair
 module _ (k l a b : ℕ) (hk : k < degrees) (hl : l < degrees) (ha : a < degrees) (hb : b < degrees) where
-  same-place : place k l ≡ place a b → samePair k l a b ≡ true
+  pub same-place : place k l ≡ place a b → samePair k l a b ≡ true
   same-place e = go (ℕ-discrete k a)
     where
       go : Dec (k ≡ a) → samePair k l a b ≡ true
       go (yes p) = samePair-straight k l a b p (omega arith)
       go (no p) = samePair-crossed k l a b (omega arith) (omega arith)
 
-  other-place : place k l ≢ place a b → samePair k l a b ≡ false
+  pub other-place : place k l ≢ place a b → samePair k l a b ≡ false
   other-place h = samePair-none k l a b (λ p q. h (omega arith)) (λ p q. h (omega arith))
 
-  place-below : place k l < cellsSize
+  pub place-below : place k l < cellsSize
   place-below = omega arith
 
-add-here : (c : List ℕ) (p q n : ℕ) → q < length c → p ≡ q → getD (set c q (getD c q 0 + n)) p 0 ≡ getD c p 0 + n
+pub add-here : (c : List ℕ) (p q n : ℕ) → q < length c → p ≡ q → getD (set c q (getD c q 0 + n)) p 0 ≡ getD c p 0 + n
 add-here c p q n l e = rw (e, getD-set-same c q (getD c q 0 + n) 0 l)
 
-add-apart : (c : List ℕ) (p q n : ℕ) → p ≢ q → getD (set c q (getD c q 0 + n)) p 0 ≡ getD c p 0 + 0
+pub add-apart : (c : List ℕ) (p q n : ℕ) → p ≢ q → getD (set c q (getD c q 0 + n)) p 0 ≡ getD c p 0 + 0
 add-apart c p q n h = getD-set-other c q p (getD c q 0 + n) 0 h ∙ sym (add-zero (getD c p 0))
 
 -- what a good record adds to the matrix

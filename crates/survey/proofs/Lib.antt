@@ -1,0 +1,4 @@
+pub mod Counting
+pub mod List
+pub mod Records
+pub mod Survey

@@ -1,0 +1,57 @@
+-- `survey::count::count_edge` meets its contract.
+-- Assumes nothing.
+use mathlib.Core.Path.{_≡_}
+use Prim.Native.Nat.{_+_, _*_, _≤_, _<_}
+use native.Mathlib.Omega.{arith}
+use lib.Seq.{getD-set-other}
+use Rattle.survey.specs.EdgeList.{endV, endW}
+use Rattle.survey.specs.Counting.{degreeIn}
+use Rattle.survey.proofs.List.{good-edge}
+use Rattle.survey.proofs.count.count_edge.Statement.{statement}
+use Rattle.survey.proofs.count.count_edge.Tie as tie
+
+pub count-edge-spec : {M : Type 1} → statement M
+count-edge-spec =
+    tie.close (tie.spec
+    (λ c. omega arith)  -- mul-wide
+    (λ c. omega arith)  -- shared-slice-read-wide
+    (λ c κs. tt)  -- wide-requires
+    (λ c. omega arith)  -- mul-wide-2
+    (λ c. omega arith)  -- add-wide
+    (λ c. omega arith)  -- shared-slice-read-wide-2
+    (λ c κs. tt)  -- wide-requires-2
+    (λ c. omega arith)  -- mul-counts
+    (λ c.
+    let s = c .before .before .before .before .before in
+    let g = good-edge (s .args .edges .now) (s .args .i) (s .pre .1) in
+    omega arith)  -- element-copy-out-counts
+    (λ c.
+    let w = c .before .before .before in
+    let s = w .before .before .before in
+    let room : degreeIn (s .args .counts .now) (w .wide .result) ≤ 2 * s .args .i = rw (w .wide .ensures .0) (s .pre .2) in
+    omega arith)  -- add-counts
+    (λ c. omega arith)  -- mul-counts-2
+    (λ c.
+    let s = c .before .before .before .before .before .before in
+    let g = good-edge (s .args .edges .now) (s .args .i) (s .pre .1) in
+    omega arith)  -- element-write-counts
+    (λ c. omega arith)  -- mul-counts-3
+    (λ c.
+    let s = c .before .before .before .before .before .before in
+    let g = good-edge (s .args .edges .now) (s .args .i) (s .pre .1) in
+    omega arith)  -- element-copy-out-counts-2
+    (λ c.
+    let x = c .before .before in
+    let w = x .before .before in
+    let s = w .before .before .before in
+    let g = good-edge (s .args .edges .now) (s .args .i) (s .pre .1) in
+    let room : degreeIn (s .args .counts .now) (x .wide2 .result) ≤ 2 * s .args .i = rw (x .wide2 .ensures .0) (s .pre .3) in
+    omega (arith, getD-set-other (s .args .counts .now) (w .wide .result) (x .wide2 .result) (degreeIn (s .args .counts .now) (w .wide .result) + 1) 0 (omega arith)))  -- add-counts-2
+    (λ c. omega arith)  -- mul-counts-4
+    (λ c.
+    let s = c .before .before .before .before .before .before .before in
+    let g = good-edge (s .args .edges .now) (s .args .i) (s .pre .1) in
+    omega arith)  -- element-write-counts-2
+    (λ c.
+    let x = c .before .before in
+    rw (x .wide2 .ensures .0, x .before .before .wide .ensures .0)))  -- returns

@@ -1,0 +1,52 @@
+-- `survey::write::put_row` meets its contract: after the turn for l the records up to cell (k, l) are written.
+-- Assumes nothing.
+use mathlib.Core.Path.{_≡_, refl}
+use Prim.Native.Nat.{_+_, _*_, _-_, _≤_}
+use lib.ListN.{length, length-append}
+use lib.Seq.{sets, length-sets}
+use Rattle.finite.specs.Range.{catTo}
+use Rattle.finite.proofs.Fold.{catTo-more, sets-append}
+use Rattle.graph.specs.Tests.{degrees}
+use Rattle.table.specs.Block.{recordSize}
+use Rattle.table.specs.Cells.{matrixOf}
+use Rattle.survey.specs.Survey.{cellRecord}
+use Rattle.survey.proofs.Records.{row-starts}
+use native.Mathlib.Omega.{arith}
+use Rattle.survey.proofs.write.put_row.Statement.{statement}
+use Rattle.survey.proofs.write.put_row.Tie as tie
+
+abbrev Inv-loop : tie.InvT-loop
+Inv-loop cells k out₀ at a₀ l₀ out a l =
+    (k ≤ l) × (l ≤ degrees)
+    × (a ≡ at + length (catTo l (cellRecord (matrixOf cells) k)))
+    × (a ≤ at + recordSize * l)
+    × (out ≡ sets out₀ at (catTo l (cellRecord (matrixOf cells) k)))
+
+abbrev μ-loop : tie.MeasureT-loop
+μ-loop cells k out₀ at a₀ l₀ out a l = degrees - l
+
+pub put-row-spec : {M : Type 1} → statement M
+put-row-spec =
+    tie.close (tie.spec Inv-loop μ-loop
+    (λ c.
+    let s = c .before in
+    rw (row-starts (matrixOf (s .args .cells .now)) (s .args .k)) (omega arith, omega arith, omega arith, omega arith, refl))  -- loop-holds
+    (λ c κs.
+    let s = c .before .before .before .before in
+    (omega arith, omega arith, s .pre .1, omega arith))  -- put-record-requires
+    (λ c. omega arith)  -- add-l
+    (λ c. omega arith)  -- loop-less
+    (λ c.
+    let p = c .before .before in
+    let l = p .before .before .before in (
+      omega arith,
+      omega arith,
+      simp (catTo-more, length-append) (omega arith),
+      omega arith,
+      simp (catTo-more, sets-append) (rw (← (l .loop .inv .4), ← (l .loop .inv .2)) (p .put-record .ensures .1)),
+    ))  -- loop-again
+    (λ c. rw (c .before .loop .inv .4, length-sets))  -- same-length
+    (λ c.
+    let l = c .before in
+    let e : l .loop .l ≡ degrees = omega arith in
+    ((rw e at (l .loop .inv .2), omega arith), rw e at (l .loop .inv .4))))  -- returns

@@ -1,0 +1,61 @@
+-- What the code keeps while it goes through an edge list: the degrees and the cells that the edges so far make.
+-- Assumes nothing.
+use mathlib.Core.Path.{_≡_}
+use mathlib.Core.Bool.{cond}
+use mathlib.Core.List.{List}
+use Prim.Native.Nat.{ℕ, _+_, _≤_, _<_}
+use lib.Dec.{eqb, ltb}
+use lib.ListN.{getD, set}
+use Rattle.finite.specs.Range.{sumTo, lowest}
+use Rattle.graph.specs.Graph.{Graph, atEdge, degree, jdm}
+use Rattle.graph.specs.Tests.{mostDegree, degrees}
+use Rattle.table.specs.Cells.{matrixOf, place}
+use Rattle.table.specs.Layout.{mostVertices}
+use Rattle.survey.specs.EdgeList.{endV, endW}
+
+-- the graph of the first n edges
+abbrev pub graphTo : List ℕ → ℕ → Graph
+graphTo e n v w = sumTo n (λ i. atEdge (endV e i) (endW e i) v w)
+
+-- n more at place p
+abbrev pub addAt : List ℕ → ℕ → ℕ → List ℕ
+addAt t p n = set t p (getD t p 0 + n)
+
+-- the degrees after one edge x – y more
+abbrev pub countEdge : ℕ → ℕ → List ℕ → List ℕ
+countEdge x y d = addAt (addAt d x 1) y 1
+
+-- the degree of v as the array has it
+abbrev pub degreeIn : List ℕ → ℕ → ℕ
+degreeIn d v = getD d v 0
+
+-- how often equation (1) counts an edge in the cell of its degrees a and b: twice on the diagonal
+abbrev pub timesCounted : ℕ → ℕ → ℕ
+timesCounted a b = cond (eqb a b) 2 1
+
+-- the cells after one edge more, between vertices of degrees a and b
+abbrev pub countCell : ℕ → ℕ → List ℕ → List ℕ
+countCell a b c = addAt c (place a b) (timesCounted a b)
+
+-- the array holds the degrees of E
+abbrev pub HasDegrees : List ℕ → Graph → Type 0
+HasDegrees d E = (v : ℕ) → v < mostVertices → degreeIn d v ≡ degree mostVertices E v
+
+-- the array holds the matrix of E at the classes cls
+abbrev pub HasCells : List ℕ → (ℕ → ℕ) → Graph → Type 0
+HasCells c cls E = (k l : ℕ) → k < degrees → l < degrees → matrixOf c k l ≡ jdm mostVertices cls E k l
+
+-- the lowest vertex whose degree in the array is over 40
+abbrev pub firstAboveIn : List ℕ → ℕ
+firstAboveIn d = lowest 0 mostVertices (λ v. ltb mostDegree (degreeIn d v))
+
+-- the most that a cell reaches: 200 vertices of degree 40
+abbrev pub cellMostOwn : ℕ
+cellMostOwn = 8000
+
+abbrev pub CellsSmall : List ℕ → Type 0
+CellsSmall c = (k l : ℕ) → matrixOf c k l ≤ cellMostOwn
+
+-- the most bytes that records take: 4 for each of 41 × 41 cells
+abbrev pub recordsMost : ℕ
+recordsMost = 6724

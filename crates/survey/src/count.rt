@@ -1,0 +1,98 @@
+// The degrees and the joint degree matrix of a list of good edges, counted edge by edge.
+ghost use mathlib.Core.Path.{_≡_};
+ghost use mathlib.Core.Bool.{true};
+ghost use Prim.Native.Nat.{_+_, _*_, _≤_, _<_};
+ghost use lib.ListN.{length, getD};
+ghost use Rattle.graph.specs.Graph.{degree};
+ghost use Rattle.graph.specs.Tests.{degrees};
+ghost use Rattle.table.specs.Cells.{place};
+ghost use Rattle.table.specs.Layout.{mostVertices};
+ghost use Rattle.survey.specs.EdgeList.{listed, endV, endW, goodEdge, firstBadEdge, graphOf};
+ghost use Rattle.survey.specs.Survey.{firstAbove};
+ghost use Rattle.survey.specs.Counting.{countEdge, countCell, timesCounted, degreeIn, firstAboveIn, HasDegrees, HasCells, cellMostOwn, CellsSmall};
+use slices::wide;
+use table::cells::place_of;
+use table::cells::wide32;
+use table::layout::MOST_VERTICES;
+
+const MOST_DEGREE: usize = 40;
+
+// Edge i is one more for both its ends.
+fn count_edge(counts: &mut [usize; 200], edges: &[u8], i: usize)
+    requires { ⌜ (2 * i + 2 ≤ length (now edges)) × (goodEdge (now edges) i ≡ true) × (degreeIn (now counts) (endV (now edges) i) ≤ 2 * i) × (degreeIn (now counts) (endW (now edges) i) ≤ 2 * i) ⌝ }
+    ensures { λ _. ⌜ now (counts .exit) ≡ countEdge (endV (now (edges .entry)) i) (endW (now (edges .entry)) i) (now (counts .entry)) ⌝ }
+{
+    let v = wide(edges[2 * i]);
+    let w = wide(edges[2 * i + 1]);
+    counts[v] = counts[v] + 1;
+    counts[w] = counts[w] + 1;
+}
+
+// The degree of each vertex.
+pub fn degrees_of(edges: &[u8]) -> [usize; 200]
+    requires { ⌜ firstBadEdge (now edges) ≡ listed (now edges) ⌝ }
+    ensures { λ r. ⌜ HasDegrees r (graphOf (now (edges .entry))) ⌝ }
+{
+    let n = edges.len() / 2;
+    let mut counts = [0usize; 200];
+    for i in 0..n {
+        count_edge(&mut counts, edges, i);
+    }
+    counts
+}
+
+// The lowest vertex whose degree is over 40, or 200.
+pub fn first_above(counts: &[usize; 200]) -> usize
+    ensures { λ r. ⌜ r ≡ firstAboveIn (now (counts .entry)) ⌝ }
+{
+    let mut v = 0;
+    while v < MOST_VERTICES {
+        if MOST_DEGREE < counts[v] {
+            return v;
+        }
+        v += 1;
+    }
+    v
+}
+
+// How often an edge between vertices of degrees a and b counts in their cell.
+fn times_counted(a: usize, b: usize) -> usize
+    ensures { λ r. ⌜ (r ≡ timesCounted a b) × (r ≤ 2) ⌝ }
+{
+    if a == b {
+        return 2;
+    }
+    1
+}
+
+fn count_cell(cells: &mut [u32; 1681], a: usize, b: usize)
+    requires { ⌜ (a < degrees) × (b < degrees) × (getD (now cells) (place a b) 0 ≤ cellMostOwn) ⌝ }
+    ensures { λ _. ⌜ now (cells .exit) ≡ countCell a b (now (cells .entry)) ⌝ }
+{
+    let p = place_of(a, b);
+    let sum = wide32(cells[p]) + times_counted(a, b);
+    cells[p] = sum as u32;
+}
+
+// The degree of the vertex that a byte names.
+fn degree_at(counts: &[usize; 200], v: u8) -> usize
+    requires { ⌜ v < mostVertices ⌝ }
+    ensures { λ r. ⌜ r ≡ degreeIn (now (counts .entry)) v ⌝ }
+{
+    counts[wide(v)]
+}
+
+// The joint degree matrix at the graph's own degrees.
+pub fn cells_of(edges: &[u8], counts: &[usize; 200]) -> [u32; 1681]
+    requires { ⌜ (firstBadEdge (now edges) ≡ listed (now edges)) × HasDegrees (now counts) (graphOf (now edges)) × (firstAbove (now edges) ≡ mostVertices) ⌝ }
+    ensures { λ r. ⌜ HasCells r (degree mostVertices (graphOf (now (edges .entry)))) (graphOf (now (edges .entry))) × CellsSmall r ⌝ }
+{
+    let n = edges.len() / 2;
+    let mut cells = [0u32; 1681];
+    for i in 0..n {
+        let a = degree_at(counts, edges[2 * i]);
+        let b = degree_at(counts, edges[2 * i + 1]);
+        count_cell(&mut cells, a, b);
+    }
+    cells
+}

@@ -1,0 +1,46 @@
+// The joint degree matrix of an edge list (document 01: survey).
+ghost use mathlib.Core.Path.{_≡_};
+ghost use lib.ListN.{length};
+ghost use Rattle.survey.specs.Survey.{surveyAnswer, surveyOutput};
+use crate::count::cells_of;
+use crate::count::degrees_of;
+use crate::count::first_above;
+use crate::edges::first_bad_edge;
+use crate::write::put_records;
+use answer::Cause;
+use answer::WrittenAnswer;
+use answer::refuse;
+use slices::copy_in;
+use table::layout::MOST_VERTICES;
+
+pub mod count;
+pub mod edges;
+pub mod write;
+
+// Writes the records of the list's own joint degree matrix, or refuses and changes no byte.
+pub fn jdm_of_edges(edges: &[u8], output: &mut [u8]) -> WrittenAnswer
+    ensures { λ r. ⌜ r ≡ surveyAnswer (now (edges .entry)) (length (now (output .entry))) ⌝ }
+    ensures { λ _. ⌜ now (output .exit) ≡ surveyOutput (surveyAnswer (now (edges .entry)) (length (now (output .entry)))) (now (edges .entry)) (now (output .entry)) ⌝ }
+{
+    let n = edges.len() / 2;
+    if edges.len() % 2 != 0 {
+        return WrittenAnswer::Refused(refuse(Cause::EdgeList, n, 0));
+    }
+    let bad = first_bad_edge(edges);
+    if bad != n {
+        return WrittenAnswer::Refused(refuse(Cause::EdgeList, bad, 0));
+    }
+    let counts = degrees_of(edges);
+    let above = first_above(&counts);
+    if above != MOST_VERTICES {
+        return WrittenAnswer::Refused(refuse(Cause::DegreeAbove, above, 0));
+    }
+    let cells = cells_of(edges, &counts);
+    let mut records = [0u8; 6724];
+    let length = put_records(&cells, &mut records);
+    if output.len() < length {
+        return WrittenAnswer::Refused(refuse(Cause::OutputLength, 0, 0));
+    }
+    copy_in(output, 0, &records[..length]);
+    WrittenAnswer::Written(length)
+}
