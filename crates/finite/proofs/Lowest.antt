@@ -121,16 +121,3 @@ module _ (a b : ℕ) (p : ℕ → Bool) (h : a ≤ b) where
       go : Dec (lowest a b p < b) → lowest a b p ≡ b
       go (yes s) = absurd (true≢false (sym (lowest-holds s) ∙ f (lowest a b p) lowest-ge s))
       go (no s) = omega (arith, lowest-le)
-
--- tests that agree on the range have the same lowest
-pub lowest-cong : (a b : ℕ) (p q : ℕ → Bool) → a ≤ b → ((k : ℕ) → a ≤ k → k < b → p k ≡ q k) → lowest a b p ≡ lowest a b q
-lowest-cong a b p q h f = go (decLt (lowest a b q) b)
-  where
-    go : Dec (lowest a b q < b) → lowest a b p ≡ lowest a b q
-    go (yes s) =
-        lowest-only a b p h (lowest a b q) (lowest-ge a b q h) s
-        (f (lowest a b q) (lowest-ge a b q h) s ∙ lowest-holds a b q h s)
-        (λ j g l. f j g (omega arith) ∙ lowest-before a b q h j g l)
-    go (no s) =
-        let e : lowest a b q ≡ b = omega (arith, lowest-le a b q h) in
-        lowest-none a b p h (λ j g l. f j g l ∙ lowest-before a b q h j g (omega arith)) ∙ sym e

@@ -155,7 +155,7 @@ module _ (e : List ℕ) (well : firstBadEdge e ≡ listed e) where
     pub degree-low : (v : ℕ) → v < mostVertices → degree mostVertices (graphOf e) v ≤ mostDegree
     degree-low v l =
         ltb-false mostDegree (degree mostVertices (graphOf e) v)
-        (lowest-before 0 mostVertices (λ v. ltb mostDegree (degree mostVertices (graphOf e) v)) (omega arith) v (omega arith) (rw low l))
+        (lowest-before 0 mostVertices (λ v. ltb mostDegree (degree mostVertices (graphOf e) v)) v (omega arith) (rw low l))
 
     -- 200 vertices of degree 40 have 4,000 edges
     pub few-edges : 2 * listed e ≤ cellMostOwn
@@ -179,7 +179,7 @@ module _ (e : List ℕ) (well : firstBadEdge e ≡ listed e) where
 -- the search in the array is the search in the graph
 pub above-same : (e d : List ℕ) → HasDegrees d (graphOf e) → firstAboveIn d ≡ firstAbove e
 above-same e d h =
-    lowest-cong 0 mostVertices (λ v. ltb mostDegree (degreeIn d v)) (λ v. ltb mostDegree (degree mostVertices (graphOf e) v)) (omega arith)
+    lowest-cong 0 mostVertices (λ v. ltb mostDegree (degreeIn d v)) (λ v. ltb mostDegree (degree mostVertices (graphOf e) v))
     (λ v m l. ap (ltb mostDegree) (h v l))
 
 -- a small cell as it stands in the array
