@@ -1,1 +1,3 @@
 pub mod Demand1
+pub mod Reach
+pub mod Demand3

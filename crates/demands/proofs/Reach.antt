@@ -4,37 +4,39 @@
 use mathlib.Core.Path.{_≡_, refl, sym, ap, subst, _∙_}
 use mathlib.Core.Bool.{Bool, true, false, _&&_, not, cond, true≢false}
 use mathlib.Core.List.{List, [], _∷_}
-use mathlib.Core.Logic.{⊎-elim}
 use Prim.Native.Nat.{ℕ, _+_, _-_, _≤_, _<_}
 use native.Mathlib.Omega.{arith}
 use lib.Dec.{eqb, ltb, leb}
-use lib.ListN.{length, getD, replicate}
-use borrow.Author.Tests.{eq-eqb, leb-true}
+use Rattle.answer.specs.declared.TakeAnswer.{TakeAnswer}
+use Rattle.answer.specs.declared.TakeAnswer.the-variants.{Taken, Held, Refused}
+use Rattle.answer.specs.declared.LayOutAnswer.{LayOutAnswer}
+use Rattle.answer.specs.declared.LayOutAnswer.the-variants.{LaidOut, Refused as LayRefused}
 use Rattle.answer.specs.declared.AddAnswer.{AddAnswer}
 use Rattle.answer.specs.declared.AddAnswer.the-variants as Add
 use Rattle.answer.specs.declared.RemoveAnswer.{RemoveAnswer}
 use Rattle.answer.specs.declared.RemoveAnswer.the-variants as Remove
 use Rattle.answer.specs.declared.CompleteAnswer.{CompleteAnswer}
 use Rattle.answer.specs.declared.CompleteAnswer.the-variants as Complete
-use Rattle.finite.proofs.All.{and-left, and-right}
-use Rattle.graph.specs.Graph.{edges}
 use Rattle.graph.specs.Tests.{passes}
 use Rattle.table.specs.Block.{wellFormed, blockCell}
 use Rattle.table.specs.Layout.{mostVertices, vertices}
-use Rattle.journal.specs.Journal.{journalSize, mostBlocks, phase, blocks, jdmOf, stored, laid}
-use Rattle.adjacency.specs.Adjacency.{adjacencySize, edge}
+use Rattle.journal.specs.Journal.{mostBlocks, phase, blocks, jdmOf, stored, laid}
+use Rattle.journal.proofs.Store.{phase-stored, blocks-stored, jdm-stored}
+use Rattle.journal.proofs.Laid.{blocks-laid, jdm-laid, phase-laid}
 use Rattle.adjacency.proofs.Empty.{no-edges}
 use Rattle.state.specs.Valid.{lengthsOk, valid}
 use Rattle.state.specs.Laid.{edgeTotal}
-use Rattle.state.proofs.Facts.{StateFacts, valid-facts}
+use Rattle.state.proofs.Facts.{StateFacts, valid-facts, lengths-journal, valid-journal}
 use Rattle.intake.specs.Take.{takeAnswer, takeJournal}
 use Rattle.intake.specs.LayOut.{layOutAnswer, layOutJournal}
-use Rattle.intake.proofs.Tally.{cleared-valid, take-counts, take-passes, layout-lays, layout-stays}
+use Rattle.intake.proofs.Clear.{cleared-state}
+use Rattle.intake.proofs.Take.{isTaken, isNext, TakenFacts, taken-facts, take-taken, take-lengths, take-valid}
+use Rattle.intake.proofs.LayOut.{isLaidOut, laysOut as laysOutNow, LaidOutFacts, lay-out-facts, lay-out-laid-out, lay-out-lengths, lay-out-valid}
 use Rattle.editing.specs.Add.{addAnswer, addAdjacency}
 use Rattle.editing.specs.Remove.{removeAnswer, removeAdjacency}
 use Rattle.editing.proofs.Add.{added-facts, add-works}
 use Rattle.editing.proofs.Remove.{removed-facts, remove-works}
-use Rattle.completion.specs.Complete.{completed, completeAnswer, completeAdjacency}
+use Rattle.completion.specs.Complete.{completeAnswer, completeAdjacency}
 use Rattle.completion.proofs.Entry.{completed-facts, complete-works}
 use Rattle.demands.specs.Calls.{Call, take, layOut, add, remove, complete, readBack, list, figures, State, cleared, after, afterAll}
 use Rattle.demands.specs.Tally.{Tally, noTally, told, toldAdd, toldRemove, toldComplete, counts, withBlock, laysOut, nowLaid, withEdges, tally, tallyAll}
@@ -59,8 +61,8 @@ pub record Reach (s : State) (t : Tally) : Type 0 where
 
 reach-cleared : Reach cleared noTally
 reach-cleared =
-    let c = cleared-valid in
-    record { lengths = c .lengths; sound = c .sound; table = c .table; numbered = c .blocks; phased = c .phase; counted = refl }
+    let c = cleared-state in
+    record { lengths = c .lengths; sound = c .sound; table = c .no-cells; numbered = c .no-blocks; phased = c .taking; counted = refl }
 
 -- what a join, a lift or a finish that was not refused needs: a laid state
 laid-tally : (s : State) (t : Tally) → Reach s t → phase (s .journal) ≡ 1 → t .laid ≡ true
@@ -70,8 +72,14 @@ laid-tally s t r e = go (t .laid) refl
     go true p = p
     go false p = absurd (omega (arith, r .phased, ap phaseOf p, e))
 
-laid-counted : (s : State) (t : Tally) → Reach s t → t .laid ≡ true → edgeTotal (s .journal) (s .adjacency) ≡ t .edges
+pub laid-counted : (s : State) (t : Tally) → Reach s t → t .laid ≡ true → edgeTotal (s .journal) (s .adjacency) ≡ t .edges
 laid-counted s t r e = subst (λ (b : Bool). Counted b (edgeTotal (s .journal) (s .adjacency)) (t .edges)) e (r .counted)
+
+pub phase-0 : (s : State) (t : Tally) → Reach s t → t .laid ≡ false → phase (s .journal) ≡ 0
+phase-0 s t r e = r .phased ∙ ap phaseOf e
+
+pub phase-1 : (s : State) (t : Tally) → Reach s t → t .laid ≡ true → phase (s .journal) ≡ 1
+phase-1 s t r e = r .phased ∙ ap phaseOf e
 
 -- the tally's edges moved on a laid state
 with-edges : (s : State) (g′ : List ℕ) (t : Tally) (m : ℕ) → Reach s t → t .laid ≡ true → lengthsOk (s .journal) g′ ≡ true → valid (s .journal) g′ ≡ true
@@ -87,50 +95,140 @@ with-edges s g′ t m r e lengths sound count =
     }
 
 module _ (s : State) (t : Tally) (r : Reach s t) where
-  j : List ℕ
-  j = s .journal
-
-  g : List ℕ
-  g = s .adjacency
-
   -- the tally's test of a block is the journal's
-  same-counts : (number : ℕ) (b : List ℕ) → (wellFormed b && eqb number (blocks (s .journal)) && eqb (phase (s .journal)) 0 && ltb (blocks (s .journal)) mostBlocks) ≡ counts t number b
-  same-counts number b = rw (r .numbered, r .phased) (go (t .laid))
+  same-next : (number : ℕ) (b : List ℕ) → isNext (s .journal) number b ≡ counts t number b
+  same-next number b = rw (r .numbered, r .phased) (go (t .laid))
     where
       go : (l : Bool) → (wellFormed b && eqb number (t .blocks) && eqb (phaseOf l) 0 && ltb (t .blocks) mostBlocks)
           ≡ (wellFormed b && eqb number (t .blocks) && not l && ltb (t .blocks) mostBlocks)
       go true = refl
       go false = refl
 
-  not-laid : (number : ℕ) (b : List ℕ) → counts t number b ≡ true → t .laid ≡ false
-  not-laid number b h = go (t .laid) refl (and-right (wellFormed b && eqb number (t .blocks)) (not (t .laid))
-      (and-left (wellFormed b && eqb number (t .blocks) && not (t .laid)) (ltb (t .blocks) mostBlocks) h))
-    where
-      go : (l : Bool) → t .laid ≡ l → not (t .laid) ≡ true → t .laid ≡ false
-      go false p q = p
-      go true p q = absurd (true≢false (sym (rw p at q)))
-
   after-take : (number : ℕ) (b : List ℕ) → Reach (after s (take number b)) (tally t (told s (take number b)))
-  after-take number b = go (counts t number b) refl
+  after-take number b = go (takeAnswer (s .journal) (s .adjacency) number b) refl (counts t number b) refl
     where
-      go : (c : Bool) → counts t number b ≡ c
-          → Reach (record { journal = takeJournal (takeAnswer (s .journal) (s .adjacency) number b) (s .journal) b; adjacency = s .adjacency }) (cond c (withBlock t b) t)
-      go true e =
-          let x = take-counts (s .journal) (s .adjacency) b number (r .lengths) (r .sound) (same-counts number b ∙ e) in
-          let l = not-laid number b e in
-          record {
-            lengths = x .lengths;
-            sound = x .sound;
-            table = x .table ∙ ap (λ (T : ℕ → ℕ → ℕ) k l. T k l + blockCell b k l) (r .table);
-            numbered = x .blocks ∙ ap (λ (m : ℕ). m + 1) (r .numbered);
-            phased = x .phase ∙ r .phased;
-            counted =
-                subst (λ (b : Bool). Counted b (edgeTotal (takeJournal (takeAnswer (s .journal) (s .adjacency) number b′) (s .journal) b′) (s .adjacency)) (t .edges)) (sym l)
-                (subst (λ (b : Bool). Counted b (edgeTotal (s .journal) (s .adjacency)) (t .edges)) l (r .counted));
-          }
+      tested : isTaken (takeAnswer (s .journal) (s .adjacency) number b) ≡ counts t number b
+      tested = take-taken (s .journal) (s .adjacency) number b (r .lengths) (r .sound) .0 ∙ same-next number b
+
+      go : (a : TakeAnswer) → takeAnswer (s .journal) (s .adjacency) number b ≡ a → (c : Bool) → counts t number b ≡ c
+          → Reach (record { journal = takeJournal a (s .journal) b; adjacency = s .adjacency }) (cond c (withBlock t b) t)
+      go (Taken m) e true h = new (taken-facts (s .journal) (s .adjacency) number b m e)
         where
-          b′ : List ℕ
-          b′ = b
-      go false e =
-          let x = take-passes (s .journal) (s .adjacency) b number (r .lengths) (r .sound) (same-counts number b ∙ e) in
-          subst (λ (k : List ℕ). Reach (record { journal = k; adjacency = s .adjacency }) t) (sym x) r
+          new : TakenFacts (s .journal) (s .adjacency) number b → Reach (record { journal = stored (s .journal) b; adjacency = s .adjacency }) (withBlock t b)
+          new f =
+              let size = lengths-journal (s .journal) (s .adjacency) (f .lengths) in
+              let ok = valid-journal (s .journal) (s .adjacency) (f .sound) in
+              record {
+                lengths = rw e at (take-lengths (s .journal) (s .adjacency) number b (r .lengths));
+                sound = rw e at (take-valid (s .journal) (s .adjacency) number b (r .sound));
+                table =
+                    jdm-stored (s .journal) b size ok (f .room) (f .good)
+                    ∙ ap {B = ℕ → ℕ → ℕ} (λ (T : ℕ → ℕ → ℕ). λ k l. T k l + blockCell b k l) (r .table);
+                numbered = blocks-stored (s .journal) b size ok (f .room) (f .good) ∙ ap (λ (m : ℕ). m + 1) (r .numbered);
+                phased = phase-stored (s .journal) b size ok (f .room) (f .good) ∙ r .phased;
+                counted = not-laid (t .laid) refl;
+              }
+            where
+              not-laid : (l : Bool) → t .laid ≡ l → Counted l (edgeTotal (stored (s .journal) b) (s .adjacency)) (t .edges)
+              not-laid true p = absurd (omega (arith, r .phased, ap phaseOf p, f .taking))
+              not-laid false p = subst (λ (l : Bool). Counted l (edgeTotal (s .journal) (s .adjacency)) (t .edges)) p (r .counted)
+      go (Taken m) e false h = absurd (true≢false (ap isTaken (sym e) ∙ tested ∙ h))
+      go Held e true h = absurd (true≢false (sym (ap isTaken (sym e) ∙ tested ∙ h)))
+      go Held e false h = r
+      go (Refused q) e true h = absurd (true≢false (sym (ap isTaken (sym e) ∙ tested ∙ h)))
+      go (Refused q) e false h = r
+
+  -- the tally's test of a layout is the journal's
+  same-lays : laysOutNow (s .journal) ≡ laysOut t
+  same-lays = rw (r .phased, r .table) (go (t .laid))
+    where
+      go : (l : Bool) → (eqb (phaseOf l) 0 && passes (t .table) && leb (vertices (t .table)) mostVertices)
+          ≡ (not l && passes (t .table) && leb (vertices (t .table)) mostVertices)
+      go true = refl
+      go false = refl
+
+  after-layOut : Reach (after s layOut) (tally t (told s layOut))
+  after-layOut = go (layOutAnswer (s .journal) (s .adjacency)) refl (laysOut t) refl
+    where
+      tested : isLaidOut (layOutAnswer (s .journal) (s .adjacency)) ≡ laysOut t
+      tested = lay-out-laid-out (s .journal) (s .adjacency) (r .lengths) (r .sound) .0 ∙ same-lays
+
+      go : (a : LayOutAnswer) → layOutAnswer (s .journal) (s .adjacency) ≡ a → (c : Bool) → laysOut t ≡ c
+          → Reach (record { journal = layOutJournal a (s .journal); adjacency = s .adjacency }) (cond c (nowLaid t) t)
+      go (LaidOut n) e true h = new (lay-out-facts (s .journal) (s .adjacency) n e)
+        where
+          new : LaidOutFacts (s .journal) (s .adjacency) → Reach (record { journal = laid (s .journal); adjacency = s .adjacency }) (nowLaid t)
+          new f =
+              let facts = valid-facts (s .journal) (s .adjacency) (r .lengths) (r .sound) in
+              record {
+                lengths = lay-out-lengths (s .journal) (s .adjacency) (LaidOut n) (r .lengths);
+                sound = rw e at (lay-out-valid (s .journal) (s .adjacency) (r .lengths) (r .sound));
+                table = jdm-laid (s .journal) ∙ r .table;
+                numbered = blocks-laid (s .journal) ∙ r .numbered;
+                phased = phase-laid (s .journal) (facts .journal-length);
+                counted = no-edges (s .adjacency) (facts .empty (f .taking)) (vertices (jdmOf (laid (s .journal)))) ∙ sym (none (t .laid) refl);
+              }
+            where
+              none : (l : Bool) → t .laid ≡ l → t .edges ≡ 0
+              none true p = absurd (omega (arith, r .phased, ap phaseOf p, f .taking))
+              none false p = subst (λ (l : Bool). Counted l (edgeTotal (s .journal) (s .adjacency)) (t .edges)) p (r .counted)
+      go (LaidOut n) e false h = absurd (true≢false (ap isLaidOut (sym e) ∙ tested ∙ h))
+      go (LayRefused q) e true h = absurd (true≢false (sym (ap isLaidOut (sym e) ∙ tested ∙ h)))
+      go (LayRefused q) e false h = r
+
+  after-add : (v w : ℕ) → Reach (after s (add v w)) (tally t (told s (add v w)))
+  after-add v w = go (addAnswer (s .journal) (s .adjacency) v w) refl
+    where
+      go : (a : AddAnswer) → addAnswer (s .journal) (s .adjacency) v w ≡ a
+          → Reach (record { journal = s .journal; adjacency = addAdjacency a (s .journal) (s .adjacency) v w }) (tally t (toldAdd a))
+      go (Add.Added m) e =
+          let f = added-facts (s .journal) (s .adjacency) v w m e .0 in
+          let x = add-works (s .journal) (s .adjacency) v w f in
+          let l = laid-tally s t r (f .phased) in
+          with-edges s (addAdjacency (Add.Added m) (s .journal) (s .adjacency) v w) t (t .edges + 1) r l (x .lengths) (x .sound)
+          (x .one-more ∙ ap (λ (m : ℕ). m + 1) (laid-counted s t r l))
+      go (Add.Refused q) e = r
+
+  after-remove : (v w : ℕ) → Reach (after s (remove v w)) (tally t (told s (remove v w)))
+  after-remove v w = go (removeAnswer (s .journal) (s .adjacency) v w) refl
+    where
+      go : (a : RemoveAnswer) → removeAnswer (s .journal) (s .adjacency) v w ≡ a
+          → Reach (record { journal = s .journal; adjacency = removeAdjacency a (s .adjacency) v w }) (tally t (toldRemove a))
+      go Remove.Removed e =
+          let f = removed-facts (s .journal) (s .adjacency) v w e in
+          let x = remove-works (s .journal) (s .adjacency) v w f in
+          let l = laid-tally s t r (f .phased) in
+          with-edges s (removeAdjacency Remove.Removed (s .adjacency) v w) t (t .edges - 1) r l (x .lengths) (x .sound)
+          (omega (arith, x .one-less, laid-counted s t r l))
+      go (Remove.Refused q) e = r
+
+  after-complete : Reach (after s complete) (tally t (told s complete))
+  after-complete = go (completeAnswer (s .journal) (s .adjacency)) refl
+    where
+      go : (a : CompleteAnswer) → completeAnswer (s .journal) (s .adjacency) ≡ a
+          → Reach (record { journal = s .journal; adjacency = completeAdjacency a (s .journal) (s .adjacency) }) (tally t (toldComplete a))
+      go (Complete.Completed joins switches) e =
+          let f = completed-facts (s .journal) (s .adjacency) joins switches e in
+          let x = complete-works (s .journal) (s .adjacency) (f .0) in
+          let l = laid-tally s t r (f .0 .phased) in
+          with-edges s (completeAdjacency (Complete.Completed joins switches) (s .journal) (s .adjacency)) t (t .edges + joins) r l (x .lengths) (x .sound)
+          (omega (arith, x .more, f .1, laid-counted s t r l))
+      go (Complete.Refused q) e = r
+
+  pub after-call : (c : Call) → Reach (after s c) (tally t (told s c))
+  after-call (take number b) = after-take number b
+  after-call layOut = after-layOut
+  after-call (add v w) = after-add v w
+  after-call (remove v w) = after-remove v w
+  after-call complete = after-complete
+  after-call (readBack number) = r
+  after-call (list out) = r
+  after-call figures = r
+
+-- over a whole list
+pub reach-from : (calls : List Call) (s : State) (t : Tally) → Reach s t → Reach (afterAll s calls) (tallyAll s t calls)
+reach-from [] s t r = r
+reach-from (c ∷ cs) s t r = reach-from cs (after s c) (tally t (told s c)) (after-call s t r c)
+
+pub reach : (calls : List Call) → Reach (afterAll cleared calls) (tallyAll cleared noTally calls)
+reach calls = reach-from calls cleared noTally reach-cleared

@@ -155,7 +155,7 @@ module _ (e : List ℕ) (well : firstBadEdge e ≡ listed e) where
     pub degree-low : (v : ℕ) → v < mostVertices → degree mostVertices (graphOf e) v ≤ mostDegree
     degree-low v l =
         ltb-false mostDegree (degree mostVertices (graphOf e) v)
-        (lowest-before 0 mostVertices (λ v. ltb mostDegree (degree mostVertices (graphOf e) v)) v (omega arith) (rw low l))
+        (lowest-before 0 mostVertices (λ v. ltb mostDegree (degree mostVertices (graphOf e) v)) (omega arith) v (omega arith) (rw low l))
 
     -- 200 vertices of degree 40 have 4,000 edges
     pub few-edges : 2 * listed e ≤ cellMostOwn

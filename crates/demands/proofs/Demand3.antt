@@ -1,0 +1,209 @@
+-- Demand 3 (specs/Demand3.antt), over every list of calls, from what every reached state is (proofs/Reach.antt).
+-- Assumes nothing.
+use mathlib.Core.Path.{_≡_, refl, sym, ap, subst, _∙_}
+use mathlib.Core.Bool.{Bool, true, false}
+use mathlib.Core.List.{List}
+use mathlib.Core.Logic.{_↔_, _≢_}
+use Prim.Native.Nat.{ℕ, _+_, _*_, _≤_, _<_}
+use native.Mathlib.Omega.{arith}
+use Rattle.finite.specs.Range.{sumTo}
+use Rattle.graph.specs.Graph.{Simple, jdm, edges}
+use Rattle.graph.specs.Target.{Partial, Open}
+use Rattle.graph.specs.Tests.{degrees, rowSum}
+use Rattle.graph.specs.Theorems.{Realized}
+use Rattle.graph.proofs.OpenPair.{short-has-open-pair}
+use Rattle.graph.proofs.Necessary.{necessary-always}
+use Rattle.graph.proofs.Join.{turned}
+use Rattle.answer.specs.declared.AddAnswer.{AddAnswer}
+use Rattle.answer.specs.declared.AddAnswer.the-variants.{Added}
+use Rattle.answer.specs.declared.CompleteAnswer.{CompleteAnswer}
+use Rattle.answer.specs.declared.CompleteAnswer.the-variants.{Completed}
+use Rattle.table.specs.Layout.{vertices, vertexDegree}
+use Rattle.journal.specs.Journal.{phase, jdmOf}
+use Rattle.journal.proofs.Table.{jdm-table}
+use Rattle.adjacency.specs.Adjacency.{edge}
+use Rattle.state.specs.Valid.{valid}
+use Rattle.state.specs.Laid.{vertexCount, degreeAt, cellAt, edgeTotal}
+use Rattle.state.proofs.Facts.{StateFacts, Laid, valid-facts}
+use Rattle.intake.proofs.LayOut.{lay-out-honest}
+use Rattle.editing.specs.Add.{addAnswer, addAdjacency}
+use Rattle.editing.proofs.Add.{AddFacts, facts-added, AddWorks, add-works}
+use Rattle.joining.specs.Join.{joinBytes, joinCount}
+use Rattle.completion.specs.Complete.{completed, completeAnswer, completeAdjacency}
+use Rattle.completion.proofs.Entry.{CompleteFacts, facts-completed, CompleteWorks, complete-works}
+use Rattle.demands.specs.Calls.{Call, add, complete, State, cleared, after, afterAll}
+use Rattle.demands.specs.Tally.{Tally, noTally, tallyAll}
+use Rattle.demands.specs.Demand3 as D
+use Rattle.demands.proofs.Reach.{Reach, reach, laid-counted, phase-0, phase-1}
+
+-- Everything is first said of the journal's own table, which is the tally's.
+module _ (s : State) (lengths : Rattle.state.specs.Valid.lengthsOk (s .journal) (s .adjacency) ≡ true) (sound : valid (s .journal) (s .adjacency) ≡ true)
+    (phased : phase (s .journal) ≡ 1) where
+  j : List ℕ
+  j = s .journal
+
+  g : List ℕ
+  g = s .adjacency
+
+  facts : StateFacts (s .journal) (s .adjacency)
+  facts = valid-facts (s .journal) (s .adjacency) lengths sound
+
+  laid : Laid (s .journal) (s .adjacency)
+  laid = facts .laid phased
+
+  simple : Simple (vertexCount (s .journal)) (edge (s .adjacency))
+  simple = laid .partial .simple
+
+  open-pair : (v w : ℕ) → D.OpenPair (jdmOf (s .journal)) s v w → Open (vertexCount (s .journal)) (degreeAt (s .journal)) (jdmOf (s .journal)) (edge (s .adjacency)) v w
+  open-pair v w o =
+      record {
+        first = o .first;
+        second = o .second;
+        distinct = o .different;
+        unlinked = omega (arith, simple .binary v w (o .first) (o .second), o .unlinked);
+        short = o .short;
+      }
+
+  -- the pair named the other way round
+  turn : (v w : ℕ) → D.OpenPair (jdmOf (s .journal)) s v w → D.OpenPair (jdmOf (s .journal)) s w v
+  turn v w o =
+      record {
+        first = o .second;
+        second = o .first;
+        different = λ e. o .different (sym e);
+        unlinked = λ e. o .unlinked (simple .symmetric v w (o .first) (o .second) ∙ e);
+        short =
+            omega (
+              arith,
+              o .short,
+              necessary-always (vertexCount (s .journal)) degrees (degreeAt (s .journal)) (edge (s .adjacency)) simple (laid .target .classed) .symmetric
+                  (degreeAt (s .journal) v) (degreeAt (s .journal) w),
+              jdm-table (s .journal) (facts .journal-ok) .symmetric (degreeAt (s .journal) v) (degreeAt (s .journal) w),
+            );
+      }
+
+  joins : (v w : ℕ) → D.OpenPair (jdmOf (s .journal)) s v w → D.CanBeJoined (jdmOf (s .journal)) s v w
+  joins v w o = go (facts-added (s .journal) (s .adjacency) v w f) (add-works (s .journal) (s .adjacency) v w f)
+    where
+      f : AddFacts (s .journal) (s .adjacency) v w
+      f = record { lengths = lengths; sound = sound; phased = phased; pair = open-pair v w o }
+
+      m : ℕ
+      m = joinCount (vertexCount (s .journal)) (degreeAt (s .journal)) (s .adjacency) v w
+
+      to : addAnswer (s .journal) (s .adjacency) v w ≡ Added (joinCount (vertexCount (s .journal)) (degreeAt (s .journal)) (s .adjacency) v w)
+          → addAdjacency (addAnswer (s .journal) (s .adjacency) v w) (s .journal) (s .adjacency) v w
+          ≡ joinBytes (vertexCount (s .journal)) (degreeAt (s .journal)) (s .adjacency) v w
+      to e = ap (λ (a : AddAnswer). addAdjacency a (s .journal) (s .adjacency) v w) e
+
+      go : addAnswer (s .journal) (s .adjacency) v w ≡ Added (joinCount (vertexCount (s .journal)) (degreeAt (s .journal)) (s .adjacency) v w)
+          → AddWorks (s .journal) (s .adjacency) v w (joinBytes (vertexCount (s .journal)) (degreeAt (s .journal)) (s .adjacency) v w)
+          → D.CanBeJoined (jdmOf (s .journal)) s v w
+      go e x =
+          record {
+            switches = joinCount (vertexCount (s .journal)) (degreeAt (s .journal)) (s .adjacency) v w;
+            answer = e;
+            sound = subst (λ (h : List ℕ). valid (s .journal) h ≡ true) (sym (to e)) (x .sound);
+            linked = subst (λ (h : List ℕ). edge h v w ≡ 1) (sym (to e)) (x .linked);
+            one-more = subst (λ (h : List ℕ). edgeTotal (s .journal) h ≡ edgeTotal (s .journal) (s .adjacency) + 1) (sym (to e)) (x .one-more);
+          }
+
+  -- a short cell has an open pair; no cell past the degrees is short
+  some-pair : (k l : ℕ) → D.Short (jdmOf (s .journal)) s k l → (v w : ℕ) × D.OpenPair (jdmOf (s .journal)) s v w
+  some-pair k l h =
+      let o = short-has-open-pair (vertexCount (s .journal)) degrees (degreeAt (s .journal)) (λ k. k) (jdmOf (s .journal)) (edge (s .adjacency)) (laid .target)
+      (laid .partial) k l (below k l h) (below l k (mirrored k l h)) h in (
+        o .0,
+        o .1,
+        record {
+          first = o .5 .first;
+          second = o .5 .second;
+          different = o .5 .distinct;
+          unlinked = λ e. omega (arith, e, o .5 .unlinked);
+          short = o .5 .short;
+        },
+      )
+    where
+      below : (k l : ℕ) → D.Short (jdmOf (s .journal)) s k l → k < degrees
+      below k l h = go (native.Mathlib.Decide.decLt k degrees)
+        where
+          go : Dec (k < degrees) → k < degrees
+          go (yes p) = p
+          go (no p) = absurd (omega (arith, h, jdm-table (s .journal) (facts .journal-ok) .none-above k l (omega arith)))
+
+      mirrored : (k l : ℕ) → D.Short (jdmOf (s .journal)) s k l → D.Short (jdmOf (s .journal)) s l k
+      mirrored k l h =
+          omega (
+            arith,
+            h,
+            necessary-always (vertexCount (s .journal)) degrees (degreeAt (s .journal)) (edge (s .adjacency)) simple (laid .target .classed) .symmetric k l,
+            jdm-table (s .journal) (facts .journal-ok) .symmetric k l,
+          )
+
+  completes : (t : Tally) → jdmOf (s .journal) ≡ t .table → edgeTotal (s .journal) (s .adjacency) ≡ t .edges → D.Completes t s
+  completes t same counted = go (facts-completed (s .journal) (s .adjacency) f) (complete-works (s .journal) (s .adjacency) f)
+    where
+      f : CompleteFacts (s .journal) (s .adjacency)
+      f = record { lengths = lengths; sound = sound; phased = phased }
+
+      own : CompleteWorks (s .journal) (s .adjacency)
+          → (e : completeAdjacency (completeAnswer (s .journal) (s .adjacency)) (s .journal) (s .adjacency) ≡ completed (s .journal) (s .adjacency) .adjacency)
+          → completeAnswer (s .journal) (s .adjacency) ≡ Completed (completed (s .journal) (s .adjacency) .joins) (completed (s .journal) (s .adjacency) .switches)
+          → D.Completes (record { blocks = t .blocks; table = jdmOf (s .journal); laid = t .laid; edges = t .edges }) s
+      own x e a =
+          record {
+            joins = completed (s .journal) (s .adjacency) .joins;
+            switches = completed (s .journal) (s .adjacency) .switches;
+            answer = a;
+            missing = omega (arith, x .all, x .more, counted);
+            more =
+                subst (λ (h : List ℕ). edgeTotal (s .journal) h ≡ edgeTotal (s .journal) (s .adjacency) + completed (s .journal) (s .adjacency) .joins) (sym e) (x .more);
+            simple = subst (λ (h : List ℕ). Simple (vertexCount (s .journal)) (edge h)) (sym e) (x .simple);
+            has-table = λ k l. subst (λ (h : List ℕ). Rattle.graph.specs.Graph.ownJdm (vertexCount (s .journal)) (edge h) k l ≡ jdmOf (s .journal) k l) (sym e) (x .table k l);
+          }
+
+      go : completeAnswer (s .journal) (s .adjacency) ≡ Completed (completed (s .journal) (s .adjacency) .joins) (completed (s .journal) (s .adjacency) .switches)
+          → CompleteWorks (s .journal) (s .adjacency) → D.Completes t s
+      go a x =
+          subst (λ (T : ℕ → ℕ → ℕ). D.Completes (record { blocks = t .blocks; table = T; laid = t .laid; edges = t .edges }) s) same
+          (own x (ap (λ (a : CompleteAnswer). completeAdjacency a (s .journal) (s .adjacency)) a) a)
+
+pub demand-3 : D.Demand3
+demand-3 calls = (not-laid, laid-out)
+  where
+    s : State
+    s = afterAll cleared calls
+
+    t : Tally
+    t = tallyAll cleared noTally calls
+
+    r : Reach (afterAll cleared calls) (tallyAll cleared noTally calls)
+    r = reach calls
+
+    not-laid : tallyAll cleared noTally calls .laid ≡ false → D.NotLaid (tallyAll cleared noTally calls) (afterAll cleared calls)
+    not-laid e =
+        record {
+          honest =
+              subst (λ (T : ℕ → ℕ → ℕ). D.RefusedForWantOfAGraph (afterAll cleared calls) ↔ (Realized T → ⊥)) (r .table)
+              (lay-out-honest (afterAll cleared calls .journal) (afterAll cleared calls .adjacency) (r .lengths) (r .sound) (phase-0 _ _ r e));
+        }
+
+    laid-out : tallyAll cleared noTally calls .laid ≡ true → D.Laid (tallyAll cleared noTally calls) (afterAll cleared calls)
+    laid-out e =
+        record {
+          joinable = λ v w o.
+              let p = subst (λ (T : ℕ → ℕ → ℕ). D.OpenPair T (afterAll cleared calls) v w) (sym (r .table)) o in (
+                subst (λ (T : ℕ → ℕ → ℕ). D.CanBeJoined T (afterAll cleared calls) v w) (r .table)
+                    (joins (afterAll cleared calls) (r .lengths) (r .sound) (phase-1 _ _ r e) v w p),
+                subst (λ (T : ℕ → ℕ → ℕ). D.CanBeJoined T (afterAll cleared calls) w v) (r .table)
+                    (joins (afterAll cleared calls) (r .lengths) (r .sound) (phase-1 _ _ r e) w v
+                    (turn (afterAll cleared calls) (r .lengths) (r .sound) (phase-1 _ _ r e) v w p)),
+              );
+          pair = λ k l h.
+              let q = some-pair (afterAll cleared calls) (r .lengths) (r .sound) (phase-1 _ _ r e) k l
+              (subst (λ (T : ℕ → ℕ → ℕ). D.Short T (afterAll cleared calls) k l) (sym (r .table)) h) in
+              (q .0, q .1, subst (λ (T : ℕ → ℕ → ℕ). D.OpenPair T (afterAll cleared calls) (q .0) (q .1)) (r .table) (q .2));
+          completes =
+              completes (afterAll cleared calls) (r .lengths) (r .sound) (phase-1 _ _ r e) (tallyAll cleared noTally calls) (r .table)
+              (laid-counted _ _ r e);
+        }
