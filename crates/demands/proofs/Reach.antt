@@ -59,7 +59,7 @@ pub record Reach (s : State) (t : Tally) : Type 0 where
   pub phased : phase (s .journal) ≡ phaseOf (t .laid)
   pub counted : Counted (t .laid) (edgeTotal (s .journal) (s .adjacency)) (t .edges)
 
-reach-cleared : Reach cleared noTally
+pub reach-cleared : Reach cleared noTally
 reach-cleared =
     let c = cleared-state in
     record { lengths = c .lengths; sound = c .sound; table = c .no-cells; numbered = c .no-blocks; phased = c .taking; counted = refl }
@@ -96,7 +96,7 @@ with-edges s g′ t m r e lengths sound count =
 
 module _ (s : State) (t : Tally) (r : Reach s t) where
   -- the tally's test of a block is the journal's
-  same-next : (number : ℕ) (b : List ℕ) → isNext (s .journal) number b ≡ counts t number b
+  pub same-next : (number : ℕ) (b : List ℕ) → isNext (s .journal) number b ≡ counts t number b
   same-next number b = rw (r .numbered, r .phased) (go (t .laid))
     where
       go : (l : Bool) → (wellFormed b && eqb number (t .blocks) && eqb (phaseOf l) 0 && ltb (t .blocks) mostBlocks)

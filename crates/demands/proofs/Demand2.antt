@@ -1,0 +1,230 @@
+-- Demand 2 (specs/Demand2.antt): the blocks answered as taken or held add up to the tally's table, and a completed state that nothing
+-- moved since holds a simple graph with it.
+-- Assumes nothing.
+use mathlib.Core.Path.{_≡_, refl, sym, ap, subst, fun-ext, _∙_}
+use mathlib.Core.Bool.{Bool, true, false, _&&_, _||_, not, cond, true≢false}
+use mathlib.Core.List.{List, [], _∷_, _++_}
+use Prim.Native.Nat.{ℕ, _+_, _≤_, _<_}
+use native.Mathlib.Nat.{zero-add, add-zero, add-assoc}
+use native.Mathlib.Decide.{ℕ-discrete, decLt}
+use native.Mathlib.Omega.{arith}
+use lib.Dec.{eqb, ltb}
+use borrow.Author.Tests.{eq-eqb, ne-eqb, lt-ltb, le-ltb}
+use Rattle.answer.specs.declared.TakeAnswer.{TakeAnswer}
+use Rattle.answer.specs.declared.TakeAnswer.the-variants.{Taken, Held, Refused}
+use Rattle.answer.specs.declared.AddAnswer.{AddAnswer}
+use Rattle.answer.specs.declared.AddAnswer.the-variants as Add
+use Rattle.answer.specs.declared.RemoveAnswer.{RemoveAnswer}
+use Rattle.answer.specs.declared.RemoveAnswer.the-variants as Remove
+use Rattle.answer.specs.declared.CompleteAnswer.{CompleteAnswer}
+use Rattle.answer.specs.declared.CompleteAnswer.the-variants.{Completed, Refused as CompleteRefused}
+use Rattle.finite.proofs.All.{and-left, and-right, and-false}
+use Rattle.graph.specs.Graph.{Simple, ownJdm}
+use Rattle.table.specs.Block.{wellFormed, blockCell}
+use Rattle.table.specs.Layout.{vertices}
+use Rattle.journal.specs.Journal.{phase, blocks, jdmOf}
+use Rattle.adjacency.specs.Adjacency.{edge}
+use Rattle.state.specs.Valid.{lengthsOk, valid}
+use Rattle.state.specs.Laid.{vertexCount}
+use Rattle.intake.specs.Take.{takeAnswer, takeJournal}
+use Rattle.intake.specs.LayOut.{layOutAnswer, layOutJournal}
+use Rattle.intake.proofs.Take.{isTaken, isNext, taken-facts, held-facts, take-taken}
+use Rattle.intake.proofs.LayOut.{lay-out-laid-out}
+use Rattle.editing.specs.Add.{addAnswer, addAdjacency}
+use Rattle.editing.specs.Remove.{removeAnswer, removeAdjacency}
+use Rattle.completion.specs.Complete.{completed, completeAnswer, completeAdjacency}
+use Rattle.completion.proofs.Entry.{CompleteFacts, completed-facts, facts-completed, complete-works}
+use Rattle.demands.specs.Calls.{Call, take, layOut, add, remove, complete, readBack, list, figures, State, cleared, after, afterAll}
+use Rattle.demands.specs.Tally.{Tally, noTally, told, toldAdd, toldRemove, toldComplete, counts, withBlock, laysOut, nowLaid, tally, tallyAll}
+use Rattle.demands.specs.Demand2.{accepted, member, answered, answeredSum, addRefused, removeRefused, quiet, Demand2}
+use Rattle.demands.proofs.Reach.{Reach, reach, reach-from, reach-cleared, after-call, same-next}
+
+-- the numbers that came already are those below m
+abbrev Seen : List ℕ → ℕ → Type 0
+Seen seen m = (i : ℕ) → member i seen ≡ ltb i m
+
+seen-more : (seen : List ℕ) (m : ℕ) → Seen seen m → Seen (m ∷ seen) (m + 1)
+seen-more seen m h i = go (ℕ-discrete i m) (decLt i m)
+  where
+    go : Dec (i ≡ m) → Dec (i < m) → (eqb i m || member i seen) ≡ ltb i (m + 1)
+    go (yes e) d = rw (eq-eqb i m e, lt-ltb i (m + 1) (omega arith))
+    go (no e) (yes l) = rw (ne-eqb i m e, h i, lt-ltb i m l, lt-ltb i (m + 1) (omega arith))
+    go (no e) (no l) = rw (ne-eqb i m e, h i, le-ltb i m (omega arith), le-ltb i (m + 1) (omega arith))
+
+-- calls other than takings leave the tally's table and blocks
+abbrev Still : Tally → Tally → Type 0
+Still t t′ = (t′ .table ≡ t .table) × (t′ .blocks ≡ t .blocks)
+
+lays-still : (t : Tally) (c : Bool) → Still t (cond c (nowLaid t) t)
+lays-still t true = (refl, refl)
+lays-still t false = (refl, refl)
+
+add-still : (t : Tally) (a : AddAnswer) → Still t (tally t (toldAdd a))
+add-still t (Add.Added m) = (refl, refl)
+add-still t (Add.Refused r) = (refl, refl)
+
+remove-still : (t : Tally) (a : RemoveAnswer) → Still t (tally t (toldRemove a))
+remove-still t Remove.Removed = (refl, refl)
+remove-still t (Remove.Refused r) = (refl, refl)
+
+complete-still : (t : Tally) (a : CompleteAnswer) → Still t (tally t (toldComplete a))
+complete-still t (Completed i m) = (refl, refl)
+complete-still t (CompleteRefused r) = (refl, refl)
+
+seen-still : (seen : List ℕ) (t t′ : Tally) → t′ .blocks ≡ t .blocks → Seen seen (t .blocks) → Seen seen (t′ .blocks)
+seen-still seen t t′ e h i = rw e (h i)
+
+through : (t t′ : Tally) (k l x y : ℕ) → t′ .table ≡ t .table → t′ .table k l + x ≡ y → t .table k l + x ≡ y
+through t t′ k l x y e h = subst (λ (T : ℕ → ℕ → ℕ). T k l + x ≡ y) e h
+
+-- the blocks answered from here on are what the tally adds
+answered-tally : (calls : List Call) (s : State) (t : Tally) (seen : List ℕ) → Reach s t → Seen seen (t .blocks)
+    → (k l : ℕ) → t .table k l + answered seen s calls k l ≡ tallyAll s t calls .table k l
+answered-tally [] s t seen r h k l = add-zero (t .table k l)
+answered-tally (take number b ∷ cs) s t seen r h k l =
+    go (takeAnswer (s .journal) (s .adjacency) number b) refl (counts t number b) refl
+    (λ t′ seen′ r′ h′. answered-tally cs (after s (take number b)) t′ seen′ r′ h′ k l)
+  where
+    tested : isTaken (takeAnswer (s .journal) (s .adjacency) number b) ≡ counts t number b
+    tested = take-taken (s .journal) (s .adjacency) number b (r .lengths) (r .sound) .0 ∙ same-next s t r number b
+
+    reached : (c : Bool) → counts t number b ≡ c → Reach (after s (take number b)) (cond c (withBlock t b) t)
+    reached c e = subst (λ (c : Bool). Reach (after s (take number b)) (cond c (withBlock t b) t)) e (after-call s t r (take number b))
+
+    go : (a : TakeAnswer) → takeAnswer (s .journal) (s .adjacency) number b ≡ a → (c : Bool) → counts t number b ≡ c
+        → ((t′ : Tally) (seen′ : List ℕ) → Reach (after s (take number b)) t′ → Seen seen′ (t′ .blocks)
+            → t′ .table k l + answered seen′ (after s (take number b)) cs k l ≡ tallyAll (after s (take number b)) t′ cs .table k l)
+        → t .table k l + cond (accepted a && not (member number seen)) (blockCell b k l + answered (number ∷ seen) (after s (take number b)) cs k l)
+            (answered seen (after s (take number b)) cs k l)
+        ≡ tallyAll (after s (take number b)) (cond c (withBlock t b) t) cs .table k l
+    go (Taken m) e true p again =
+        let f = taken-facts (s .journal) (s .adjacency) number b m e in
+        let n : number ≡ t .blocks = f .next ∙ r .numbered in
+        let fresh : member number seen ≡ false = h number ∙ le-ltb number (t .blocks) (omega arith) in
+        rw fresh
+        (sym (add-assoc (t .table k l) (blockCell b k l) (answered (number ∷ seen) (after s (take number b)) cs k l))
+        ∙ again (withBlock t b) (number ∷ seen) (reached true p) (rw n (seen-more seen (t .blocks) h)))
+    go (Taken m) e false p again = absurd (true≢false (ap isTaken (sym e) ∙ tested ∙ p))
+    go Held e true p again = absurd (true≢false (sym (ap isTaken (sym e) ∙ tested ∙ p)))
+    go Held e false p again =
+        let f = held-facts (s .journal) (s .adjacency) number b e in
+        let known : member number seen ≡ true = h number ∙ lt-ltb number (t .blocks) (omega (arith, f .low, r .numbered)) in
+        rw known (again t seen (reached false p) h)
+    go (Refused q) e true p again = absurd (true≢false (sym (ap isTaken (sym e) ∙ tested ∙ p)))
+    go (Refused q) e false p again = again t seen (reached false p) h
+answered-tally (layOut ∷ cs) s t seen r h k l =
+    let p = lays-still t (laysOut t) in
+    through t (tally t (told s layOut)) k l _ _ (p .0)
+    (answered-tally cs (after s layOut) (tally t (told s layOut)) seen (after-call s t r layOut) (seen-still seen t (tally t (told s layOut)) (p .1) h) k l)
+answered-tally (add v w ∷ cs) s t seen r h k l =
+    let p = add-still t (addAnswer (s .journal) (s .adjacency) v w) in
+    through t (tally t (told s (add v w))) k l _ _ (p .0)
+    (answered-tally cs (after s (add v w)) (tally t (told s (add v w))) seen (after-call s t r (add v w))
+        (seen-still seen t (tally t (told s (add v w))) (p .1) h) k l)
+answered-tally (remove v w ∷ cs) s t seen r h k l =
+    let p = remove-still t (removeAnswer (s .journal) (s .adjacency) v w) in
+    through t (tally t (told s (remove v w))) k l _ _ (p .0)
+    (answered-tally cs (after s (remove v w)) (tally t (told s (remove v w))) seen (after-call s t r (remove v w))
+        (seen-still seen t (tally t (told s (remove v w))) (p .1) h) k l)
+answered-tally (complete ∷ cs) s t seen r h k l =
+    let p = complete-still t (completeAnswer (s .journal) (s .adjacency)) in
+    through t (tally t (told s complete)) k l _ _ (p .0)
+    (answered-tally cs (after s complete) (tally t (told s complete)) seen (after-call s t r complete)
+        (seen-still seen t (tally t (told s complete)) (p .1) h) k l)
+answered-tally (readBack number ∷ cs) s t seen r h k l = answered-tally cs s t seen r h k l
+answered-tally (list out ∷ cs) s t seen r h k l = answered-tally cs s t seen r h k l
+answered-tally (figures ∷ cs) s t seen r h k l = answered-tally cs s t seen r h k l
+
+-- the blocks answered since the clear add up to the journal's table
+answered-jdm : (calls : List Call) → answeredSum calls ≡ jdmOf (afterAll cleared calls .journal)
+answered-jdm calls =
+    fun-ext (λ k. fun-ext (λ l.
+      sym (zero-add (answeredSum calls k l)) ∙ answered-tally calls cleared noTally [] reach-cleared (λ i. sym (le-ltb i 0 (omega arith))) k l))
+    ∙ sym (reach calls .table)
+
+after-append : (a b : List Call) (s : State) → afterAll s (a ++ b) ≡ afterAll (afterAll s a) b
+after-append [] b s = refl
+after-append (c ∷ a) b s = after-append a b (after s c)
+
+-- a state that completing left, and that nothing has moved since
+record Done (s : State) : Type 0 where
+  lengths : lengthsOk (s .journal) (s .adjacency) ≡ true
+  sound : valid (s .journal) (s .adjacency) ≡ true
+  phased : phase (s .journal) ≡ 1
+  simple : Simple (vertexCount (s .journal)) (edge (s .adjacency))
+  table : (k l : ℕ) → ownJdm (vertexCount (s .journal)) (edge (s .adjacency)) k l ≡ jdmOf (s .journal) k l
+
+done-complete : (s : State) → CompleteFacts (s .journal) (s .adjacency) → Done (after s complete)
+done-complete s f =
+    subst (λ (h : List ℕ). Done (record { journal = s .journal; adjacency = h }))
+    (sym (ap (λ (a : CompleteAnswer). completeAdjacency a (s .journal) (s .adjacency)) (facts-completed (s .journal) (s .adjacency) f)))
+    (record { lengths = x .lengths; sound = x .sound; phased = f .phased; simple = x .simple; table = x .table })
+  where
+    x : Rattle.completion.proofs.Entry.CompleteWorks (s .journal) (s .adjacency)
+    x = complete-works (s .journal) (s .adjacency) f
+
+-- no block is taken and nothing is laid out in phase 1
+done-take : (s : State) → Done s → (number : ℕ) (b : List ℕ) → after s (take number b) ≡ s
+done-take s d number b =
+    ap (λ (h : List ℕ). record { journal = h; adjacency = s .adjacency })
+    (take-taken (s .journal) (s .adjacency) number b (d .lengths) (d .sound) .1 ∙ rw (d .phased, and-false (wellFormed b && eqb number (blocks (s .journal)))))
+
+done-layOut : (s : State) → Done s → after s layOut ≡ s
+done-layOut s d =
+    ap (λ (h : List ℕ). record { journal = h; adjacency = s .adjacency })
+    (lay-out-laid-out (s .journal) (s .adjacency) (d .lengths) (d .sound) .1 ∙ rw (d .phased))
+
+done-add : (s : State) (v w : ℕ) → addRefused (addAnswer (s .journal) (s .adjacency) v w) ≡ true → after s (add v w) ≡ s
+done-add s v w e = go (addAnswer (s .journal) (s .adjacency) v w) e
+  where
+    go : (a : AddAnswer) → addRefused a ≡ true
+        → _≡_ {A = State} (record { journal = s .journal; adjacency = addAdjacency a (s .journal) (s .adjacency) v w }) s
+    go (Add.Added m) h = absurd (true≢false (sym h))
+    go (Add.Refused r) h = refl
+
+done-remove : (s : State) (v w : ℕ) → removeRefused (removeAnswer (s .journal) (s .adjacency) v w) ≡ true → after s (remove v w) ≡ s
+done-remove s v w e = go (removeAnswer (s .journal) (s .adjacency) v w) e
+  where
+    go : (a : RemoveAnswer) → removeRefused a ≡ true
+        → _≡_ {A = State} (record { journal = s .journal; adjacency = removeAdjacency a (s .adjacency) v w }) s
+    go Remove.Removed h = absurd (true≢false (sym h))
+    go (Remove.Refused r) h = refl
+
+-- calls that add and remove nothing leave it so
+done-rest : (rest : List Call) (s : State) → Done s → quiet s rest ≡ true → Done (afterAll s rest)
+done-rest [] s d q = d
+done-rest (take number b ∷ cs) s d q = done-rest cs (after s (take number b)) (subst Done (sym (done-take s d number b)) d) q
+done-rest (layOut ∷ cs) s d q = done-rest cs (after s layOut) (subst Done (sym (done-layOut s d)) d) q
+done-rest (add v w ∷ cs) s d q =
+    let a = and-left (addRefused (addAnswer (s .journal) (s .adjacency) v w)) (quiet (after s (add v w)) cs) q in
+    done-rest cs (after s (add v w)) (subst Done (sym (done-add s v w a)) d)
+    (and-right (addRefused (addAnswer (s .journal) (s .adjacency) v w)) (quiet (after s (add v w)) cs) q)
+done-rest (remove v w ∷ cs) s d q =
+    let a = and-left (removeRefused (removeAnswer (s .journal) (s .adjacency) v w)) (quiet (after s (remove v w)) cs) q in
+    done-rest cs (after s (remove v w)) (subst Done (sym (done-remove s v w a)) d)
+    (and-right (removeRefused (removeAnswer (s .journal) (s .adjacency) v w)) (quiet (after s (remove v w)) cs) q)
+done-rest (complete ∷ cs) s d q =
+    done-rest cs (after s complete) (done-complete s (record { lengths = d .lengths; sound = d .sound; phased = d .phased })) q
+done-rest (readBack number ∷ cs) s d q = done-rest cs s d q
+done-rest (list out ∷ cs) s d q = done-rest cs s d q
+done-rest (figures ∷ cs) s d q = done-rest cs s d q
+
+pub demand-2 : Demand2
+demand-2 before rest joins switches e q =
+    subst (λ (T : ℕ → ℕ → ℕ). Simple (vertices T) (edge g) × ((k l : ℕ) → ownJdm (vertices T) (edge g) k l ≡ T k l)) (sym same) (d .simple, d .table)
+  where
+    s : State
+    s = afterAll cleared before
+
+    g : List ℕ
+    g = afterAll (after (afterAll cleared before) complete) rest .adjacency
+
+    d : Done (afterAll (after (afterAll cleared before) complete) rest)
+    d =
+        done-rest rest (after (afterAll cleared before) complete)
+        (done-complete (afterAll cleared before)
+            (completed-facts (afterAll cleared before .journal) (afterAll cleared before .adjacency) joins switches e .0))
+        q
+
+    same : answeredSum (before ++ complete ∷ rest) ≡ jdmOf (afterAll (after (afterAll cleared before) complete) rest .journal)
+    same = answered-jdm (before ++ complete ∷ rest) ∙ ap (λ (s : State). jdmOf (s .journal)) (after-append before (complete ∷ rest) cleared)
