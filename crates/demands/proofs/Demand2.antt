@@ -93,9 +93,9 @@ answered-tally (take number b ∷ cs) s t seen r h k l =
 
     go : (a : TakeAnswer) → takeAnswer (s .journal) (s .adjacency) number b ≡ a → (c : Bool) → counts t number b ≡ c
         → ((t′ : Tally) (seen′ : List ℕ) → Reach (after s (take number b)) t′ → Seen seen′ (t′ .blocks)
-            → t′ .table k l + answered seen′ (after s (take number b)) cs k l ≡ tallyAll (after s (take number b)) t′ cs .table k l)
+        → t′ .table k l + answered seen′ (after s (take number b)) cs k l ≡ tallyAll (after s (take number b)) t′ cs .table k l)
         → t .table k l + cond (accepted a && not (member number seen)) (blockCell b k l + answered (number ∷ seen) (after s (take number b)) cs k l)
-            (answered seen (after s (take number b)) cs k l)
+        (answered seen (after s (take number b)) cs k l)
         ≡ tallyAll (after s (take number b)) (cond c (withBlock t b) t) cs .table k l
     go (Taken m) e true p again =
         let f = taken-facts (s .journal) (s .adjacency) number b m e in
@@ -120,17 +120,17 @@ answered-tally (add v w ∷ cs) s t seen r h k l =
     let p = add-still t (addAnswer (s .journal) (s .adjacency) v w) in
     through t (tally t (told s (add v w))) k l _ _ (p .0)
     (answered-tally cs (after s (add v w)) (tally t (told s (add v w))) seen (after-call s t r (add v w))
-        (seen-still seen t (tally t (told s (add v w))) (p .1) h) k l)
+    (seen-still seen t (tally t (told s (add v w))) (p .1) h) k l)
 answered-tally (remove v w ∷ cs) s t seen r h k l =
     let p = remove-still t (removeAnswer (s .journal) (s .adjacency) v w) in
     through t (tally t (told s (remove v w))) k l _ _ (p .0)
     (answered-tally cs (after s (remove v w)) (tally t (told s (remove v w))) seen (after-call s t r (remove v w))
-        (seen-still seen t (tally t (told s (remove v w))) (p .1) h) k l)
+    (seen-still seen t (tally t (told s (remove v w))) (p .1) h) k l)
 answered-tally (complete ∷ cs) s t seen r h k l =
     let p = complete-still t (completeAnswer (s .journal) (s .adjacency)) in
     through t (tally t (told s complete)) k l _ _ (p .0)
     (answered-tally cs (after s complete) (tally t (told s complete)) seen (after-call s t r complete)
-        (seen-still seen t (tally t (told s complete)) (p .1) h) k l)
+    (seen-still seen t (tally t (told s complete)) (p .1) h) k l)
 answered-tally (readBack number ∷ cs) s t seen r h k l = answered-tally cs s t seen r h k l
 answered-tally (list out ∷ cs) s t seen r h k l = answered-tally cs s t seen r h k l
 answered-tally (figures ∷ cs) s t seen r h k l = answered-tally cs s t seen r h k l
@@ -139,7 +139,7 @@ answered-tally (figures ∷ cs) s t seen r h k l = answered-tally cs s t seen r 
 answered-jdm : (calls : List Call) → answeredSum calls ≡ jdmOf (afterAll cleared calls .journal)
 answered-jdm calls =
     fun-ext (λ k. fun-ext (λ l.
-      sym (zero-add (answeredSum calls k l)) ∙ answered-tally calls cleared noTally [] reach-cleared (λ i. sym (le-ltb i 0 (omega arith))) k l))
+    sym (zero-add (answeredSum calls k l)) ∙ answered-tally calls cleared noTally [] reach-cleared (λ i. sym (le-ltb i 0 (omega arith))) k l))
     ∙ sym (reach calls .table)
 
 after-append : (a b : List Call) (s : State) → afterAll s (a ++ b) ≡ afterAll (afterAll s a) b
@@ -223,7 +223,7 @@ demand-2 before rest joins switches e q =
     d =
         done-rest rest (after (afterAll cleared before) complete)
         (done-complete (afterAll cleared before)
-            (completed-facts (afterAll cleared before .journal) (afterAll cleared before .adjacency) joins switches e .0))
+        (completed-facts (afterAll cleared before .journal) (afterAll cleared before .adjacency) joins switches e .0))
         q
 
     same : answeredSum (before ++ complete ∷ rest) ≡ jdmOf (afterAll (after (afterAll cleared before) complete) rest .journal)
