@@ -4,12 +4,13 @@ use mathlib.Core.Path.{_≡_, refl, sym, _∙_}
 use mathlib.Core.Logic.{_≢_}
 use Prim.Native.Nat.{ℕ, zero, suc, _+_, _-_, _*_, _≤_, _<_}
 use native.Mathlib.Nat.{mul-zero, mul-one, mul-comm, mul-add, mul-left-comm, mul-le-mul-left, mul-suc, zero-mul}
+use native.Mathlib.Decide.{ℕ-discrete}
 use native.Mathlib.Omega.{arith}
 use borrow.Author.Tests.{eq-eqb, ne-eqb}
 use Rattle.finite.specs.Range.{δ, sumTo}
 use Rattle.finite.proofs.Delta.{δ-other, δ-less, δ-square}
-use Rattle.finite.proofs.Sum.{sumTo-cong, sumTo-cong₂, sumTo-add, sumTo-scale, sumTo-scale-right, sumTo-swap, sumTo-at, sumTo-zero, sumTo-mono, sumTo-less}
-use Rattle.graph.specs.Graph.{Graph, size, jdm, empty}
+use Rattle.finite.proofs.Sum.{sumTo-cong, sumTo-cong₂, sumTo-add, sumTo-scale, sumTo-scale-right, sumTo-swap, sumTo-at, sumTo-zero, sumTo-mono, sumTo-less, sumTo-term}
+use Rattle.graph.specs.Graph.{Graph, degree, size, jdm, empty}
 use Rattle.graph.specs.Target.{cellMost}
 
 module _ (n : ℕ) (cls : ℕ → ℕ) where
@@ -100,6 +101,21 @@ module _ (n : ℕ) (cls : ℕ → ℕ) where
   jdm-none E k l h =
       sumTo-zero n (λ v. δ (cls v) k * sumTo n (λ w. δ (cls w) l * E v w))
       (λ v p. rw (δ-other (cls v) k (h v p)) (zero-mul (sumTo n (λ w. δ (cls w) l * E v w))))
+
+-- a vertex of degree 0 has no edges
+pub jdm-isolated : (n : ℕ) (E : Graph) (l : ℕ) → jdm n (degree n E) E 0 l ≡ 0
+unfolding jdm
+jdm-isolated n E l = sumTo-zero n (λ v. δ (degree n E v) 0 * row v) (λ v p. go v (ℕ-discrete (degree n E v) 0))
+  where
+    row : ℕ → ℕ
+    row v = sumTo n (λ w. δ (degree n E w) l * E v w)
+
+    go : (v : ℕ) → Dec (degree n E v ≡ 0) → δ (degree n E v) 0 * row v ≡ 0
+    go v (yes e) =
+        rw (sumTo-zero n (λ w. δ (degree n E w) l * E v w)
+        (λ w q. let z : E v w ≡ 0 = omega (arith, sumTo-term n (E v) w q) in rw z (mul-zero (δ (degree n E w) l))))
+        (mul-zero (δ (degree n E v) 0))
+    go v (no e) = rw (δ-other (degree n E v) 0 e) (zero-mul (row v))
 
 pub jdm-empty : (n : ℕ) (cls : ℕ → ℕ) (k l : ℕ) → jdm n cls empty k l ≡ 0
 jdm-empty n cls k l =

@@ -1,12 +1,26 @@
--- What the records of a matrix are.
+-- What the records of a matrix are: whole records, ascending, none with count 0, and read back they give the matrix.
 -- Assumes nothing.
-use mathlib.Core.Path.{_≡_, refl, sym, ap, _∙_}
-use mathlib.Core.List.{List, []}
-use Prim.Native.Nat.{ℕ, _<_}
-use borrow.Author.Tests.{lt-leb}
-use Rattle.finite.specs.Range.{catTo}
+use mathlib.Core.Path.{_≡_, refl, sym, ap, ap₂, _∙_}
+use mathlib.Core.Bool.{Bool, true, false, _&&_, not, cond}
+use mathlib.Core.List.{List, [], _∷_, _++_}
+use mathlib.Core.Logic.{_≢_, _⊎_, inl, inr}
+use Prim.Native.Nat.{ℕ, zero, suc, _+_, _-_, _*_, _/_, _%_, _≤_, _<_, min, max}
+use native.Mathlib.Nat.{zero-add, add-zero, mul-zero, zero-mul, one-mul}
+use native.Mathlib.Numerals.{add-one}
+use native.Mathlib.Decide.{ℕ-discrete, decLt}
+use native.Mathlib.Omega.{arith}
+use lib.Dec.{eqb, leb}
+use lib.ListN.{length, getD, length-append, List·getD-append, List·getD-eq-default}
+use lib.Seq.{getD-append-add}
+use borrow.Author.Tests.{le-leb, lt-leb, eq-eqb, ne-eqb}
+use Rattle.finite.specs.Range.{δ, sumTo, catTo}
+use Rattle.finite.proofs.Delta.{δ-same, δ-other}
 use Rattle.finite.proofs.Fold.{catTo-cong, catTo-empty}
-use Rattle.graph.specs.Tests.{degrees}
+use Rattle.finite.proofs.Lowest.{lowest-none}
+use Rattle.finite.proofs.Sum.{sumTo-cong, sumTo-scale, sumTo-at, sumTo-split}
+use Rattle.graph.specs.Tests.{leastDegree, mostDegree, degrees, Table}
+use Rattle.table.specs.Block.{recordSize, records, recordK, recordL, recordCount, goodRecord, firstBad, recordCell, blockCell, samePair}
+use Rattle.table.proofs.Block.{samePair-straight, samePair-crossed, samePair-none, blockCell-sym, blockCell-none-above}
 use Rattle.survey.specs.Survey.{cellRecord, recordsOf}
 
 -- row k has no record before its diagonal
@@ -18,3 +32,371 @@ pub records-cong : (T U : ℕ → ℕ → ℕ) → ((k l : ℕ) → k < degrees 
 records-cong T U h =
     catTo-cong (λ k. catTo degrees (cellRecord T k)) (λ k. catTo degrees (cellRecord U k)) degrees
     (λ k p. catTo-cong (cellRecord T k) (cellRecord U k) degrees (λ l q. rw (h k l p q)))
+
+-- 1. One list of records behind another.
+
+abbrev Whole : List ℕ → Type 0
+Whole b = length b ≡ recordSize * records b
+
+module _ (a b : List ℕ) (whole : Whole a) where
+  records-append : records (a ++ b) ≡ records a + records b
+  records-append = rw length-append (omega arith)
+
+  -- a place in the first, and a place in the second
+  first-at : (i c : ℕ) → i < records a → c < recordSize → getD (a ++ b) (recordSize * i + c) 0 ≡ getD a (recordSize * i + c) 0
+  first-at i c h l = List·getD-append a b 0 (recordSize * i + c) (omega arith)
+
+  second-at : (i c : ℕ) → getD (a ++ b) (recordSize * (records a + i) + c) 0 ≡ getD b (recordSize * i + c) 0
+  second-at i c =
+      let e : recordSize * (records a + i) + c ≡ length a + (recordSize * i + c) = omega arith in
+      rw e (getD-append-add a b (recordSize * i + c) 0)
+
+  record-first : (i : ℕ) → i < records a
+      → (recordK (a ++ b) i ≡ recordK a i) × (recordL (a ++ b) i ≡ recordL a i) × (recordCount (a ++ b) i ≡ recordCount a i)
+  record-first i h = (
+    rw add-zero at (first-at i 0 h (omega arith)),
+    first-at i 1 h (omega arith),
+    ap₂ (λ (x y : ℕ). x + 256 * y) (first-at i 2 h (omega arith)) (first-at i 3 h (omega arith)),
+  )
+
+  record-second : (i : ℕ)
+      → (recordK (a ++ b) (records a + i) ≡ recordK b i) × (recordL (a ++ b) (records a + i) ≡ recordL b i) × (recordCount (a ++ b) (records a + i) ≡ recordCount b i)
+  record-second i = (
+    simp add-zero at (second-at i 0),
+    second-at i 1,
+    ap₂ (λ (x y : ℕ). x + 256 * y) (second-at i 2) (second-at i 3),
+  )
+
+  whole-append : Whole b → Whole (a ++ b)
+  whole-append w = rw length-append (omega arith)
+
+  -- what holds of the records of both holds of those of the whole
+  each-append : (P : ℕ → ℕ → ℕ → Type 0)
+      → ((i : ℕ) → i < records a → P (recordK a i) (recordL a i) (recordCount a i))
+      → ((i : ℕ) → i < records b → P (recordK b i) (recordL b i) (recordCount b i))
+      → (i : ℕ) → i < records (a ++ b) → P (recordK (a ++ b) i) (recordL (a ++ b) i) (recordCount (a ++ b) i)
+  each-append P f g i h = go (decLt i (records a))
+    where
+      go : Dec (i < records a) → P (recordK (a ++ b) i) (recordL (a ++ b) i) (recordCount (a ++ b) i)
+      go (yes l) = let r = record-first i l in rw (r .0, r .1, r .2) (f i l)
+      go (no l) =
+          let e : i ≡ records a + (i - records a) = omega arith in
+          let r = record-second (i - records a) in
+          rw (e, r .0, r .1, r .2) (g (i - records a) (omega (arith, records-append)))
+
+  -- what the whole adds to a cell
+  cell-append : (k l : ℕ) → blockCell (a ++ b) k l ≡ blockCell a k l + blockCell b k l
+  cell-append k l =
+      rw records-append
+      (sumTo-split (records a) (records b) (λ i. recordCell (a ++ b) i k l)
+      ∙ ap₂ _+_
+      (sumTo-cong (records a) (λ i. recordCell (a ++ b) i k l) (λ i. recordCell a i k l)
+      (λ i h. let r = record-first i h in rw (r .0, r .1, r .2)))
+      (sumTo-cong (records b) (λ i. recordCell (a ++ b) (records a + i) k l) (λ i. recordCell b i k l)
+      (λ i h. let r = record-second i in rw (r .0, r .1, r .2))))
+
+-- 2. The records of a matrix T, in their order.
+
+-- k and l as one number, by which records rise
+abbrev key : ℕ → ℕ → ℕ
+key k l = degrees * k + l
+
+module _ (T : ℕ → ℕ → ℕ) where
+  -- a record of T: cell (k, l), which is not 0, with lo ≤ key < hi
+  record Shown (lo hi k l n : ℕ) : Type 0 where
+    ordered : k ≤ l
+    most : l ≤ mostDegree
+    exact : n ≡ T k l
+    counted : 0 < n
+    from : lo ≤ key k l
+    below : key k l < hi
+
+  -- whole records of T that rise strictly, from lo on and below hi
+  record Run (lo hi : ℕ) (b : List ℕ) : Type 0 where
+    whole : Whole b
+    each : (i : ℕ) → i < records b → Shown lo hi (recordK b i) (recordL b i) (recordCount b i)
+    rising : (i j : ℕ) → i < j → j < records b → key (recordK b i) (recordL b i) < key (recordK b j) (recordL b j)
+
+  run-none : (lo hi : ℕ) → Run lo hi []
+  run-none lo hi = record { whole = refl; each = λ i h. absurd (omega arith); rising = λ i j h l. absurd (omega arith) }
+
+  -- the record of one cell, or none
+  run-cell : (k l : ℕ) → l < degrees → Run (key k l) (key k l + 1) (cellRecord T k l)
+  run-cell k l h = go (decLt l k) (ℕ-discrete (T k l) 0)
+    where
+      one : k ≤ l → T k l ≢ 0 → Run (key k l) (key k l + 1) (k ∷ l ∷ T k l % 256 ∷ T k l / 256 ∷ [])
+      one p q =
+          record {
+            whole = refl;
+            each = λ i m. let z : i ≡ 0 = omega arith in
+                rw z
+                (record {
+                  ordered = p;
+                  most = omega arith;
+                  exact = omega arith;
+                  counted = omega arith;
+                  from = omega arith;
+                  below = omega arith;
+                });
+            rising = λ i j m n. absurd (omega arith);
+          }
+
+      go : Dec (l < k) → Dec (T k l ≡ 0) → Run (key k l) (key k l + 1) (cellRecord T k l)
+      go (yes p) q = rw (lt-leb k l p) (run-none (key k l) (key k l + 1))
+      go (no p) (yes q) = rw (le-leb k l (omega arith), eq-eqb (T k l) 0 q) (run-none (key k l) (key k l + 1))
+      go (no p) (no q) = rw (le-leb k l (omega arith), ne-eqb (T k l) 0 q) (one (omega arith) q)
+
+  shown-wider : (lo hi lo′ hi′ k l n : ℕ) → lo′ ≤ lo → hi ≤ hi′ → Shown lo hi k l n → Shown lo′ hi′ k l n
+  shown-wider lo hi lo′ hi′ k l n p q s =
+      record {
+        ordered = s .ordered;
+        most = s .most;
+        exact = s .exact;
+        counted = s .counted;
+        from = omega (arith, s .from);
+        below = omega (arith, s .below);
+      }
+
+  run-append : (lo mid hi : ℕ) (a b : List ℕ) → lo ≤ mid → mid ≤ hi → Run lo mid a → Run mid hi b → Run lo hi (a ++ b)
+  run-append lo mid hi a b p q r s =
+      record {
+        whole = whole-append a b (r .whole) (s .whole);
+        each = each-append a b (r .whole) (Shown lo hi)
+            (λ i h. shown-wider lo mid lo hi _ _ _ (omega arith) q (r .each i h))
+            (λ i h. shown-wider mid hi lo hi _ _ _ p (omega arith) (s .each i h));
+        rising = λ i j h l. rising i j h l (decLt i (records a)) (decLt j (records a));
+      }
+    where
+      at : ℕ → ℕ
+      at i = key (recordK (a ++ b) i) (recordL (a ++ b) i)
+
+      first : (i : ℕ) → i < records a → at i ≡ key (recordK a i) (recordL a i)
+      first i h = let f = record-first a b (r .whole) i h in ap₂ key (f .0) (f .1)
+
+      second : (i : ℕ) → records a ≤ i → at i ≡ key (recordK b (i - records a)) (recordL b (i - records a))
+      second i h =
+          let e : i ≡ records a + (i - records a) = omega arith in
+          let f = record-second a b (r .whole) (i - records a) in
+          ap at e ∙ ap₂ key (f .0) (f .1)
+
+      rising : (i j : ℕ) → i < j → j < records (a ++ b) → Dec (i < records a) → Dec (j < records a) → at i < at j
+      rising i j h l (yes u) (yes v) = rw (first i u, first j v) (r .rising i j h v)
+      rising i j h l (yes u) (no v) =
+          rw (first i u, second j (omega arith))
+          (omega (arith, r .each i u .below, s .each (j - records a) (omega (arith, records-append a b (r .whole))) .from))
+      rising i j h l (no u) (yes v) = absurd (omega arith)
+      rising i j h l (no u) (no v) =
+          rw (second i (omega arith), second j (omega arith))
+          (s .rising (i - records a) (j - records a) (omega arith) (omega (arith, records-append a b (r .whole))))
+
+  -- runs one after the other
+  run-cat : (f : ℕ → List ℕ) (g : ℕ → ℕ) (n : ℕ) → ((i : ℕ) → i < n → g i ≤ g (i + 1)) → ((i : ℕ) → i < n → Run (g i) (g (i + 1)) (f i))
+      → (g 0 ≤ g n) × Run (g 0) (g n) (catTo n f)
+  unfolding catTo
+  run-cat f g zero up h = (omega arith, run-none (g 0) (g 0))
+  run-cat f g (suc n) up h =
+      let r = run-cat f g n (λ i l. up i (omega arith)) (λ i l. h i (omega arith)) in
+      let u = up n (omega arith) in
+      rw (← (add-one n)) (omega (arith, r .0), run-append (g 0) (g n) (g (n + 1)) (catTo n f) (f n) (r .0) u (r .1) (h n (omega arith)))
+
+  run-row : (k : ℕ) → Run (key k 0) (key k degrees) (catTo degrees (cellRecord T k))
+  run-row k =
+      run-cat (cellRecord T k) (key k) degrees (λ l h. omega arith)
+      (λ l h. let e : key k (l + 1) ≡ key k l + 1 = omega arith in rw e (run-cell k l h)) .1
+
+  run-all : Run (key 0 0) (key degrees 0) (recordsOf T)
+  run-all =
+      run-cat (λ k. catTo degrees (cellRecord T k)) (λ k. key k 0) degrees (λ k h. omega arith)
+      (λ k h. let e : key (k + 1) 0 ≡ key k degrees = omega arith in rw e (run-row k)) .1
+
+  -- they are whole records
+  pub records-whole : length (recordsOf T) ≡ recordSize * records (recordsOf T)
+  records-whole = run-all .whole
+
+  -- each shows a cell (k, l), k ≤ l ≤ 40, that is not 0
+  pub records-shown : (i : ℕ) → i < records (recordsOf T)
+      → (recordK (recordsOf T) i ≤ recordL (recordsOf T) i)
+      × (recordL (recordsOf T) i ≤ mostDegree)
+      × (recordCount (recordsOf T) i ≡ T (recordK (recordsOf T) i) (recordL (recordsOf T) i))
+      × (0 < recordCount (recordsOf T) i)
+  records-shown i h = let s = run-all .each i h in (s .ordered, s .most, s .exact, s .counted)
+
+  -- they rise strictly, by k and then l
+  pub records-rise : (i j : ℕ) → i < j → j < records (recordsOf T)
+      → (recordK (recordsOf T) i < recordK (recordsOf T) j)
+      ⊎ ((recordK (recordsOf T) i ≡ recordK (recordsOf T) j) × (recordL (recordsOf T) i < recordL (recordsOf T) j))
+  records-rise i j h l = go (decLt (recordK (recordsOf T) i) (recordK (recordsOf T) j))
+    where
+      go : Dec (recordK (recordsOf T) i < recordK (recordsOf T) j)
+          → (recordK (recordsOf T) i < recordK (recordsOf T) j)
+          ⊎ ((recordK (recordsOf T) i ≡ recordK (recordsOf T) j) × (recordL (recordsOf T) i < recordL (recordsOf T) j))
+      go (yes p) = inl p
+      go (no p) =
+          let u = run-all .rising i j h l in
+          let a = run-all .each i (omega arith) in
+          let b = run-all .each j l in
+          inr (omega arith, omega arith)
+
+-- 3. Read back.
+
+-- weights that are 1 at (m, n) and 0 elsewhere
+module _ (i j m n x : ℕ) where
+  weighed-here : i ≡ m → j ≡ n → δ i m * (δ j n * x) ≡ x
+  weighed-here p q = rw (δ-same i m p, δ-same j n q, one-mul x) (one-mul x)
+
+  weighed-apart : (i ≡ m → j ≡ n → ⊥) → δ i m * (δ j n * x) ≡ 0
+  weighed-apart h = go (ℕ-discrete i m)
+    where
+      go : Dec (i ≡ m) → δ i m * (δ j n * x) ≡ 0
+      go (yes p) = rw (δ-other j n (h p), zero-mul x) (mul-zero (δ i m))
+      go (no p) = rw (δ-other i m p) (zero-mul (δ j n * x))
+
+module _ (T : ℕ → ℕ → ℕ) (k l : ℕ) where
+  -- what the record of cell (i, j) adds to cell (k, l)
+  cell-back : (i j : ℕ) → blockCell (cellRecord T i j) k l ≡ δ i (min k l) * (δ j (max k l) * T i j)
+  unfolding sumTo
+  cell-back i j = go (decLt j i) (ℕ-discrete (T i j) 0)
+    where
+      -- as a number, the record's two bytes are the cell
+      count : 0 + (T i j % 256 + 256 * (T i j / 256)) ≡ T i j
+      count = omega arith
+
+      pair : i ≡ min k l → j ≡ max k l → Dec (l < k) → samePair k l i j ≡ true
+      pair p q (yes r) = samePair-crossed k l i j (omega arith) (omega arith)
+      pair p q (no r) = samePair-straight k l i j (omega arith) (omega arith)
+
+      apart : i ≤ j → (i ≡ min k l → j ≡ max k l → ⊥)
+          → 0 + cond (samePair k l i j) (T i j % 256 + 256 * (T i j / 256)) 0 ≡ δ i (min k l) * (δ j (max k l) * T i j)
+      apart h f =
+          rw (
+            samePair-none k l i j (λ p q. f (omega arith) (omega arith)) (λ p q. f (omega arith) (omega arith)),
+            weighed-apart i j (min k l) (max k l) (T i j) f,
+          )
+
+      one : i ≤ j → Dec (i ≡ min k l) → Dec (j ≡ max k l)
+          → 0 + cond (samePair k l i j) (T i j % 256 + 256 * (T i j / 256)) 0 ≡ δ i (min k l) * (δ j (max k l) * T i j)
+      one h (yes p) (yes q) = rw (pair p q (decLt l k), weighed-here i j (min k l) (max k l) (T i j) p q) count
+      one h (yes p) (no q) = apart h (λ _ r. q r)
+      one h (no p) q = apart h (λ r _. p r)
+
+      go : Dec (j < i) → Dec (T i j ≡ 0) → blockCell (cellRecord T i j) k l ≡ δ i (min k l) * (δ j (max k l) * T i j)
+      go (yes p) q = rw (lt-leb i j p, weighed-apart i j (min k l) (max k l) (T i j) (λ r s. omega arith))
+      go (no p) (yes q) = rw (le-leb i j (omega arith), eq-eqb (T i j) 0 q, q, mul-zero (δ j (max k l)), mul-zero (δ i (min k l)))
+      go (no p) (no q) = rw (le-leb i j (omega arith), ne-eqb (T i j) 0 q) (one (omega arith) (ℕ-discrete i (min k l)) (ℕ-discrete j (max k l)))
+
+  -- lists of records one after the other add up
+  cat-back : (f : ℕ → List ℕ) (n : ℕ) → ((i : ℕ) → i < n → Whole (f i))
+      → Whole (catTo n f) × (blockCell (catTo n f) k l ≡ sumTo n (λ i. blockCell (f i) k l))
+  unfolding catTo sumTo
+  cat-back f zero h = (refl, refl)
+  cat-back f (suc n) h =
+      let r = cat-back f n (λ i m. h i (omega arith)) in (
+        whole-append (catTo n f) (f n) (r .0) (h n (omega arith)),
+        cell-append (catTo n f) (f n) (r .0) k l ∙ ap (λ (s : ℕ). s + blockCell (f n) k l) (r .1),
+      )
+
+  row-back : (i : ℕ) → Whole (catTo degrees (cellRecord T i))
+      × (blockCell (catTo degrees (cellRecord T i)) k l ≡ δ i (min k l) * sumTo degrees (λ j. δ j (max k l) * T i j))
+  row-back i =
+      let r = cat-back (cellRecord T i) degrees (λ j h. run-cell T i j h .whole) in (
+        r .0,
+        r .1
+            ∙ sumTo-cong degrees (λ j. blockCell (cellRecord T i j) k l) (λ j. δ i (min k l) * (δ j (max k l) * T i j)) (λ j h. cell-back i j)
+            ∙ sumTo-scale (δ i (min k l)) degrees (λ j. δ j (max k l) * T i j),
+      )
+
+  -- the records of a symmetric matrix, read back, are the matrix
+  pub records-back : ((i j : ℕ) → T i j ≡ T j i) → k < degrees → l < degrees → blockCell (recordsOf T) k l ≡ T k l
+  records-back symmetric hk hl =
+      cat-back (λ i. catTo degrees (cellRecord T i)) degrees (λ i h. row-back i .0) .1
+      ∙ sumTo-cong degrees (λ i. blockCell (catTo degrees (cellRecord T i)) k l)
+      (λ i. δ i (min k l) * sumTo degrees (λ j. δ j (max k l) * T i j)) (λ i h. row-back i .1)
+      ∙ sumTo-at degrees (min k l) (λ i. sumTo degrees (λ j. δ j (max k l) * T i j)) (omega arith)
+      ∙ sumTo-at degrees (max k l) (T (min k l)) (omega arith)
+      ∙ turn (decLt l k)
+    where
+      turn : Dec (l < k) → T (min k l) (max k l) ≡ T k l
+      turn (yes h) =
+          let a : min k l ≡ l = omega arith in
+          let b : max k l ≡ k = omega arith in
+          rw (a, b) (symmetric l k)
+      turn (no h) =
+          let a : min k l ≡ k = omega arith in
+          let b : max k l ≡ l = omega arith in
+          rw (a, b)
+
+-- 4. The records of a table, which is 0 at degree 0 and above 40.
+module _ (T : ℕ → ℕ → ℕ) (table : Table T) where
+  pub records-good : (i : ℕ) → i < records (recordsOf T) → goodRecord (recordsOf T) i ≡ true
+  records-good i h =
+      let s = records-shown T i h in
+      rw (
+        le-leb leastDegree (recordK (recordsOf T) i) (least s (ℕ-discrete (recordK (recordsOf T) i) 0)),
+        le-leb (recordK (recordsOf T) i) mostDegree (omega arith),
+        le-leb leastDegree (recordL (recordsOf T) i) (omega (arith, least s (ℕ-discrete (recordK (recordsOf T) i) 0))),
+        le-leb (recordL (recordsOf T) i) mostDegree (s .1),
+        le-leb (recordK (recordsOf T) i) (recordL (recordsOf T) i) (s .0),
+      )
+    where
+      k : ℕ
+      k = recordK (recordsOf T) i
+
+      l : ℕ
+      l = recordL (recordsOf T) i
+
+      least : (k ≤ l) × (l ≤ mostDegree) × (recordCount (recordsOf T) i ≡ T k l) × (0 < recordCount (recordsOf T) i) → Dec (k ≡ 0) → leastDegree ≤ k
+      least s (yes z) = absurd (omega (arith, ap (λ (v : ℕ). T v l) z, table .none-of-0 l))
+      least s (no z) = omega arith
+
+  pub records-all-good : firstBad (recordsOf T) ≡ records (recordsOf T)
+  records-all-good =
+      lowest-none 0 (records (recordsOf T)) (λ i. not (goodRecord (recordsOf T) i)) (omega arith)
+      (λ i g h. ap not (records-good i h))
+
+  -- in every cell
+  pub records-exact : (k l : ℕ) → blockCell (recordsOf T) k l ≡ T k l
+  records-exact k l = go (decLt k degrees) (decLt l degrees)
+    where
+      go : Dec (k < degrees) → Dec (l < degrees) → blockCell (recordsOf T) k l ≡ T k l
+      go (yes p) (yes q) = records-back T k l (table .symmetric) p q
+      go (yes p) (no q) =
+          blockCell-sym (recordsOf T) k l
+          ∙ blockCell-none-above (recordsOf T) records-all-good l k (omega arith)
+          ∙ sym (table .none-above l k (omega arith))
+          ∙ table .symmetric l k
+      go (no p) q = blockCell-none-above (recordsOf T) records-all-good k l (omega arith) ∙ sym (table .none-above k l (omega arith))
+
+-- 5. Where each cell fits 16 bits they are bytes.
+
+abbrev Bytes : List ℕ → Type 0
+Bytes b = (p : ℕ) → getD b p 0 < 256
+
+bytes-append : (a b : List ℕ) → Bytes a → Bytes b → Bytes (a ++ b)
+bytes-append a b f g p = go (decLt p (length a))
+  where
+    go : Dec (p < length a) → getD (a ++ b) p 0 < 256
+    go (yes h) = rw (List·getD-append a b 0 p h) (f p)
+    go (no h) =
+        let e : p ≡ length a + (p - length a) = omega arith in
+        rw (e, getD-append-add a b (p - length a) 0) (g (p - length a))
+
+bytes-cat : (f : ℕ → List ℕ) (n : ℕ) → ((i : ℕ) → i < n → Bytes (f i)) → Bytes (catTo n f)
+unfolding catTo
+bytes-cat f zero h = λ p. omega arith
+bytes-cat f (suc n) h = bytes-append (catTo n f) (f n) (bytes-cat f n (λ i l. h i (omega arith))) (h n (omega arith))
+
+pub records-bytes : (T : ℕ → ℕ → ℕ) → ((k l : ℕ) → T k l < 65536) → (p : ℕ) → getD (recordsOf T) p 0 < 256
+records-bytes T small =
+    bytes-cat (λ k. catTo degrees (cellRecord T k)) degrees
+    (λ k p. bytes-cat (cellRecord T k) degrees (λ l q. cell k l p q (leb k l && not (eqb (T k l) 0))))
+  where
+    four : (a b c d : ℕ) → a < 256 → b < 256 → c < 256 → d < 256 → Bytes (a ∷ b ∷ c ∷ d ∷ [])
+    four a b c d p q r s zero = p
+    four a b c d p q r s (suc zero) = q
+    four a b c d p q r s (suc (suc zero)) = r
+    four a b c d p q r s (suc (suc (suc zero))) = s
+    four a b c d p q r s (suc (suc (suc (suc n)))) = omega arith
+
+    cell : (k l : ℕ) → k < degrees → l < degrees → (t : Bool) → Bytes (cond t (k ∷ l ∷ T k l % 256 ∷ T k l / 256 ∷ []) [])
+    cell k l p q true = four k l (T k l % 256) (T k l / 256) (omega arith) (omega arith) (omega arith) (omega (arith, small k l))
+    cell k l p q false = λ i. omega arith
