@@ -1,5 +1,6 @@
 // What the entries answer. specs/Numbers.antt gives document 01's number and values for each case.
 ghost use mathlib.Core.Path.{_≡_};
+ghost use Rattle.answer.specs.Numbers.{numberOf};
 ghost use Rattle.answer.specs.Refusals.{refusal, stop};
 
 // Why a call is refused: one case for each number of document 01's table.
@@ -115,4 +116,32 @@ pub fn stopped(cause: Cause) -> Verdict
     ensures { λ r. ⌜ r ≡ stop cause ⌝ }
 {
     Verdict::Stop(refuse(cause, 0, 0))
+}
+
+// Document 01's number of a cause.
+pub fn number_of(cause: Cause) -> usize
+    ensures { λ r. ⌜ r ≡ numberOf cause ⌝ }
+{
+    match cause {
+        Cause::Length => 1,
+        Cause::Invalid => 2,
+        Cause::Phase => 3,
+        Cause::BlockLength => 4,
+        Cause::Record => 5,
+        Cause::BlockNumber => 6,
+        Cause::Conflict => 7,
+        Cause::JournalFull => 8,
+        Cause::OddDiagonal => 9,
+        Cause::UnevenRow => 10,
+        Cause::OverfullCell => 11,
+        Cause::TooManyVertices => 12,
+        Cause::VertexNumber => 13,
+        Cause::SameVertex => 14,
+        Cause::Linked => 15,
+        Cause::CellFull => 16,
+        Cause::NotLinked => 17,
+        Cause::OutputLength => 18,
+        Cause::EdgeList => 19,
+        Cause::DegreeAbove => 20,
+    }
 }

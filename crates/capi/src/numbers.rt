@@ -1,11 +1,11 @@
 // Document 01's numbers of each answer.
 ghost use mathlib.Core.Path.{_≡_};
 ghost use Prim.Native.Nat.{ℕ, _<_};
-ghost use Rattle.answer.specs.Numbers.{numberOf, done, refused, clearNumbers, takeNumbers, layOutNumbers, figuresNumbers, addNumbers, removeNumbers, completeNumbers, writtenNumbers};
+ghost use Rattle.answer.specs.Numbers.{done, refused, clearNumbers, takeNumbers, layOutNumbers, figuresNumbers, addNumbers, removeNumbers, completeNumbers, writtenNumbers};
 ghost use Rattle.capi.specs.Flat.{flat, heldNumbers};
 use crate::ReplicaAnswer;
 use answer::AddAnswer;
-use answer::Cause;
+use answer::number_of;
 use answer::ClearAnswer;
 use answer::CompleteAnswer;
 use answer::FiguresAnswer;
@@ -15,33 +15,6 @@ use answer::Refusal;
 use answer::RemoveAnswer;
 use answer::TakeAnswer;
 use answer::WrittenAnswer;
-
-fn number_of(cause: Cause) -> usize
-    ensures { λ r. ⌜ r ≡ numberOf cause ⌝ }
-{
-    match cause {
-        Cause::Length => 1,
-        Cause::Invalid => 2,
-        Cause::Phase => 3,
-        Cause::BlockLength => 4,
-        Cause::Record => 5,
-        Cause::BlockNumber => 6,
-        Cause::Conflict => 7,
-        Cause::JournalFull => 8,
-        Cause::OddDiagonal => 9,
-        Cause::UnevenRow => 10,
-        Cause::OverfullCell => 11,
-        Cause::TooManyVertices => 12,
-        Cause::VertexNumber => 13,
-        Cause::SameVertex => 14,
-        Cause::Linked => 15,
-        Cause::CellFull => 16,
-        Cause::NotLinked => 17,
-        Cause::OutputLength => 18,
-        Cause::EdgeList => 19,
-        Cause::DegreeAbove => 20,
-    }
-}
 
 fn two(number: usize, first: usize, second: usize) -> ReplicaAnswer
     ensures { λ r. ⌜ r ≡ flat (record { number = number; first = first; second = second; third = 0; fourth = 0; fifth = 0 }) ⌝ }

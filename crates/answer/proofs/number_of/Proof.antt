@@ -1,7 +1,7 @@
--- `capi::numbers::number_of` meets its contract.
+-- `answer::number_of` meets its contract.
 use borrow.Author.Needs.{needs}
-use Rattle.capi.proofs.numbers.number_of.Statement.{statement}
-use Rattle.capi.proofs.numbers.number_of.Tie as tie
+use Rattle.answer.proofs.number_of.Statement.{statement}
+use Rattle.answer.proofs.number_of.Tie as tie
 
 pub number-of-spec : {M : Type 1} → statement M
 number-of-spec =
