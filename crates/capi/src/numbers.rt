@@ -5,7 +5,6 @@ ghost use Rattle.answer.specs.Numbers.{done, refused, clearNumbers, takeNumbers
 ghost use Rattle.capi.specs.Flat.{flat, heldNumbers};
 use crate::ReplicaAnswer;
 use answer::AddAnswer;
-use answer::number_of;
 use answer::ClearAnswer;
 use answer::CompleteAnswer;
 use answer::FiguresAnswer;
@@ -15,6 +14,7 @@ use answer::Refusal;
 use answer::RemoveAnswer;
 use answer::TakeAnswer;
 use answer::WrittenAnswer;
+use answer::number_of;
 
 fn two(number: usize, first: usize, second: usize) -> ReplicaAnswer
     ensures { λ r. ⌜ r ≡ flat (record { number = number; first = first; second = second; third = 0; fourth = 0; fifth = 0 }) ⌝ }

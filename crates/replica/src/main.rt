@@ -22,8 +22,7 @@ fn block_end(at: usize, len: usize) -> usize
 }
 
 // Takes the input block by block, up to the first refusal.
-fn take_all(journal: &mut [u8], adjacency: &[u8], input: &[u8]) -> Verdict
-{
+fn take_all(journal: &mut [u8], adjacency: &[u8], input: &[u8]) -> Verdict {
     let mut at = 0;
     for number in 0..65usize {
         if input.len() <= at {

@@ -1,0 +1,48 @@
+-- What a user takes from the theorems, clause by clause. A weaker statement of demand 3, or a tally that counts a block twice, would not give it.
+-- Assumes nothing.
+use mathlib.Core.Path.{_≡_, refl, sym, ap, _∙_}
+use mathlib.Core.Bool.{Bool, true, false, _&&_, not, cond}
+use mathlib.Core.List.{List}
+use Prim.Native.Nat.{ℕ, _+_}
+use native.Mathlib.Omega.{arith}
+use lib.Dec.{eqb, ltb}
+use borrow.Author.Tests.{ne-eqb, eqb-true}
+use Rattle.finite.proofs.All.{and-left, and-right, and-false}
+use Rattle.graph.specs.Theorems.{Realized}
+use Rattle.table.specs.Block.{wellFormed}
+use Rattle.journal.specs.Journal.{mostBlocks}
+use Rattle.demands.specs.Calls.{Call, State, cleared, afterAll}
+use Rattle.demands.specs.Tally.{Tally, noTally, toldTake, counts, withBlock, tally, tallyAll}
+use Rattle.demands.specs.Demand3.{RefusedForWantOfAGraph, OpenPair, CanBeJoined}
+use Rattle.demands.proofs.Demand3.{demand-3}
+
+module _ (calls : List Call) where
+  -- where laying out is refused with 9, 10 or 11, no simple graph has the table ..
+  pub refused-none : tallyAll cleared noTally calls .laid ≡ false → RefusedForWantOfAGraph (afterAll cleared calls)
+      → Realized (tallyAll cleared noTally calls .table) → ⊥
+  refused-none e = demand-3 calls .0 e .honest .0
+
+  -- .. and where none has it, laying out is refused so
+  pub none-refused : tallyAll cleared noTally calls .laid ≡ false → (Realized (tallyAll cleared noTally calls .table) → ⊥)
+      → RefusedForWantOfAGraph (afterAll cleared calls)
+  none-refused e = demand-3 calls .0 e .honest .1
+
+  -- each open pair can be joined, named in either order
+  pub every-pair : tallyAll cleared noTally calls .laid ≡ true → (v w : ℕ) → OpenPair (tallyAll cleared noTally calls .table) (afterAll cleared calls) v w
+      → CanBeJoined (tallyAll cleared noTally calls .table) (afterAll cleared calls) w v
+  every-pair e v w o = demand-3 calls .1 e .joinable v w o .1
+
+-- a block that was counted is not counted when it is sent again
+pub resent-once : (t : Tally) (number : ℕ) (b : List ℕ) → counts t number b ≡ true
+    → tally (tally t (toldTake number b)) (toldTake number b) ≡ tally t (toldTake number b)
+resent-once t number b h = rw h (ap (λ (c : Bool). cond c (withBlock (withBlock t b) b) (withBlock t b)) again)
+  where
+    number-is : number ≡ t .blocks
+    number-is =
+        eqb-true number (t .blocks)
+        (and-right (wellFormed b) (eqb number (t .blocks))
+        (and-left (wellFormed b && eqb number (t .blocks)) (not (t .laid))
+        (and-left (wellFormed b && eqb number (t .blocks) && not (t .laid)) (ltb (t .blocks) mostBlocks) h)))
+
+    again : counts (withBlock t b) number b ≡ false
+    again = rw (ne-eqb number (t .blocks + 1) (λ e. omega (arith, number-is, e)), and-false (wellFormed b))
