@@ -82,7 +82,7 @@ module _ (n : ℕ) (cls : ℕ → ℕ) (T : ℕ → ℕ → ℕ) (g : List ℕ) 
         simple = mirrored-simple n g (and-left _ (zeroOutside n g) mz);
         outside = zero-outside n g (and-right (mirrored n g) _ mz);
         room = λ v l. leb-true (degree n (edge g) v) (cls v) (allTo-at (λ v. leb (degree n (edge g) v) (cls v)) n room v l);
-        within = λ k l p q. leb-true (jdm n cls (edge g) k l) (T k l) (allTo-at (at k) degrees (allTo-at (λ k. allTo degrees (at k)) degrees within k p) l q);
+        within = λ k l p q. leb-true (jdm n cls (edge g) k l) (T k l) (allTo-at (at k) degrees (row k p) l q);
       }
     where
       at : ℕ → ℕ → Bool
@@ -99,6 +99,9 @@ module _ (n : ℕ) (cls : ℕ → ℕ) (T : ℕ → ℕ → ℕ) (g : List ℕ) 
 
       within : cellsWithin n cls T g ≡ true
       within = and-right (mirrored n g && zeroOutside n g && degreesWithin n cls g) _ h
+
+      row : (k : ℕ) → k < degrees → allTo degrees (at k) ≡ true
+      row = allTo-at (λ k. allTo degrees (at k)) degrees within
 
   pub facts-adjacency : length g ≡ adjacencySize → n ≤ side → Facts n cls T g → adjacencyOk n cls T g ≡ true
   facts-adjacency long small f =

@@ -1,4 +1,4 @@
-// The adjacency matrix in lent bytes (document 01: the grid): its check, and the count of its edges.
+// The adjacency matrix in lent bytes (document 01: the grid): its check, the count of its edges, the setting of one.
 ghost use mathlib.Core.Path.{_≡_};
 ghost use mathlib.Core.Bool.{true, _&&_};
 ghost use Prim.Native.Nat.{ℕ, _+_, _-_, _*_, _≤_, _<_};

@@ -49,7 +49,9 @@ module _ (j b : List ℕ) (size : length j ≡ journalSize) (room : blocks j < m
 
   stored-in : (q : ℕ) → q < suc (length b) → getD (stored j b) (slotAt (blocks j) + q) 0 ≡ getD (length b ∷ b) q 0
   unfolding written
-  stored-in q l = stored-other (slotAt (blocks j) + q) (λ e. absurd (omega arith)) ∙ getD-sets-in j (slotAt (blocks j)) (length b ∷ b) q (omega arith) l
+  stored-in q l =
+      stored-other (slotAt (blocks j) + q) (λ e. absurd (omega arith))
+      ∙ getD-sets-in j (slotAt (blocks j)) (length b ∷ b) q (omega arith) l
 
   -- a slot but the new one has the bytes that it had
   kept : (i : ℕ) → (i ≡ blocks j → ⊥) → (q : ℕ) → q < slotSize → getD (stored j b) (slotAt i + q) 0 ≡ getD j (slotAt i + q) 0

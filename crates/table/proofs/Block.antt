@@ -1,14 +1,13 @@
 -- What a good record is, and what a block adds to the cells: the same to (k, l) as to (l, k), and nothing to a degree out of range.
 -- Assumes nothing.
-use mathlib.Core.Path.{_≡_, refl, sym, ap, _∙_}
+use mathlib.Core.Path.{_≡_, refl}
 use mathlib.Core.Bool.{Bool, true, false, _&&_, _||_, not}
 use mathlib.Core.List.{List}
-use Prim.Native.Nat.{ℕ, _+_, _≤_, _<_}
+use Prim.Native.Nat.{ℕ, _≤_, _<_}
 use native.Mathlib.Decide.{ℕ-discrete}
 use native.Mathlib.Omega.{arith}
 use lib.Dec.{eqb, leb}
 use borrow.Author.Tests.{leb-true, eq-eqb, ne-eqb, not-false}
-use Rattle.finite.specs.Range.{sumTo}
 use Rattle.finite.proofs.All.{and-left, and-right, and-false}
 use Rattle.finite.proofs.Lowest.{lowest-before}
 use Rattle.finite.proofs.Sum.{sumTo-cong, sumTo-zero}

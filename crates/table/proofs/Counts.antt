@@ -1,18 +1,17 @@
 -- The array of counts holds D(k), for every k, and no count is above a row's most.
 -- Assumes nothing.
-use mathlib.Core.Path.{_≡_, refl, sym, ap, _∙_, subst, fun-ext}
+use mathlib.Core.Path.{_≡_, sym, ap, _∙_, subst, fun-ext}
 use mathlib.Core.List.{List}
-use Prim.Native.Nat.{ℕ, zero, suc, _+_, _-_, _*_, _/_, _≤_, _<_}
+use Prim.Native.Nat.{ℕ, zero, suc, _-_, _*_, _/_, _≤_, _<_}
 use native.Mathlib.Nat.{zero-div, div-le-self, mul-one, mul-sub, le-mul-of-pos-right}
 use native.Mathlib.Decide.{decLt}
 use native.Mathlib.Omega.{arith}
-use lib.ListN.{length, getD, replicate, length-replicate, List·getD-eq-default}
+use lib.ListN.{replicate, length-replicate, List·getD-eq-default}
 use borrow.Author.Tests.{le-ltb}
-use Rattle.finite.specs.Range.{sumTo}
 use Rattle.finite.proofs.Fold.{fillTo-at, fillTo-length}
 use Rattle.finite.proofs.Sum.{sumTo-zero, sumTo-mono, sumTo-const}
 use Rattle.graph.specs.Tests.{degrees, rowSum, count}
-use Rattle.table.specs.Cells.{matrixOf, AtMost, cellSumMost}
+use Rattle.table.specs.Cells.{matrixOf, AtMost}
 use Rattle.table.specs.Layout.{countsOf}
 use Rattle.table.specs.Run.{countIn}
 use Rattle.table.proofs.Matrix.{matrix-most}

@@ -1,6 +1,6 @@
 -- What adding a block does to the array of cells, and to the matrix that it holds.
 -- Assumes nothing.
-use mathlib.Core.Path.{_≡_, refl, sym, ap, _∙_, fun-ext}
+use mathlib.Core.Path.{_≡_, refl, sym, _∙_, fun-ext}
 use mathlib.Core.Bool.{Bool, true, false, _&&_, cond}
 use mathlib.Core.List.{List}
 use mathlib.Core.Logic.{_≢_}
@@ -8,7 +8,7 @@ use Prim.Native.Nat.{ℕ, zero, suc, _+_, _*_, _≤_, _<_}
 use native.Mathlib.Nat.{add-zero, add-assoc}
 use native.Mathlib.Decide.{ℕ-discrete, decLt}
 use native.Mathlib.Omega.{arith}
-use lib.Dec.{eqb, ltb}
+use lib.Dec.{ltb}
 use lib.ListN.{length, getD, set, replicate, length-set}
 use lib.Seq.{getD-set-same, getD-set-other, set-out}
 use borrow.Author.Tests.{lt-ltb, le-ltb}
@@ -17,7 +17,7 @@ use Rattle.finite.proofs.All.{and-false}
 use Rattle.finite.proofs.Fold.{foldTo-keeps}
 use Rattle.finite.proofs.Sum.{sumTo-none, sumTo-more}
 use Rattle.graph.specs.Tests.{degrees}
-use Rattle.table.specs.Block.{records, recordK, recordL, recordCount, goodRecord, firstBad, samePair, recordCell, blockCell}
+use Rattle.table.specs.Block.{records, recordK, recordL, recordCount, firstBad, samePair, recordCell, blockCell}
 use Rattle.table.specs.Cells.{cellsSize, place, matrixOf, noCells, addRecord, addBlock, AtMost, blockSumMost}
 use Rattle.table.proofs.Block.{Good, good-record, all-good, samePair-straight, samePair-crossed, samePair-none, recordCell-sym, recordCell-none}
 

@@ -1,6 +1,6 @@
 // Document 01's tests 9 to 12 on a matrix, D(k), N, and the degree of each vertex.
 ghost use mathlib.Core.Path.{_≡_};
-ghost use Prim.Native.Nat.{ℕ, _+_, _*_, _≤_, _<_};
+ghost use Prim.Native.Nat.{_*_, _≤_, _<_};
 ghost use Rattle.graph.specs.Numbering.{total, classOf};
 ghost use Rattle.graph.specs.Target.{cellMost};
 ghost use Rattle.graph.specs.Tests.{degrees, rowSum, count, odd, uneven, overfull, firstOdd, firstUneven, firstOverfull, firstOverfullIn};
@@ -160,8 +160,8 @@ struct Run {
 
 // The class of vertex v, from that of an earlier vertex.
 fn run_at(counts: &[usize; 41], v: usize, run: Run) -> Run
-    requires { ⌜ Reaches (countIn (now counts)) (run .class) (run .end) v × (v < total degrees (countIn (now counts))) × (total degrees (countIn (now counts)) ≤ mostVertices) ⌝ }
-    ensures { λ r. ⌜ Reaches (countIn (now (counts .entry))) (r .class) (r .end) v × (r .class ≡ classOf degrees (countIn (now (counts .entry))) v) ⌝ }
+    requires { ⌜ (let D = countIn (now counts) in Reaches D (run .class) (run .end) v × (v < total degrees D) × (total degrees D ≤ mostVertices)) ⌝ }
+    ensures { λ r. ⌜ (let D = countIn (now (counts .entry)) in Reaches D (r .class) (r .end) v × (r .class ≡ classOf degrees D v)) ⌝ }
 {
     let mut class = run.class;
     let mut end = run.end;

@@ -38,6 +38,7 @@ add-row-spec =
     let l = c .before .before .before in
     let a = l .before .args in (
       omega arith,
-      added-more (λ i. a .at + i) (λ i. getD (a .adjacency .now) (a .from + i) 0) (a .sums .now) (l .loop .i) (l .loop .sums) (omega arith) (l .loop .inv .1),
+      added-more (λ i. a .at + i) (λ i. getD (a .adjacency .now) (a .from + i) 0) (a .sums .now) (l .loop .i) (l .loop .sums)
+          (omega arith) (l .loop .inv .1),
     ))  -- loop-again
     (λ c. let e : c .before .loop .i ≡ c .before .before .args .n = omega arith in rw e at (c .before .loop .inv .1)))  -- returns

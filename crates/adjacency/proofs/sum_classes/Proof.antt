@@ -59,6 +59,7 @@ sum-classes-spec =
     let E = edge (s .args .adjacency .now) in (
       omega arith,
       c .add-row .ensures .long ∙ l .loop .inv .1,
-      classDegrees-more (s .args .n) cls E (l .loop .sums) _ (l .loop .v) (w .wide .result) (omega arith) (w .wide .ensures .0) (l .loop .inv .2) (c .add-row .ensures),
+      classDegrees-more (s .args .n) cls E (l .loop .sums) _ (l .loop .v) (w .wide .result) (omega arith) (w .wide .ensures .0)
+          (l .loop .inv .2) (c .add-row .ensures),
     ))  -- loop-again
     (λ c. let e : c .before .loop .v ≡ c .before .before .before .args .n = omega arith in rw e at (c .before .loop .inv .2)))  -- returns

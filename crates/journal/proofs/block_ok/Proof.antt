@@ -1,4 +1,5 @@
 -- `journal::block_ok` meets its contract.
+-- Assumes nothing.
 use native.Mathlib.Omega.{arith}
 use Rattle.journal.proofs.block_ok.Statement.{statement}
 use Rattle.journal.proofs.block_ok.Tie as tie

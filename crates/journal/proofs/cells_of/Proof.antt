@@ -1,4 +1,5 @@
 -- `journal::cells_of` meets its contract: after i turns the first i blocks are added.
+-- Assumes nothing.
 use mathlib.Core.Path.{_≡_, sym}
 use Prim.Native.Nat.{_≤_, _-_, _*_}
 use native.Mathlib.Omega.{arith}

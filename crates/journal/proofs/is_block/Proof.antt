@@ -1,4 +1,5 @@
 -- `journal::is_block` meets its contract.
+-- Assumes nothing.
 use native.Mathlib.Omega.{arith}
 use Rattle.journal.proofs.is_block.Statement.{statement}
 use Rattle.journal.proofs.is_block.Tie as tie

@@ -1,4 +1,5 @@
 -- `journal::journal_ok` meets its contract.
+-- Assumes nothing.
 use native.Mathlib.Omega.{arith}
 use Rattle.journal.proofs.journal_ok.Statement.{statement}
 use Rattle.journal.proofs.journal_ok.Tie as tie

@@ -1,4 +1,5 @@
 -- `journal::slot_ok` meets its contract.
+-- Assumes nothing.
 use mathlib.Core.Path.{sym}
 use borrow.Author.Tests.{lt-ltb, le-ltb}
 use native.Mathlib.Omega.{arith}
@@ -21,4 +22,5 @@ slot-ok-spec =
     (λ c κs. omega arith)  -- rest-is-zero-requires-2
     (λ c.
     let t = c .before in
-    rw (le-ltb _ _ (rw (t .before .block-count .ensures .0) at (t .if2 .left)), t .before .before .before .slot-length .ensures .0, c .rest-is-zero2 .ensures)))  -- returns-3
+    let n = t .before .before .before in
+    rw (le-ltb _ _ (rw (t .before .block-count .ensures .0) at (t .if2 .left)), n .slot-length .ensures .0, c .rest-is-zero2 .ensures)))  -- returns-3

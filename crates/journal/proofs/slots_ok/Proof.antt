@@ -1,4 +1,5 @@
 -- `journal::slots_ok` meets its contract: the slots passed are ok.
+-- Assumes nothing.
 use mathlib.Core.Path.{_≡_, sym, _∙_}
 use mathlib.Core.Bool.{true}
 use Prim.Native.Nat.{_≤_, _-_}

@@ -1,4 +1,5 @@
 -- `journal::store_block` meets its contract.
+-- Assumes nothing.
 use native.Mathlib.Numerals.{add-one}
 use native.Mathlib.Omega.{arith}
 use lib.ListN.{length-set}

@@ -1,4 +1,5 @@
 -- `slices::all_zero` meets its contract: the flag is the test of the bytes passed.
+-- Assumes nothing.
 use mathlib.Core.Path.{_≡_}
 use Prim.Native.Nat.{_≤_, _-_}
 use lib.Dec.{eqb}

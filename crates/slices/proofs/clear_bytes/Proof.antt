@@ -1,4 +1,5 @@
 -- `slices::clear_bytes` meets its contract: after i turns the first i bytes are 0.
+-- Assumes nothing.
 use mathlib.Core.Path.{_≡_, refl}
 use mathlib.Core.List.{_++_, append-nil}
 use Prim.Native.Nat.{_≤_, _-_}

@@ -1,4 +1,5 @@
 -- `slices::copy_in` meets its contract: after i turns the first i bytes are pasted.
+-- Assumes nothing.
 use mathlib.Core.Path.{_≡_, refl, sym}
 use Prim.Native.Nat.{_≤_, _-_}
 use lib.ListN.{length, length-set}

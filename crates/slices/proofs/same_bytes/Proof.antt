@@ -1,4 +1,5 @@
 -- `slices::same_bytes` meets its contract: the bytes passed are equal.
+-- Assumes nothing.
 use mathlib.Core.Path.{_≡_}
 use mathlib.Core.Bool.{true}
 use Prim.Native.Nat.{_≤_, _-_}

@@ -25,12 +25,11 @@ add-block-spec =
     (λ c κs.
     let l = c .before .before in
     let k = l .before in
-    let s = k .before in (
-      omega arith,
-      all-good (s .args .block .now) (s .pre .1) (l .loop .i) (omega arith),
-      let m = atMost-addRecords (s .args .block .now) (λ j. omega (arith, k .shared-slice-known .given j)) (s .pre .2 .0) (s .args .cells .now) (s .pre .2 .2) in
-          (λ p. rw (l .loop .inv .1) (omega (arith, m (l .loop .i) p))),
-    ))  -- add-record-requires
+    let s = k .before in
+    let b = s .args .block .now in
+    let h = s .pre .2 in
+    let m = atMost-addRecords b (λ j. omega (arith, k .shared-slice-known .given j)) (h .0) (s .args .cells .now) (h .2) (l .loop .i) in
+    (omega arith, all-good b (s .pre .1) (l .loop .i) (omega arith), λ p. rw (l .loop .inv .1) (omega (arith, m p))))  -- add-record-requires
     (λ c. omega arith)  -- add-i
     (λ c. omega arith)  -- loop-less
     (λ c.

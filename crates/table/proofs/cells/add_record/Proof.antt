@@ -1,6 +1,9 @@
 -- `table::cells::add_record` meets its contract.
 -- Assumes nothing.
+use mathlib.Core.Path.{_≡_}
 use native.Mathlib.Omega.{arith}
+use Rattle.table.specs.Block.{recordK, recordL}
+use Rattle.table.specs.Cells.{place}
 use Rattle.table.proofs.Block.{good-record}
 use Rattle.table.proofs.cells.add_record.Statement.{statement}
 use Rattle.table.proofs.cells.add_record.Tie as tie
@@ -33,4 +36,8 @@ add-record-spec =
     let p = c .before .before .before in
     let v = p .before in
     let w = v .before .before in
-    rw (c .before .wide32 .ensures .0, c .record-count .ensures .0, p .place-of .ensures .0, w .wide .ensures .0, v .wide2 .ensures .0)))  -- returns
+    let s = w .before .before .before in
+    let b = s .args .block .now in
+    let e : p .place-of .result ≡ place (recordK b (s .args .i)) (recordL b (s .args .i)) =
+    rw (← (w .wide .ensures .0), ← (v .wide2 .ensures .0)) (p .place-of .ensures .0) in
+    rw (c .before .wide32 .ensures .0, c .record-count .ensures .0, e)))  -- returns

@@ -3,8 +3,6 @@
 use mathlib.Core.Path.{sym}
 use native.Mathlib.Nat.{div-zero, div-le-self}
 use native.Mathlib.Omega.{arith}
-use Rattle.graph.specs.Tests.{rowSum}
-use Rattle.table.specs.Cells.{matrixOf}
 use Rattle.table.proofs.layout.count_of.Statement.{statement}
 use Rattle.table.proofs.layout.count_of.Tie as tie
 

@@ -1,7 +1,7 @@
 -- `table::layout::run_at` meets its contract: the run reached is never past the vertex.
 -- Assumes nothing.
-use mathlib.Core.Path.{_≡_, sym}
-use Prim.Native.Nat.{_+_, _-_, _≤_, _<_}
+use mathlib.Core.Path.{sym}
+use Prim.Native.Nat.{_+_, _-_}
 use native.Mathlib.Omega.{arith}
 use Rattle.finite.proofs.Sum.{sumTo-more, sumTo-le}
 use Rattle.graph.specs.Tests.{degrees}
