@@ -70,7 +70,8 @@ module _ (j g : List ℕ) where
       record { lengths = l .0; sound = v .0; taking = eqb-true (phase j) 0 (p .0); passed = t .0; small = t .1 }
 
   -- on a valid state in phase 0 the tests 9 to 12 decide
-  lay-out-verdict : lengthsOk j g ≡ true → valid j g ≡ true → phase j ≡ 0 → layOutAnswer j g ≡ laidOut (layoutVerdict (jdmOf j)) (vertices (jdmOf j))
+  lay-out-verdict : lengthsOk j g ≡ true → valid j g ≡ true → phase j ≡ 0
+      → layOutAnswer j g ≡ laidOut (layoutVerdict (jdmOf j)) (vertices (jdmOf j))
   lay-out-verdict l v p = rw (l, v, eq-eqb (phase j) 0 p)
 
   pub facts-lay-out : LaidOutFacts j g → layOutAnswer j g ≡ LaidOut (vertices (jdmOf j))
@@ -88,13 +89,14 @@ module _ (j g : List ℕ) where
 
   lays-out-facts : lengthsOk j g ≡ true → valid j g ≡ true → laysOut j ≡ true → LaidOutFacts j g
   lays-out-facts l v h =
-      let a = and-left (eqb (phase j) 0 && passes (jdmOf j)) (leb (vertices (jdmOf j)) mostVertices) h in
+      let t = leb (vertices (jdmOf j)) mostVertices in
+      let a = and-left (eqb (phase j) 0 && passes (jdmOf j)) t h in
       record {
         lengths = l;
         sound = v;
         taking = eqb-true (phase j) 0 (and-left (eqb (phase j) 0) (passes (jdmOf j)) a);
         passed = and-right (eqb (phase j) 0) (passes (jdmOf j)) a;
-        small = leb-true (vertices (jdmOf j)) mostVertices (and-right (eqb (phase j) 0 && passes (jdmOf j)) (leb (vertices (jdmOf j)) mostVertices) h);
+        small = leb-true (vertices (jdmOf j)) mostVertices (and-right (eqb (phase j) 0 && passes (jdmOf j)) t h);
       }
 
   laid-out-lays : (n : ℕ) → layOutAnswer j g ≡ LaidOut n → laysOut j ≡ true

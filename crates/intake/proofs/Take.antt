@@ -150,8 +150,8 @@ module _ (j g : List ℕ) (number : ℕ) (b : List ℕ) where
   pub facts-held : HeldFacts j g number b → takeAnswer j g number b ≡ Held
   facts-held f =
       let s = valid-facts j g (f .lengths) (f .sound) in
-      take-numbered (f .lengths) (f .sound)
-      (subst (λ (x : List ℕ). wellFormed x ≡ true) (f .same) (used-well-formed j (s .journal-length) (journal-facts j (s .journal-ok)) number (f .low)))
+      let w = used-well-formed j (s .journal-length) (journal-facts j (s .journal-ok)) number (f .low) in
+      take-numbered (f .lengths) (f .sound) (subst (λ (x : List ℕ). wellFormed x ≡ true) (f .same) w)
       ∙ rw (
         le-leb number (blocks j) (omega (arith, f .low)),
         lt-ltb number (blocks j) (f .low),

@@ -23,13 +23,16 @@ fn figures_laid(journal: &[u8], adjacency: &[u8]) -> Figures
 {
     let cells = journal::cells_of(journal);
     let counts = table::layout::counts(&cells);
-    let n = table::layout::vertex_count(&cells, &counts);
+    let vertices = table::layout::vertex_count(&cells, &counts);
+    let blocks = block_count(journal);
+    let wanted = table::layout::edges_wanted(&cells);
+    let laid = adjacency::edge_count(adjacency, vertices);
     Figures {
         phase: 1,
-        blocks: block_count(journal),
-        vertices: n,
-        wanted: table::layout::edges_wanted(&cells),
-        laid: adjacency::edge_count(adjacency, n),
+        blocks,
+        vertices,
+        wanted,
+        laid,
     }
 }
 

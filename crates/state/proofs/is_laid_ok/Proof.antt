@@ -1,4 +1,5 @@
 -- `state::is_laid_ok` meets its contract.
+-- Assumes nothing.
 use mathlib.Core.Path.{sym, _∙_, ap}
 use Prim.Native.Nat.{ℕ}
 use borrow.Author.Needs.{needs}
@@ -26,7 +27,8 @@ is-laid-ok-spec =
     let m = c .before .before .before .before .before in
     let l = m .before .before in
     let n = l .before .before .before in
-    (n .before .before .cells-of .ensures .1, n .counts .ensures, layout-go _ (sym (l .layout-check .ensures) ∙ m .enum-told2 .given .1) .1))  -- classes-requires
+    let go = layout-go _ (sym (l .layout-check .ensures) ∙ m .enum-told2 .given .1) in
+    (n .before .before .cells-of .ensures .1, n .counts .ensures, go .1))  -- classes-requires
     (λ c κs.
     let s = c .before .before in
     let v = s .before .before .before in
@@ -34,7 +36,8 @@ is-laid-ok-spec =
     let l = m .before .before in
     let k = l .before .before .before .before .before in
     let go = layout-go _ (sym (l .layout-check .ensures) ∙ m .enum-told2 .given .1) in
-    (k .before .before .before .pre .1, v .vertex-count .ensures, rw (v .vertex-count .ensures) (go .1), s .classes .ensures, k .cells-of .ensures .1))  -- adjacency-ok-requires
+    let e = v .vertex-count .ensures in
+    (k .before .before .before .pre .1, e, rw e (go .1), s .classes .ensures, k .cells-of .ensures .1))  -- adjacency-ok-requires
     (λ c.
     let l = c .before .before in
     let k = l .before .before .before .before .before in

@@ -1,4 +1,5 @@
 -- `intake::clearing::clear` meets its contract.
+-- Assumes nothing.
 use mathlib.Core.Path.{refl, sym, ap, _∙_}
 use borrow.Author.Needs.{needs}
 use borrow.Author.Tests.{not-true, not-false}

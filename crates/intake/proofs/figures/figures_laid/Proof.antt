@@ -1,5 +1,6 @@
 -- `intake::figures::figures_laid` meets its contract.
-use mathlib.Core.Path.{_≡_, sym, ap, _∙_}
+-- Assumes nothing.
+use mathlib.Core.Path.{ap, _∙_}
 use Prim.Native.Nat.{ℕ}
 use Rattle.graph.specs.Graph.{edges}
 use Rattle.table.specs.Layout.{vertices, wanted}

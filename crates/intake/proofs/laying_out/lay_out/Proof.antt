@@ -1,4 +1,5 @@
 -- `intake::laying_out::lay_out` meets its contract.
+-- Assumes nothing.
 use mathlib.Core.Path.{refl, sym, _∙_}
 use borrow.Author.Needs.{needs}
 use Rattle.state.proofs.Facts.{lengths-journal}

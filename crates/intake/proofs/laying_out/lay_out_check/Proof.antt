@@ -1,4 +1,5 @@
 -- `intake::laying_out::lay_out_check` meets its contract.
+-- Assumes nothing.
 use mathlib.Core.Path.{sym, ap, _∙_}
 use borrow.Author.Tests.{not-true, not-false, eq-eqb, ne-eqb}
 use Rattle.answer.specs.declared.LayOutAnswer.the-variants.{Refused}

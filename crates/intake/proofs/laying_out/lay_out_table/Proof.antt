@@ -1,4 +1,5 @@
 -- `intake::laying_out::lay_out_table` meets its contract.
+-- Assumes nothing.
 use mathlib.Core.Path.{sym, ap, _∙_}
 use borrow.Author.Needs.{needs}
 use Rattle.answer.specs.declared.LayOutAnswer.the-variants.{LaidOut}

@@ -1,5 +1,6 @@
 -- `intake::reading_back::held_block` meets its contract.
-use mathlib.Core.Path.{refl, sym, _∙_}
+-- Assumes nothing.
+use mathlib.Core.Path.{sym, _∙_}
 use Prim.Native.Nat.{_<_}
 use native.Mathlib.Omega.{arith}
 use borrow.Author.Needs.{needs}

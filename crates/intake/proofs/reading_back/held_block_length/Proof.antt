@@ -1,4 +1,5 @@
 -- `intake::reading_back::held_block_length` meets its contract.
+-- Assumes nothing.
 use mathlib.Core.Path.{sym, ap, _∙_}
 use native.Mathlib.Omega.{arith}
 use borrow.Author.Tests.{not-true, not-false, lt-ltb, le-ltb}
@@ -44,7 +45,8 @@ held-block-length-spec =
     let i = v .before .before in
     let a = i .before .before .before .before .args in
     let e = sym (i .before .lengths-ok .ensures) ∙ not-false _ (i .if1 .left) in
-    let f = journal-facts (a .journal .now) (valid-journal (a .journal .now) (a .adjacency .now) (sym (v .before .is-valid .ensures) ∙ not-false _ (v .if2 .left))) in
+    let o = sym (v .before .is-valid .ensures) ∙ not-false _ (v .if2 .left) in
+    let f = journal-facts (a .journal .now) (valid-journal (a .journal .now) (a .adjacency .now) o) in
     (lengths-journal (a .journal .now) (a .adjacency .now) e, omega (arith, f .blocks-le)))  -- slot-length-requires
     (λ c.
     let n = c .before in

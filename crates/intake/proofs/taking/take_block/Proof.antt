@@ -1,4 +1,5 @@
 -- `intake::taking::take_block` meets its contract.
+-- Assumes nothing.
 use mathlib.Core.Path.{refl, sym, _∙_}
 use borrow.Author.Needs.{needs}
 use lib.ListN.{length}
@@ -19,7 +20,8 @@ take-block-spec =
     let a = t .before .before .before .before .before .args in
     let b = a .block .now in
     let f = taken-facts (a .journal .now) (a .adjacency .now) (a .number) b _ (sym (t .take-check .ensures) ∙ k .answer .given .1) in
-    (lengths-journal (a .journal .now) (a .adjacency .now) (f .lengths), f .room, length-most (length b) (well-formed-length b (f .good))))  -- store-block-requires
+    let most = length-most (length b) (well-formed-length b (f .good)) in
+    (lengths-journal (a .journal .now) (a .adjacency .now) (f .lengths), f .room, most))  -- store-block-requires
     (λ c. search needs)  -- enum-told
     (λ c. search needs)  -- enum-known-answer-2
     (λ c. search needs)  -- same-length

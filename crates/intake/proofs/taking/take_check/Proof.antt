@@ -1,6 +1,6 @@
 -- `intake::taking::take_check` meets its contract.
+-- Assumes nothing.
 use mathlib.Core.Path.{sym, ap, _∙_}
-use native.Mathlib.Omega.{arith}
 use borrow.Author.Tests.{not-true, not-false, eq-eqb, ne-eqb}
 use Rattle.answer.specs.declared.TakeAnswer.the-variants.{Refused}
 use Rattle.state.proofs.Facts.{lengths-journal, lengths-adjacency, valid-journal}
