@@ -60,7 +60,9 @@ module _ (a b : List ℕ) (whole : Whole a) where
   )
 
   record-second : (i : ℕ)
-      → (recordK (a ++ b) (records a + i) ≡ recordK b i) × (recordL (a ++ b) (records a + i) ≡ recordL b i) × (recordCount (a ++ b) (records a + i) ≡ recordCount b i)
+      → (recordK (a ++ b) (records a + i) ≡ recordK b i)
+      × (recordL (a ++ b) (records a + i) ≡ recordL b i)
+      × (recordCount (a ++ b) (records a + i) ≡ recordCount b i)
   record-second i = (
     simp add-zero at (second-at i 0),
     second-at i 1,

@@ -25,7 +25,8 @@ jdm-of-edges-spec =
     let b = j .before in
     let i = b .before in
     let a = i .before .before .before .args in
-    rw (survey-bad (a .edges .now) (length (a .output .now)) (i .if1 .left) (λ e. j .if2 .taken (b .first-bad-edge .ensures ∙ e)), ← (b .first-bad-edge .ensures))
+    let found = b .first-bad-edge .ensures in
+    rw (survey-bad (a .edges .now) (length (a .output .now)) (i .if1 .left) (λ e. j .if2 .taken (found ∙ e)), ← found)
     (ap Refused (c .refuse2 .ensures), refl))  -- returns-2
     (λ c κs. sym (c .before .first-bad-edge .ensures) ∙ c .if2 .left)  -- degrees-of-requires
     (λ c κs. tt)  -- first-above-requires
