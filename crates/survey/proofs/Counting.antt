@@ -1,23 +1,22 @@
 -- What counting edge by edge makes of the arrays: the degrees and the joint degree matrix of the edges so far. Each is bounded.
 -- Assumes nothing.
-use mathlib.Core.Path.{_≡_, refl, sym, ap, ap₂, _∙_}
-use mathlib.Core.Bool.{Bool, true, false, _&&_}
+use mathlib.Core.Path.{_≡_, sym, ap, _∙_}
 use mathlib.Core.List.{List}
 use mathlib.Core.Logic.{_≢_}
 use Prim.Native.Nat.{ℕ, zero, suc, _+_, _*_, _≤_, _<_}
-use native.Mathlib.Nat.{add-zero, add-assoc, mul-one, mul-le-mul-left}
+use native.Mathlib.Nat.{add-assoc, mul-one, mul-le-mul-left}
 use native.Mathlib.Numerals.{add-one}
 use native.Mathlib.Decide.{ℕ-discrete, decLt}
 use native.Mathlib.Omega.{arith}
 use lib.Dec.{ltb}
-use lib.ListN.{length, getD, set, replicate, length-set, length-replicate}
+use lib.ListN.{length, getD, replicate, length-set}
 use borrow.Author.Tests.{ltb-false, lt-ltb, le-ltb, eq-eqb, ne-eqb}
-use Rattle.finite.specs.Range.{δ, sumTo}
+use Rattle.finite.specs.Range.{δ}
 use Rattle.finite.proofs.All.{and-false}
 use Rattle.finite.proofs.Delta.{δ-self, δ-same, δ-other, δ-le}
 use Rattle.finite.proofs.Lowest.{lowest-before, lowest-cong}
 use Rattle.finite.proofs.Sum.{sumTo-none, sumTo-mono, sumTo-const, sumTo-zero}
-use Rattle.graph.specs.Graph.{Graph, degree, jdm, atEdge}
+use Rattle.graph.specs.Graph.{degree, jdm, atEdge}
 use Rattle.graph.specs.Tests.{mostDegree, degrees}
 use Rattle.graph.proofs.Edge.{Place, forth, back, elsewhere, place as placed, atEdge-here, atEdge-back}
 use Rattle.graph.proofs.Matrix.{jdm-cong, jdm-empty}

@@ -5,12 +5,12 @@ use mathlib.Core.Bool.{Bool, true, false, _&&_, not, cond}
 use mathlib.Core.List.{List, [], _∷_, _++_}
 use mathlib.Core.Logic.{_≢_, _⊎_, inl, inr}
 use Prim.Native.Nat.{ℕ, zero, suc, _+_, _-_, _*_, _/_, _%_, _≤_, _<_, min, max}
-use native.Mathlib.Nat.{zero-add, add-zero, mul-zero, zero-mul, one-mul}
+use native.Mathlib.Nat.{add-zero, mul-zero, zero-mul, one-mul}
 use native.Mathlib.Numerals.{add-one}
 use native.Mathlib.Decide.{ℕ-discrete, decLt}
 use native.Mathlib.Omega.{arith}
 use lib.Dec.{eqb, leb}
-use lib.ListN.{length, getD, length-append, List·getD-append, List·getD-eq-default}
+use lib.ListN.{length, getD, length-append, List·getD-append}
 use lib.Seq.{getD-append-add}
 use borrow.Author.Tests.{le-leb, lt-leb, eq-eqb, ne-eqb}
 use Rattle.finite.specs.Range.{δ, sumTo, catTo}
@@ -60,7 +60,9 @@ module _ (a b : List ℕ) (whole : Whole a) where
   )
 
   record-second : (i : ℕ)
-      → (recordK (a ++ b) (records a + i) ≡ recordK b i) × (recordL (a ++ b) (records a + i) ≡ recordL b i) × (recordCount (a ++ b) (records a + i) ≡ recordCount b i)
+      → (recordK (a ++ b) (records a + i) ≡ recordK b i)
+      × (recordL (a ++ b) (records a + i) ≡ recordL b i)
+      × (recordCount (a ++ b) (records a + i) ≡ recordCount b i)
   record-second i = (
     simp add-zero at (second-at i 0),
     second-at i 1,

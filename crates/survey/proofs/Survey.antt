@@ -1,12 +1,12 @@
 -- The outcomes of a survey, and that it writes exactly the joint degree matrix of its list.
 -- Assumes nothing.
-use mathlib.Core.Path.{_≡_, refl, sym, ap, _∙_}
+use mathlib.Core.Path.{_≡_, refl, ap, _∙_}
 use mathlib.Core.Bool.{Bool, true, false}
 use mathlib.Core.List.{List}
 use mathlib.Core.Logic.{_≢_}
 use Prim.Native.Nat.{ℕ, _%_, _≤_, _<_}
 use native.Mathlib.Omega.{arith}
-use lib.ListN.{length, take, drop}
+use lib.ListN.{length, take, replicate, length-replicate}
 use lib.Seq.{sets}
 use borrow.Author.Tests.{eq-eqb, ne-eqb, le-leb, lt-leb, eqb-true, leb-true}
 use Rattle.answer.specs.Refusals.{refusal, unless}
@@ -23,7 +23,7 @@ use Rattle.table.specs.Cells.{matrixOf}
 use Rattle.table.specs.Layout.{mostVertices}
 use Rattle.survey.specs.EdgeList.{listed, firstBadEdge, graphOf}
 use Rattle.survey.specs.Survey.{firstAbove, recordsOf, surveyRecords, surveyAnswer}
-use Rattle.survey.specs.Counting.{HasCells}
+use Rattle.survey.specs.Counting.{HasCells, recordsMost}
 use Rattle.survey.specs.Theorem.{Ascending, SurveyExact}
 use Rattle.survey.proofs.Counting.{degree-low, jdm-most, few-edges}
 use Rattle.survey.proofs.List.{list-simple, edges-to}
@@ -65,12 +65,16 @@ module _ (e : List ℕ) (m : ℕ) where
 pub own-records : (e c : List ℕ) → HasCells c (degree mostVertices (graphOf e)) (graphOf e) → recordsOf (matrixOf c) ≡ surveyRecords e
 own-records e c h = records-cong (matrixOf c) (ownJdm mostVertices (graphOf e)) h
 
--- which stand at the start of the list z where they were written
-pub records-written : (e c z : List ℕ) (n : ℕ) → HasCells c (degree mostVertices (graphOf e)) (graphOf e) → n ≡ length (recordsOf (matrixOf c))
-    → n ≤ length z → take n (sets z 0 (recordsOf (matrixOf c))) ≡ surveyRecords e
-records-written e c z n h q l =
-    rw (own-records e c h, q ∙ ap length (own-records e c h))
-    (take-sets z (surveyRecords e) (rw (q ∙ ap length (own-records e c h)) at l))
+-- and those stand at the start of the bytes where the code writes them
+pub records-written : (e c : List ℕ) (n : ℕ) → HasCells c (degree mostVertices (graphOf e)) (graphOf e)
+    → (n ≡ length (recordsOf (matrixOf c))) × (n ≤ recordsMost)
+    → (n ≡ length (surveyRecords e)) × (take n (sets (replicate recordsMost 0) 0 (recordsOf (matrixOf c))) ≡ surveyRecords e)
+records-written e c n h q =
+    let own = own-records e c h in
+    let size = q .0 ∙ ap length own in
+    let zeros : List ℕ = replicate recordsMost 0 in
+    let fits : length (surveyRecords e) ≤ length zeros = rw (length-replicate {A = ℕ} recordsMost 0, ← size) (q .1) in
+    (size, rw (own, size) (take-sets zeros (surveyRecords e) fits))
 
 -- The matrix of a list that is not refused is a table, and each cell fits 16 bits.
 module _ (e : List ℕ) (well : firstBadEdge e ≡ listed e) (low : firstAbove e ≡ mostVertices) where

@@ -3,7 +3,7 @@
 use mathlib.Core.Path.{_≡_}
 use mathlib.Core.Bool.{cond}
 use mathlib.Core.List.{List}
-use Prim.Native.Nat.{ℕ, _+_, _≤_, _<_}
+use Prim.Native.Nat.{ℕ, _+_, _*_, _≤_, _<_}
 use lib.Dec.{eqb, ltb}
 use lib.ListN.{getD, set}
 use Rattle.finite.specs.Range.{sumTo, lowest}
@@ -28,6 +28,10 @@ countEdge x y d = addAt (addAt d x 1) y 1
 -- the degree of v as the array has it
 abbrev pub degreeIn : List ℕ → ℕ → ℕ
 degreeIn d v = getD d v 0
+
+-- the ends of edge i have at most 2 for each edge before it
+abbrev pub HasRoom : List ℕ → ℕ → List ℕ → Type 0
+HasRoom e i d = (degreeIn d (endV e i) ≤ 2 * i) × (degreeIn d (endW e i) ≤ 2 * i)
 
 -- how often equation (1) counts an edge in the cell of its degrees a and b: twice on the diagonal
 abbrev pub timesCounted : ℕ → ℕ → ℕ

@@ -9,7 +9,7 @@ ghost use Rattle.table.specs.Cells.{place};
 ghost use Rattle.table.specs.Layout.{mostVertices};
 ghost use Rattle.survey.specs.EdgeList.{listed, endV, endW, goodEdge, firstBadEdge, graphOf};
 ghost use Rattle.survey.specs.Survey.{firstAbove};
-ghost use Rattle.survey.specs.Counting.{countEdge, countCell, timesCounted, degreeIn, firstAboveIn, HasDegrees, HasCells, cellMostOwn, CellsSmall};
+ghost use Rattle.survey.specs.Counting.{countEdge, countCell, timesCounted, degreeIn, firstAboveIn, HasRoom, HasDegrees, HasCells, cellMostOwn, CellsSmall};
 use slices::wide;
 use table::cells::place_of;
 use table::cells::wide32;
@@ -19,7 +19,7 @@ const MOST_DEGREE: usize = 40;
 
 // Edge i is one more for both its ends.
 fn count_edge(counts: &mut [usize; 200], edges: &[u8], i: usize)
-    requires { ⌜ (2 * i + 2 ≤ length (now edges)) × (goodEdge (now edges) i ≡ true) × (degreeIn (now counts) (endV (now edges) i) ≤ 2 * i) × (degreeIn (now counts) (endW (now edges) i) ≤ 2 * i) ⌝ }
+    requires { ⌜ (2 * i + 2 ≤ length (now edges)) × (goodEdge (now edges) i ≡ true) × HasRoom (now edges) i (now counts) ⌝ }
     ensures { λ _. ⌜ now (counts .exit) ≡ countEdge (endV (now (edges .entry)) i) (endW (now (edges .entry)) i) (now (counts .entry)) ⌝ }
 {
     let v = wide(edges[2 * i]);

@@ -36,6 +36,7 @@ pub fn jdm_of_edges(edges: &[u8], output: &mut [u8]) -> WrittenAnswer
         return WrittenAnswer::Refused(refuse(Cause::DegreeAbove, above, 0));
     }
     let cells = cells_of(edges, &counts);
+    // Room for a record of each of the 41 × 41 cells, so that the length is known before a byte of the output changes.
     let mut records = [0u8; 6724];
     let length = put_records(&cells, &mut records);
     if output.len() < length {

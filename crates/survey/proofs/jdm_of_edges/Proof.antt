@@ -1,17 +1,12 @@
 -- `survey::jdm_of_edges` meets its contract: each check decides as the definition has it.
 -- Assumes nothing.
-use mathlib.Core.Path.{_≡_, refl, sym, ap, _∙_}
-use mathlib.Core.List.{List}
-use Prim.Native.Nat.{ℕ, _≤_}
+use mathlib.Core.Path.{refl, sym, ap, _∙_}
 use native.Mathlib.Omega.{arith}
-use lib.ListN.{length, take, replicate, length-replicate}
-use lib.Seq.{sets}
+use lib.ListN.{length}
 use borrow.Author.Needs.{needs}
 use Rattle.answer.specs.declared.WrittenAnswer.the-variants.{Written, Refused}
-use Rattle.survey.specs.Survey.{surveyRecords}
-use Rattle.survey.specs.Counting.{recordsMost}
 use Rattle.survey.proofs.Counting.{above-same}
-use Rattle.survey.proofs.Survey.{survey-odd, survey-bad, survey-above, survey-short, survey-done, own-records, records-written}
+use Rattle.survey.proofs.Survey.{survey-odd, survey-bad, survey-above, survey-short, survey-done, records-written}
 use Rattle.survey.proofs.jdm_of_edges.Statement.{statement}
 use Rattle.survey.proofs.jdm_of_edges.Tie as tie
 
@@ -30,7 +25,8 @@ jdm-of-edges-spec =
     let b = j .before in
     let i = b .before in
     let a = i .before .before .before .args in
-    rw (survey-bad (a .edges .now) (length (a .output .now)) (i .if1 .left) (λ e. j .if2 .taken (b .first-bad-edge .ensures ∙ e)), ← (b .first-bad-edge .ensures))
+    let found = b .first-bad-edge .ensures in
+    rw (survey-bad (a .edges .now) (length (a .output .now)) (i .if1 .left) (λ e. j .if2 .taken (found ∙ e)), ← found)
     (ap Refused (c .refuse2 .ensures), refl))  -- returns-2
     (λ c κs. sym (c .before .first-bad-edge .ensures) ∙ c .if2 .left)  -- degrees-of-requires
     (λ c κs. tt)  -- first-above-requires
@@ -74,31 +70,23 @@ jdm-of-edges-spec =
     let i = b .before in
     let a = i .before .before .before .args in
     let above = f .first-above .ensures ∙ above-same (a .edges .now) (d .degrees-of .result) (d .degrees-of .ensures) in
-    let size = p .put-records .ensures .0 .0 ∙ ap length (own-records (a .edges .now) (q .cells-of .result) (q .cells-of .ensures .0)) in
+    let r = records-written (a .edges .now) (q .cells-of .result) (p .put-records .result) (q .cells-of .ensures .0) (p .put-records .ensures .0) in
     rw (survey-short (a .edges .now) (length (a .output .now)) (i .if1 .left) (sym (b .first-bad-edge .ensures) ∙ j .if2 .left)
-    (sym above ∙ k .if3 .left) (rw (← size) (m .if4 .taken)))
+    (sym above ∙ k .if3 .left) (rw (← (r .0)) (m .if4 .taken)))
     (ap Refused (c .refuse4 .ensures), refl))  -- returns-4
     (λ c. omega arith)  -- array-share-prefix-records
     (λ c.
     let p = c .before .before .before .before in
     let q = p .before .before .before in
     let a = q .before .before .before .before .before .before .before .before .before .before .before .args in
-    let size = p .put-records .ensures .0 .0 ∙ ap length (own-records (a .edges .now) (q .cells-of .result) (q .cells-of .ensures .0)) in
-    let z : List ℕ = replicate recordsMost 0 in
-    let l : length z ≡ recordsMost = length-replicate {A = ℕ} recordsMost 0 in
-    let part = records-written (a .edges .now) (q .cells-of .result) z (p .put-records .result) (q .cells-of .ensures .0)
-    (p .put-records .ensures .0 .0) (omega arith) in
-    rw (p .put-records .ensures .1) (size ∙ sym (ap length part)))  -- slice-aggregate-copy-in
+    let r = records-written (a .edges .now) (q .cells-of .result) (p .put-records .result) (q .cells-of .ensures .0) (p .put-records .ensures .0) in
+    rw (p .put-records .ensures .1) (r .0 ∙ sym (ap length (r .1))))  -- slice-aggregate-copy-in
     (λ c κs.
     let p = c .before .before .before .before in
     let q = p .before .before .before in
     let a = q .before .before .before .before .before .before .before .before .before .before .before .args in
-    let size = p .put-records .ensures .0 .0 ∙ ap length (own-records (a .edges .now) (q .cells-of .result) (q .cells-of .ensures .0)) in
-    let z : List ℕ = replicate recordsMost 0 in
-    let l : length z ≡ recordsMost = length-replicate {A = ℕ} recordsMost 0 in
-    let part = records-written (a .edges .now) (q .cells-of .result) z (p .put-records .result) (q .cells-of .ensures .0)
-    (p .put-records .ensures .0 .0) (omega arith) in
-    rw (p .put-records .ensures .1, part) (omega arith))  -- copy-in-requires
+    let r = records-written (a .edges .now) (q .cells-of .result) (p .put-records .result) (q .cells-of .ensures .0) (p .put-records .ensures .0) in
+    rw (p .put-records .ensures .1, r .1, ← (r .0)) (omega arith))  -- copy-in-requires
     (λ c. search needs)  -- same-length
     (λ c.
     let w = c .before .before in
@@ -113,11 +101,7 @@ jdm-of-edges-spec =
     let i = b .before in
     let a = i .before .before .before .args in
     let above = f .first-above .ensures ∙ above-same (a .edges .now) (d .degrees-of .result) (d .degrees-of .ensures) in
-    let size = p .put-records .ensures .0 .0 ∙ ap length (own-records (a .edges .now) (q .cells-of .result) (q .cells-of .ensures .0)) in
-    let z : List ℕ = replicate recordsMost 0 in
-    let l : length z ≡ recordsMost = length-replicate {A = ℕ} recordsMost 0 in
-    let part = records-written (a .edges .now) (q .cells-of .result) z (p .put-records .result) (q .cells-of .ensures .0)
-    (p .put-records .ensures .0 .0) (omega arith) in
+    let r = records-written (a .edges .now) (q .cells-of .result) (p .put-records .result) (q .cells-of .ensures .0) (p .put-records .ensures .0) in
     rw (survey-done (a .edges .now) (length (a .output .now)) (i .if1 .left) (sym (b .first-bad-edge .ensures) ∙ j .if2 .left)
-    (sym above ∙ k .if3 .left) (rw (← size) (m .if4 .left)))
-    (ap Written size, w .copy-in .ensures ∙ rw (p .put-records .ensures .1, part))))  -- returns-5
+    (sym above ∙ k .if3 .left) (rw (← (r .0)) (m .if4 .left)))
+    (ap Written (r .0), w .copy-in .ensures ∙ rw (p .put-records .ensures .1, r .1))))  -- returns-5

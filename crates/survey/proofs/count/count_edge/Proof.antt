@@ -1,10 +1,8 @@
 -- `survey::count::count_edge` meets its contract.
 -- Assumes nothing.
-use mathlib.Core.Path.{_≡_}
-use Prim.Native.Nat.{_+_, _*_, _≤_, _<_}
+use Prim.Native.Nat.{_+_, _*_, _≤_}
 use native.Mathlib.Omega.{arith}
 use lib.Seq.{getD-set-other}
-use Rattle.survey.specs.EdgeList.{endV, endW}
 use Rattle.survey.specs.Counting.{degreeIn}
 use Rattle.survey.proofs.List.{good-edge}
 use Rattle.survey.proofs.count.count_edge.Statement.{statement}
@@ -28,7 +26,7 @@ count-edge-spec =
     (λ c.
     let w = c .before .before .before in
     let s = w .before .before .before in
-    let room : degreeIn (s .args .counts .now) (w .wide .result) ≤ 2 * s .args .i = rw (w .wide .ensures .0) (s .pre .2) in
+    let room : degreeIn (s .args .counts .now) (w .wide .result) ≤ 2 * s .args .i = rw (w .wide .ensures .0) (s .pre .2 .0) in
     omega arith)  -- add-counts
     (λ c. omega arith)  -- mul-counts-2
     (λ c.
@@ -45,8 +43,9 @@ count-edge-spec =
     let w = x .before .before in
     let s = w .before .before .before in
     let g = good-edge (s .args .edges .now) (s .args .i) (s .pre .1) in
-    let room : degreeIn (s .args .counts .now) (x .wide2 .result) ≤ 2 * s .args .i = rw (x .wide2 .ensures .0) (s .pre .3) in
-    omega (arith, getD-set-other (s .args .counts .now) (w .wide .result) (x .wide2 .result) (degreeIn (s .args .counts .now) (w .wide .result) + 1) 0 (omega arith)))  -- add-counts-2
+    let room : degreeIn (s .args .counts .now) (x .wide2 .result) ≤ 2 * s .args .i = rw (x .wide2 .ensures .0) (s .pre .2 .1) in
+    let d = s .args .counts .now in
+    omega (arith, getD-set-other d (w .wide .result) (x .wide2 .result) (degreeIn d (w .wide .result) + 1) 0 (omega arith)))  -- add-counts-2
     (λ c. omega arith)  -- mul-counts-4
     (λ c.
     let s = c .before .before .before .before .before .before .before in

@@ -28,8 +28,9 @@ degrees-of-spec =
     let e = s .args .edges .now in
     let i = l .loop .i in
     let g = good e (s .pre) i (omega arith) in
-    let room : (v : ℕ) → v < mostVertices → degreeIn (l .loop .counts) v ≤ 2 * i = λ v h. rw (l .loop .inv .2 v h) (degree-most e (s .pre) v i h (omega arith)) in
-    (omega arith, all-good e (s .pre) i (omega arith), room (endV e i) (omega arith), room (endW e i) (omega arith)))  -- count-edge-requires
+    let room : (v : ℕ) → v < mostVertices → degreeIn (l .loop .counts) v ≤ 2 * i =
+    λ v h. rw (l .loop .inv .2 v h) (degree-most e (s .pre) v i h (omega arith)) in
+    (omega arith, all-good e (s .pre) i (omega arith), (room (endV e i) (omega arith), room (endW e i) (omega arith))))  -- count-edge-requires
     (λ c. omega arith)  -- add-i
     (λ c. omega arith)  -- loop-less
     (λ c.
