@@ -7,13 +7,12 @@ use answer::Verdict;
 use answer::WrittenAnswer;
 use answer::number_of;
 use libc::STDOUT_FILENO;
-ghost use Prim.Native.Nat.{_+_, _≤_};
-ghost use lib.ListN.{length};
+ghost use Prim.Native.Nat.{_≤_};
 
 // The end of the block that starts at `at`: 64 bytes on, or where the input ends.
 fn block_end(at: usize, len: usize) -> usize
-    requires { ⌜ (at ≤ len) × (len ≤ 4160) ⌝ }
-    ensures { λ r. ⌜ (r ≤ len) × (at ≤ r) × (r ≤ at + 64) ⌝ }
+    requires { ⌜ at ≤ len ⌝ }
+    ensures { λ r. ⌜ (r ≤ len) × (at ≤ r) ⌝ }
 {
     if len - at < table::record::BLOCK_MOST {
         return len;
@@ -64,9 +63,20 @@ fn print_number(x: u8) {
     io::print_decimal(STDOUT_FILENO, x as u64);
 }
 
-// A line for each edge.
-fn print_edges(edges: &[u8]) {
-    for i in 0..edges.len() / 2 {
+// The smaller of two numbers.
+fn least(a: usize, b: usize) -> usize
+    ensures { λ r. ⌜ (r ≤ a) × (r ≤ b) ⌝ }
+{
+    if a < b {
+        return a;
+    }
+    b
+}
+
+// A line for each edge of a list of len bytes.
+fn print_edges(edges: &[u8], len: usize) {
+    let n = least(len, edges.len()) / 2;
+    for i in 0..n {
         print_number(edges[2 * i]);
         io::write_all(STDOUT_FILENO, b" ");
         print_number(edges[2 * i + 1]);
@@ -82,9 +92,7 @@ fn print_state(journal: &[u8], adjacency: &[u8], n: usize, switches: usize) {
         WrittenAnswer::Refused(r) => print_refusal(r),
         WrittenAnswer::Written(len) => {
             print_head(n, len / 2, switches);
-            if len <= output.len() {
-                print_edges(&output[..len]);
-            }
+            print_edges(&output, len);
         }
     }
 }
@@ -107,9 +115,8 @@ fn lay_out(journal: &mut [u8], adjacency: &mut [u8]) {
     }
 }
 
-// Takes, lays out, completes and prints the records of an input of at most 65 blocks: a longer one ends in a refusal within them.
+// Takes, lays out, completes and prints the records of an input. The 65th block is refused, so nothing behind it matters.
 pub fn run(input: &[u8])
-    requires { ⌜ length (now input) ≤ 4160 ⌝ }
 {
     let mut journal = [0u8; 4162];
     let mut adjacency = [0u8; 40000];
