@@ -2,3 +2,4 @@ pub mod Cellwise
 pub mod Works
 pub mod Entry
 pub mod Cursor
+pub mod Search

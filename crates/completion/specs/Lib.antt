@@ -2,3 +2,4 @@ pub mod Choice
 pub mod Complete
 pub mod Cellwise
 pub mod Cursor
+pub mod Search

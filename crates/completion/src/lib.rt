@@ -1,4 +1,2 @@
 // Completing (document 01: finish): cell by cell, each cell gets the joins that it misses.
-pub mod cell;
-pub mod entry;
 pub mod pair;
