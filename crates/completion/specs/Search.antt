@@ -6,8 +6,9 @@ use mathlib.Core.List.{List}
 use Prim.Native.Nat.{ℕ, _+_, _≤_, _<_}
 use lib.Dec.{eqb, ltb}
 use Rattle.finite.specs.Range.{lowest}
+use Rattle.graph.specs.Tests.{degrees}
 use Rattle.adjacency.specs.Adjacency.{side}
-use Rattle.completion.specs.Cursor.{freeColumn}
+use Rattle.completion.specs.Cursor.{freeColumn, ClassRange}
 use Rattle.completion.specs.declared.pair.Cell.{Cell}
 
 -- where the columns of row v begin: on the diagonal above v
@@ -27,5 +28,12 @@ pub record Searchable (g : List ℕ) (c : Cell) (v w : ℕ) : Type 0 where
   pub columns : c .columns .to ≤ side
   pub row : v ≤ c .rows .to
   pub column : w ≤ c .columns .to
-  pub first : (u : ℕ) → u < c .rows .to → firstColumn c u ≤ c .columns .to
+  pub first : (u : ℕ) → v ≤ u → u < c .rows .to → firstColumn c u ≤ c .columns .to
   pub done : (x : ℕ) → firstColumn c v ≤ x → x < w → freeColumn g v x ≡ false
+
+-- the rows and the columns of the cell are the vertices of its two classes
+pub record Ranged (n : ℕ) (cls : ℕ → ℕ) (c : Cell) : Type 0 where
+  pub first : c .k < degrees
+  pub second : c .l < degrees
+  pub rows : ClassRange n cls (c .k) (c .rows .from) (c .rows .to)
+  pub columns : ClassRange n cls (c .l) (c .columns .from) (c .columns .to)

@@ -32,7 +32,7 @@ open-pair-spec =
     let l = m .before .before .before in
     let x = l .before .before .args in
     let column = column-resumed (x .adjacency .now) (x .cell) (l .loop .row) (l .loop .from) (l .loop .inv .0) (c .before .before .before .before .loop-test .taken) _ _ _
-      (m .before .first-column .ensures) (m .greatest .ensures) (f .free-column .ensures) in
+    (m .before .first-column .ensures) (m .greatest .ensures) (f .free-column .ensures) in
     (sym (l .loop .inv .1 ∙ lowest-here _ _ _ (omega arith) (rw (← column) (lt-ltb _ _ (c .if1 .taken)))), λ h. column))  -- returns
     (λ c. omega arith)  -- add-row
     (λ c. omega arith)  -- loop-less
@@ -43,13 +43,13 @@ open-pair-spec =
     let x = l .before .before .args in
     let s = l .loop .inv .0 in
     let column = column-resumed (x .adjacency .now) (x .cell) (l .loop .row) (l .loop .from) (l .loop .inv .0) (c .before .before .before .before .loop-test .taken) _ _ _
-      (m .before .first-column .ensures) (m .greatest .ensures) (f .free-column .ensures) in (
+    (m .before .first-column .ensures) (m .greatest .ensures) (f .free-column .ensures) in (
       record {
         rows = s .rows;
         columns = s .columns;
         row = omega arith;
         column = omega arith;
-        first = s .first;
+        first = λ u a. s .first u (omega arith);
         done = λ x a b. absurd (omega arith);
       },
       l .loop .inv .1 ∙ lowest-next _ _ _ (omega arith) (rw (← column) (le-ltb _ _ (c .if1 .left))),
