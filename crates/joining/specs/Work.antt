@@ -36,6 +36,11 @@ pub record Joinable (n : ℕ) (cls : ℕ → ℕ) (g : List ℕ) (v w : ℕ) : T
 abbrev pub SaturatedBelow : ℕ → (ℕ → ℕ) → List ℕ → ℕ → ℕ → Type 0
 SaturatedBelow n cls g a from = (i : ℕ) → i < from → cls i ≡ cls a → unsaturated n cls own (edge g) i ≡ false
 
+-- the same of every such vertex but `other`, which is no substitute
+abbrev pub SaturatedBut : ℕ → (ℕ → ℕ) → List ℕ → ℕ → ℕ → ℕ → Type 0
+SaturatedBut n cls g a other from =
+    (i : ℕ) → i < from → cls i ≡ cls a → (i ≡ other → ⊥) → unsaturated n cls own (edge g) i ≡ false
+
 -- the substitute test on the arrays
 abbrev pub canSubstituteIn : List ℕ → List ℕ → ℕ → ℕ → ℕ → Bool
 canSubstituteIn classes held k other b = eqb (getD classes b 0) k && ltb (getD held b 0) (getD classes b 0) && not (eqb b other)

@@ -6,10 +6,14 @@ ghost use Prim.Native.Nat.{ℕ, _+_, _-_, _*_, _≤_, _<_};
 ghost use lib.Dec.{ltb};
 ghost use lib.ListN.{length, getD, set};
 ghost use Rattle.finite.specs.Range.{lowest};
+ghost use Rattle.graph.specs.Tests.{degrees};
 ghost use Rattle.graph.specs.Switch.{canTransfer, transfer, orElse};
 ghost use Rattle.adjacency.specs.Adjacency.{adjacencySize, side, edge, setEdge};
-ghost use Rattle.joining.specs.Join.{switchBytes, relieveBytes, relieveCount, joinBytes, joinCount};
-ghost use Rattle.joining.specs.Work.{classAt, degreesOf, Joinable, SaturatedBelow, canSubstituteIn, freed};
+ghost use Rattle.joining.specs.Join.{switchBytes, relieveBytes, joinBytes, joinCount};
+ghost use Rattle.joining.specs.Work.{classAt, degreesOf, Joinable, SaturatedBelow, SaturatedBut, canSubstituteIn, freed};
+
+pub mod cell;
+
 use adjacency::SIDE;
 use adjacency::set_edge;
 use slices::wide;
@@ -109,6 +113,20 @@ fn choose_transfer(adjacency: &[u8], n: usize, a: usize, b: usize) -> usize
     t
 }
 
+// The neighbour switch of a: the edge a – t removed, b – t added.
+fn neighbor_switch(adjacency: &mut [u8], held: &mut [usize; 200], a: usize, b: usize, t: usize)
+    requires { ⌜ (length (now adjacency) ≡ adjacencySize) × (a < side) × (b < side) × (t < side) × (0 < getD (now held) a 0) × (getD (now held) b 0 < degrees) ⌝ }
+    ensures { λ _. ⌜ now (adjacency .exit) ≡ switchBytes (now (adjacency .entry)) a b t ⌝ }
+    ensures { λ _. ⌜ now (held .exit) ≡ set (set (now (held .entry)) a (getD (now (held .entry)) a 0 - 1)) b (getD (now (held .entry)) b 0 + 1) ⌝ }
+{
+    set_edge(adjacency, a, t, 0);
+    set_edge(adjacency, b, t, 1);
+    let less = held[a] - 1;
+    let more = held[b] + 1;
+    held[a] = less;
+    held[b] = more;
+}
+
 // Makes room at a: a neighbour switch if it is saturated. The vertex cut off from a; n where there was no switch.
 fn relieve(
     adjacency: &mut [u8],
@@ -119,7 +137,7 @@ fn relieve(
     other: usize,
     from: usize,
 ) -> usize
-    requires { ⌜ Joinable n (classAt (now classes)) (now adjacency) a other × (now held ≡ degreesOf n (now adjacency)) × (from ≤ n) × ((i : ℕ) → i < from → classAt (now classes) i ≡ classAt (now classes) a → (i ≡ other → ⊥) → getD (now classes) i 0 ≤ getD (now held) i 0) ⌝ }
+    requires { ⌜ Joinable n (classAt (now classes)) (now adjacency) a other × (now held ≡ degreesOf n (now adjacency)) × (from ≤ n) × SaturatedBut n (classAt (now classes)) (now adjacency) a other from ⌝ }
     ensures { λ r. ⌜ r ≡ freed n (classAt (now (classes .entry))) (now (adjacency .entry)) a other ⌝ }
     ensures { λ _. ⌜ now (adjacency .exit) ≡ relieveBytes n (classAt (now (classes .entry))) (now (adjacency .entry)) a other ⌝ }
     ensures { λ _. ⌜ now (held .exit) ≡ degreesOf n (relieveBytes n (classAt (now (classes .entry))) (now (adjacency .entry)) a other) ⌝ }
@@ -130,38 +148,21 @@ fn relieve(
     }
     let b = choose_substitute(classes, held, n, k, other, from);
     let t = choose_transfer(adjacency, n, a, b);
-    set_edge(adjacency, a, t, 0);
-    set_edge(adjacency, b, t, 1);
-    held[a] -= 1;
-    held[b] += 1;
+    neighbor_switch(adjacency, held, a, b, t);
     t
 }
 
-// Joins v and w.
-pub fn join(
-    adjacency: &mut [u8],
-    held: &mut [usize; 200],
-    classes: &[u8; 200],
-    n: usize,
-    v: usize,
-    w: usize,
-    from_v: usize,
-    from_w: usize,
-) -> JoinDone
-    requires { ⌜ Joinable n (classAt (now classes)) (now adjacency) v w × (now held ≡ degreesOf n (now adjacency)) × (from_v ≤ n) × (from_w ≤ n) × SaturatedBelow n (classAt (now classes)) (now adjacency) v from_v × SaturatedBelow n (classAt (now classes)) (now adjacency) w from_w ⌝ }
-    ensures { λ r. ⌜ (r .switches ≡ joinCount n (classAt (now (classes .entry))) (now (adjacency .entry)) v w) × (r .freed ≡ freed n (classAt (now (classes .entry))) (now (adjacency .entry)) v w) ⌝ }
-    ensures { λ _. ⌜ now (adjacency .exit) ≡ joinBytes n (classAt (now (classes .entry))) (now (adjacency .entry)) v w ⌝ }
-    ensures { λ _. ⌜ now (held .exit) ≡ degreesOf n (joinBytes n (classAt (now (classes .entry))) (now (adjacency .entry)) v w) ⌝ }
+// The edge v – w added.
+fn link(adjacency: &mut [u8], held: &mut [usize; 200], v: usize, w: usize)
+    requires { ⌜ (length (now adjacency) ≡ adjacencySize) × (v < side) × (w < side) × (getD (now held) v 0 < degrees) × (getD (now held) w 0 < degrees) ⌝ }
+    ensures { λ _. ⌜ now (adjacency .exit) ≡ setEdge (now (adjacency .entry)) v w 1 ⌝ }
+    ensures { λ _. ⌜ now (held .exit) ≡ set (set (now (held .entry)) v (getD (now (held .entry)) v 0 + 1)) w (getD (now (held .entry)) w 0 + 1) ⌝ }
 {
-    let x = relieve(adjacency, held, classes, n, v, w, from_v);
-    let y = relieve(adjacency, held, classes, n, w, v, from_w);
     set_edge(adjacency, v, w, 1);
-    held[v] += 1;
-    held[w] += 1;
-    JoinDone {
-        switches: switch_count(n, x) + switch_count(n, y),
-        freed: x,
-    }
+    let more_v = held[v] + 1;
+    let more_w = held[w] + 1;
+    held[v] = more_v;
+    held[w] = more_w;
 }
 
 // 1 where a vertex was cut off, else 0.
@@ -172,4 +173,29 @@ fn switch_count(n: usize, cut: usize) -> usize
         return 1;
     }
     0
+}
+
+// Joins v and w: room at v, then at w, then the edge.
+pub fn join(
+    adjacency: &mut [u8],
+    held: &mut [usize; 200],
+    classes: &[u8; 200],
+    n: usize,
+    v: usize,
+    w: usize,
+    from_v: usize,
+    from_w: usize,
+) -> JoinDone
+    requires { ⌜ Joinable n (classAt (now classes)) (now adjacency) v w × (now held ≡ degreesOf n (now adjacency)) × («from_v» ≤ n) × («from_w» ≤ n) × SaturatedBelow n (classAt (now classes)) (now adjacency) v «from_v» × SaturatedBelow n (classAt (now classes)) (now adjacency) w «from_w» ⌝ }
+    ensures { λ r. ⌜ (r .switches ≡ joinCount n (classAt (now (classes .entry))) (now (adjacency .entry)) v w) × (r .freed ≡ freed n (classAt (now (classes .entry))) (now (adjacency .entry)) v w) ⌝ }
+    ensures { λ _. ⌜ now (adjacency .exit) ≡ joinBytes n (classAt (now (classes .entry))) (now (adjacency .entry)) v w ⌝ }
+    ensures { λ _. ⌜ now (held .exit) ≡ degreesOf n (joinBytes n (classAt (now (classes .entry))) (now (adjacency .entry)) v w) ⌝ }
+{
+    let x = relieve(adjacency, held, classes, n, v, w, from_v);
+    let y = relieve(adjacency, held, classes, n, w, v, from_w);
+    link(adjacency, held, v, w);
+    JoinDone {
+        switches: switch_count(n, x) + switch_count(n, y),
+        freed: x,
+    }
 }

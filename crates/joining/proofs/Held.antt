@@ -1,0 +1,57 @@
+-- The array of degrees beside the matrix: what it holds, and that two entries set keep it right after two vertices' degrees change.
+-- Assumes nothing.
+use mathlib.Core.Path.{_≡_, sym, ap, _∙_}
+use mathlib.Core.Logic.{_≢_}
+use mathlib.Core.List.{List}
+use Prim.Native.Nat.{ℕ, _≤_, _<_}
+use native.Mathlib.Decide.{ℕ-discrete, decLt}
+use native.Mathlib.Omega.{arith}
+use lib.ListN.{length, getD, set, replicate, length-set, length-replicate, getD-replicate}
+use lib.Seq.{getD-set-same, getD-set-other, ext-getD}
+use Rattle.finite.proofs.Fold.{fillTo-at, fillTo-behind, fillTo-length}
+use Rattle.graph.specs.Graph.{degree}
+use Rattle.table.specs.Layout.{mostVertices}
+use Rattle.adjacency.specs.Adjacency.{edge}
+use Rattle.joining.specs.Work.{degreesOf}
+
+module _ (n : ℕ) (few : n ≤ mostVertices) where
+  pub held-length : (g : List ℕ) → length (degreesOf n g) ≡ mostVertices
+  held-length g = fillTo-length (degree n (edge g)) (replicate mostVertices 0) n ∙ length-replicate {A = ℕ} mostVertices 0
+
+  pub held-at : (g : List ℕ) (v : ℕ) → v < n → getD (degreesOf n g) v 0 ≡ degree n (edge g) v
+  held-at g v = fillTo-at (degree n (edge g)) (replicate mostVertices 0) n v (rw length-replicate few)
+
+  held-behind : (g : List ℕ) (v : ℕ) → n ≤ v → v < mostVertices → getD (degreesOf n g) v 0 ≡ 0
+  held-behind g v h l = fillTo-behind (degree n (edge g)) (replicate mostVertices 0) n v h ∙ getD-replicate mostVertices v 0 0 l
+
+  -- where only the degrees of x and y change, to p and q, the array with these two entries is that of the new matrix
+  pub held-moved : (g g′ : List ℕ) (x y p q : ℕ) → x < n → y < n → y ≢ x → degree n (edge g′) x ≡ p → degree n (edge g′) y ≡ q
+      → ((v : ℕ) → v < n → v ≢ x → v ≢ y → degree n (edge g′) v ≡ degree n (edge g) v)
+      → set (set (degreesOf n g) x p) y q ≡ degreesOf n g′
+  held-moved g g′ x y p q xn yn h px qy others =
+      ext-getD 0 (set (set (degreesOf n g) x p) y q) (degreesOf n g′)
+      (length-set (set (degreesOf n g) x p) y q ∙ length-set (degreesOf n g) x p ∙ held-length g ∙ sym (held-length g′))
+      (λ v l. at v (rw (length-set, length-set, held-length g) at l) (ℕ-discrete v x) (ℕ-discrete v y) (decLt v n))
+    where
+      at : (v : ℕ) → v < mostVertices → Dec (v ≡ x) → Dec (v ≡ y) → Dec (v < n)
+          → getD (set (set (degreesOf n g) x p) y q) v 0 ≡ getD (degreesOf n g′) v 0
+      at v l i (yes e) m =
+          rw e
+          (getD-set-same (set (degreesOf n g) x p) y q 0 (rw (length-set, held-length g) (omega arith)) ∙ sym qy ∙ sym (held-at g′ y yn))
+      at v l (yes e) (no j) m =
+          rw e
+          (getD-set-other (set (degreesOf n g) x p) y x q 0 (λ s. h (sym s))
+          ∙ getD-set-same (degreesOf n g) x p 0 (rw (held-length g) (omega arith))
+          ∙ sym px
+          ∙ sym (held-at g′ x xn))
+      at v l (no i) (no j) (yes m) =
+          getD-set-other (set (degreesOf n g) x p) y v q 0 j
+          ∙ getD-set-other (degreesOf n g) x v p 0 i
+          ∙ held-at g v m
+          ∙ sym (others v m i j)
+          ∙ sym (held-at g′ v m)
+      at v l (no i) (no j) (no m) =
+          getD-set-other (set (degreesOf n g) x p) y v q 0 j
+          ∙ getD-set-other (degreesOf n g) x v p 0 i
+          ∙ held-behind g v (omega arith) l
+          ∙ sym (held-behind g′ v (omega arith) l)

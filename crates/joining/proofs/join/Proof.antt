@@ -1,0 +1,50 @@
+-- `joining::join` meets its contract: room is made at v, then at w, and then both have room for the edge.
+-- Assumes nothing.
+use mathlib.Core.Path.{refl, ap₂, _∙_}
+use Prim.Native.Nat.{_+_}
+use native.Mathlib.Omega.{arith}
+use borrow.Author.Needs.{needs}
+use Rattle.joining.proofs.Relief.{freed-count, joinable-next, saturated-next, linkable, link-held, joinable-last, room-v, room-w}
+use Rattle.joining.proofs.join.Statement.{statement}
+use Rattle.joining.proofs.join.Tie as tie
+
+pub join-spec : {M : Type 1} → statement M
+join-spec =
+    tie.close (tie.spec
+    (λ c κs.
+    let p = c .before .before .before .pre in
+    (p .0, p .1, p .2, λ i l e d. p .4 i l e))  -- relieve-requires
+    (λ c κs.
+    let r = c .before .before .before .before in
+    let s = r .before .before .before .before in
+    rw (r .relieve .ensures .1 .0, r .relieve .ensures .1 .1) (
+      joinable-next (s .pre .0),
+      refl,
+      s .pre .3,
+      saturated-next (s .pre .0) (s .pre .3) (s .pre .5),
+    ))  -- relieve-requires-2
+    (λ c κs.
+    let r2 = c .before .before .before .before in
+    let r = r2 .before .before .before .before .before in
+    let j = r .before .before .before .before .pre .0 in
+    let q = rw (r .relieve .ensures .1 .0) at (r2 .relieve2 .ensures .1) in
+    rw (q .0) (linkable (joinable-last j) (q .1) (room-v j) (room-w j)))  -- link-requires
+    (λ c κs. tt)  -- switch-count-requires
+    (λ c κs. tt)  -- switch-count-requires-2
+    (λ c. omega arith)  -- add-t23
+    (λ c. search needs)  -- same-length
+    (λ c.
+    let k = c .before .before .before .before in
+    let r2 = k .before .before .before .before .before in
+    let r = r2 .before .before .before .before .before in
+    let s = r .before .before .before .before in
+    let j = s .pre .0 in
+    let q = rw (r .relieve .ensures .1 .0) at (r2 .relieve2 .ensures) in
+    let l = rw (q .1 .0) at (k .link .ensures) in (
+      (
+        ap₂ _+_ (c .before .switch-count .ensures .0 ∙ freed-count j (r .relieve .ensures .0))
+            (c .switch-count2 .ensures .0 ∙ freed-count (joinable-next j) (q .0)),
+        r .relieve .ensures .0,
+      ),
+      (l .0, l .1 ∙ link-held (joinable-last j) (q .1 .1)),
+    )))  -- returns
