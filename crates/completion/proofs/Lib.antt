@@ -3,3 +3,5 @@ pub mod Works
 pub mod Entry
 pub mod Cursor
 pub mod Search
+pub mod Sound
+pub mod Step

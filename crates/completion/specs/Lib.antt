@@ -3,3 +3,4 @@ pub mod Complete
 pub mod Cellwise
 pub mod Cursor
 pub mod Search
+pub mod Work

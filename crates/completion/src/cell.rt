@@ -1,11 +1,16 @@
-// Filling one cell, one row of cells, all cells.
+// Filling one cell.
 ghost use mathlib.Core.Path.{_≡_};
 ghost use Prim.Native.Nat.{ℕ, _+_, _≤_, _<_, min};
 ghost use lib.Dec.{ltb};
 ghost use lib.ListN.{getD};
-ghost use Rattle.finite.specs.Range.{lowest};
+ghost use Rattle.finite.specs.Range.{lowest, foldTo};
 ghost use Rattle.adjacency.specs.Adjacency.{side};
+ghost use Rattle.joining.specs.Work.{classAt, degreesOf};
+ghost use Rattle.completion.specs.Cellwise.{cellStep};
+ghost use Rattle.completion.specs.Work.{ran, Resumes, Steppable, Fillable};
+use crate::pair::Cell;
 use crate::pair::Pair;
+use crate::pair::open_pair;
 
 // Edges added and switches made.
 pub struct Totals {
@@ -46,4 +51,70 @@ fn least(a: usize, b: usize) -> usize
         return a;
     }
     b
+}
+
+// The lowest open pair of the cell joined. A switch of v may free a column that was passed: the cursor falls to it.
+fn fill_step(
+    adjacency: &mut [u8],
+    held: &mut [usize; 200],
+    classes: &[u8; 200],
+    n: usize,
+    cell: Cell,
+    cursor: Cursor,
+    totals: Totals,
+) -> Step
+    requires { ⌜ Steppable n (classAt (now classes)) cell cursor (ran (now adjacency) totals) (now held) ⌝ }
+    ensures { λ r. ⌜ (ran (now (adjacency .exit)) (r .totals) ≡ cellStep n (classAt (now (classes .entry))) (cell .k) (cell .l) (ran (now (adjacency .entry)) totals)) × Resumes n (classAt (now (classes .entry))) (now (adjacency .exit)) cell (r .cursor) ⌝ }
+    ensures { λ _. ⌜ now (held .exit) ≡ degreesOf n (now (adjacency .exit)) ⌝ }
+{
+    let pair = open_pair(adjacency, cell, cursor.at.v, cursor.at.w);
+    let v = advance(held, cursor.low.v, cell.rows.to, cell.k);
+    let w = advance(held, cursor.low.w, cell.columns.to, cell.l);
+    let done = joining::join(adjacency, held, classes, n, pair.v, pair.w, v, w);
+    Step {
+        cursor: Cursor {
+            at: Pair {
+                v: pair.v,
+                w: least(done.freed, pair.w + 1),
+            },
+            low: Pair { v, w },
+        },
+        totals: Totals {
+            joins: totals.joins + 1,
+            switches: totals.switches + done.switches,
+        },
+    }
+}
+
+// m joins in the cell.
+pub fn fill_cell(
+    adjacency: &mut [u8],
+    held: &mut [usize; 200],
+    classes: &[u8; 200],
+    n: usize,
+    cell: Cell,
+    m: usize,
+    totals: Totals,
+) -> Totals
+    requires { ⌜ Fillable n (classAt (now classes)) cell m (ran (now adjacency) totals) (now held) ⌝ }
+    ensures { λ r. ⌜ ran (now (adjacency .exit)) r ≡ foldTo m (λ i. cellStep n (classAt (now (classes .entry))) (cell .k) (cell .l)) (ran (now (adjacency .entry)) totals) ⌝ }
+    ensures { λ _. ⌜ now (held .exit) ≡ degreesOf n (now (adjacency .exit)) ⌝ }
+{
+    let mut cursor = Cursor {
+        at: Pair {
+            v: cell.rows.from,
+            w: 0,
+        },
+        low: Pair {
+            v: cell.rows.from,
+            w: cell.columns.from,
+        },
+    };
+    let mut sum = totals;
+    for _ in 0..m {
+        let step = fill_step(adjacency, held, classes, n, cell, cursor, sum);
+        cursor = step.cursor;
+        sum = step.totals;
+    }
+    sum
 }
