@@ -5,3 +5,4 @@ pub mod Cursor
 pub mod Search
 pub mod Sound
 pub mod Step
+pub mod Fill
