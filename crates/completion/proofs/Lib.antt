@@ -5,4 +5,5 @@ pub mod Cursor
 pub mod Search
 pub mod Sound
 pub mod Step
-pub mod Fill
+pub mod Joins
+pub mod Arranged

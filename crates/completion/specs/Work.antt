@@ -4,11 +4,16 @@ use mathlib.Core.Path.{_≡_}
 use mathlib.Core.Bool.{false}
 use mathlib.Core.List.{List}
 use Prim.Native.Nat.{ℕ, _+_, _*_, _≤_, _<_}
+use lib.ListN.{getD}
 use Rattle.graph.specs.Graph.{jdm, edges}
 use Rattle.graph.specs.Switch.{unsaturated}
-use Rattle.adjacency.specs.Adjacency.{edge}
+use Rattle.graph.specs.Tests.{degrees}
+use Rattle.adjacency.specs.Adjacency.{side, edge}
+use Rattle.table.specs.Cells.{matrixOf}
+use Rattle.table.specs.Layout.{mostVertices, vertices, countsOf, classesOf}
 use Rattle.joining.specs.Join.{own}
-use Rattle.joining.specs.Work.{degreesOf}
+use Rattle.joining.specs.Work.{classAt, degreesOf}
+use Rattle.joining.specs.Block.{startsOf, blockSum}
 use Rattle.completion.specs.Complete.{Ran}
 use Rattle.completion.specs.Cellwise.{cellMissing, Filling}
 use Rattle.completion.specs.Cursor.{RowsDone, ColumnsDone}
@@ -58,3 +63,34 @@ pub record Steppable (n : ℕ) (cls : ℕ → ℕ) (c : Cell) (u : Cursor) (s : 
   pub ranged : Ranged n cls c
   pub resumes : Resumes n cls (s .adjacency) c u
   pub degrees-held : held ≡ degreesOf n (s .adjacency)
+
+-- cell (k, l) between the starts of its classes
+abbrev pub cellIn : List ℕ → ℕ → ℕ → Cell
+cellIn starts k l =
+    record {
+      k = k;
+      l = l;
+      rows = record { from = getD starts k 0; to = getD starts (k + 1) 0 };
+      columns = record { from = getD starts l 0; to = getD starts (l + 1) 0 };
+    }
+
+-- the arrays of a layout, all from the table's cells
+pub record Arranged (n : ℕ) (cells classes starts : List ℕ) : Type 0 where
+  pub count : n ≡ vertices (matrixOf cells)
+  pub few : n ≤ mostVertices
+  pub classed : classes ≡ classesOf (matrixOf cells)
+  pub started : starts ≡ startsOf (countsOf (matrixOf cells))
+
+-- these, and beside them a partial graph of the table with its degrees
+pub record Working (n : ℕ) (cells classes starts held : List ℕ) (s : Ran) : Type 0 where
+  pub arranged : Arranged n cells classes starts
+  pub sound : Sound n (classAt classes) (matrixOf cells) s
+  pub degrees-held : held ≡ degreesOf n (s .adjacency)
+
+-- what a cell misses can be counted: its ranges are ranges of vertices, and it does not hold more than the table
+pub record Countable (g cells : List ℕ) (c : Cell) : Type 0 where
+  pub first : c .k < degrees
+  pub second : c .l < degrees
+  pub rows : (c .rows .from ≤ c .rows .to) × (c .rows .to ≤ side)
+  pub columns : (c .columns .from ≤ c .columns .to) × (c .columns .to ≤ side)
+  pub within : blockSum (edge g) (c .rows .from) (c .rows .to) (c .columns .from) (c .columns .to) ≤ matrixOf cells (c .k) (c .l)

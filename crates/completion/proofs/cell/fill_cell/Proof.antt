@@ -9,7 +9,7 @@ use Rattle.finite.proofs.Fold.{foldTo-none}
 use Rattle.joining.specs.Work.{classAt, degreesOf}
 use Rattle.completion.specs.Cellwise.{cellStep}
 use Rattle.completion.specs.Work.{ran, Resumes}
-use Rattle.completion.proofs.Fill.{start-resumes, fill-sized, fill-steppable, fill-more}
+use Rattle.completion.proofs.Joins.{start-resumes, fill-sized, fill-steppable, foldTo-after}
 use Rattle.completion.proofs.cell.fill_cell.Statement.{statement}
 use Rattle.completion.proofs.cell.fill_cell.Tie as tie
 
@@ -45,8 +45,7 @@ fill-cell-spec =
     let f = l .before .before in
     let a = f .args in
     (omega (arith, l .loop .inv .0),
-      fill-more (a .n) (classAt (a .classes .now)) (a .cell) (a .m) (ran (a .adjacency .now) (a .totals)) (a .held .now) (f .pre) (l .loop .counter) _ (l .loop .inv .1) _
-        (t .fill-step .ensures .0 .0),
+      foldTo-after (λ i. cellStep (a .n) (classAt (a .classes .now)) (a .cell .k) (a .cell .l)) _ (l .loop .counter) _ _ (l .loop .inv .1) (t .fill-step .ensures .0 .0),
       t .fill-step .ensures .1,
       t .fill-step .ensures .0 .1))  -- loop-again
     (λ c.

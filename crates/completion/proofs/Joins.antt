@@ -18,6 +18,10 @@ use Rattle.completion.specs.declared.cell.Cursor.{Cursor}
 use Rattle.completion.proofs.Cellwise.{part-short}
 use Rattle.completion.proofs.Sound.{part-sound}
 
+-- one more turn of a fold
+pub foldTo-after : {A : Type 0} (f : ℕ → A → A) (s : A) (i : ℕ) (x y : A) → x ≡ foldTo i f s → y ≡ f i x → y ≡ foldTo (i + 1) f s
+foldTo-after f s i x y ex ey = ey ∙ ap (f i) ex ∙ sym (foldTo-more f s i)
+
 -- before the first vertices of its classes nothing is left to do in a cell
 pub start-resumes : (n : ℕ) (cls : ℕ → ℕ) (g : List ℕ) (c : Cell) → Ranged n cls c
     → Resumes n cls g c (record { at = record { v = c .rows .from; w = 0 }; low = record { v = c .rows .from; w = c .columns .from } })
@@ -57,6 +61,3 @@ module _ (n : ℕ) (cls : ℕ → ℕ) (c : Cell) (m : ℕ) (s : Ran) (held₀ :
         resumes = r;
         degrees-held = d;
       }
-
-  pub fill-more : (x′ : Ran) → x′ ≡ cellStep n cls (c .k) (c .l) x → x′ ≡ foldTo (i + 1) (λ i. cellStep n cls (c .k) (c .l)) s
-  fill-more x′ e′ = e′ ∙ ap (cellStep n cls (c .k) (c .l)) e ∙ sym (foldTo-more (λ i. cellStep n cls (c .k) (c .l)) s i)
