@@ -119,7 +119,7 @@ pub fn complete_rows(
 {
     let mut sum = totals;
     for i in 0..DEGREES - 1 {
-        sum = complete_row(adjacency, held, classes, cells, starts, n, i + 1, sum);
+        sum = complete_row(adjacency, held, classes, cells, starts, n, 1 + i, sum);
     }
     sum
 }
