@@ -7,3 +7,5 @@ pub mod Sound
 pub mod Step
 pub mod Joins
 pub mod Arranged
+pub mod Classes
+pub mod Whole

@@ -57,7 +57,13 @@ fn missing(adjacency: &[u8], cells: &[u32; 1681], c: Cell) -> usize
     if want == 0 {
         return 0;
     }
-    let have = block_sum(adjacency, c.rows.from, c.rows.to, c.columns.from, c.columns.to);
+    let have = block_sum(
+        adjacency,
+        c.rows.from,
+        c.rows.to,
+        c.columns.from,
+        c.columns.to,
+    );
     (want - have) / unit(c.k, c.l)
 }
 

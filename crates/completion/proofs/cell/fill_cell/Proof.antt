@@ -36,24 +36,25 @@ fill-cell-spec =
     let f = l .before .before in
     let a = f .args in
     fill-steppable (a .n) (classAt (a .classes .now)) (a .cell) (a .m) (ran (a .adjacency .now) (a .totals)) (a .held .now) (f .pre) (l .loop .counter) _ (l .loop .inv .1)
-      (t .loop-test .taken) _ _ (l .loop .inv .3) (l .loop .inv .2))  -- fill-step-requires
+    (t .loop-test .taken) _ _ (l .loop .inv .3) (l .loop .inv .2))  -- fill-step-requires
     (λ c. let l = c .before .before .before .before .before .before .before .before in omega (arith, l .loop .inv .0))  -- add-counter
     (λ c. let l = c .before .before .before .before .before .before .before .before in omega (arith, l .loop .inv .0))  -- loop-less
     (λ c.
     let t = c .before .before .before .before in
     let l = t .before .before .before .before in
     let f = l .before .before in
-    let a = f .args in
-    (omega (arith, l .loop .inv .0),
+    let a = f .args in (
+      omega (arith, l .loop .inv .0),
       foldTo-after (λ i. cellStep (a .n) (classAt (a .classes .now)) (a .cell .k) (a .cell .l)) _ (l .loop .counter) _ _ (l .loop .inv .1) (t .fill-step .ensures .0 .0),
       t .fill-step .ensures .1,
-      t .fill-step .ensures .0 .1))  -- loop-again
+      t .fill-step .ensures .0 .1,
+    ))  -- loop-again
     (λ c.
     let l = c .before in
     let f = l .before .before in
     let a = f .args in
     fill-sized (a .n) (classAt (a .classes .now)) (a .cell) (a .m) (ran (a .adjacency .now) (a .totals)) (a .held .now) (f .pre) (l .loop .counter) _ (l .loop .inv .1)
-      (l .loop .inv .0))  -- same-length
+    (l .loop .inv .0))  -- same-length
     (λ c.
     let l = c .before in
     let e : l .loop .counter ≡ l .before .before .args .m = omega arith in

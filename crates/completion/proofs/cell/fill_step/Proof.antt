@@ -26,13 +26,14 @@ fill-step-spec =
     let a = f .args in
     let cls = classAt (a .classes .now) in
     let s = ran (a .adjacency .now) (a .totals) in
-    let e = o .open-pair .ensures in
-    (step-joinable (a .n) cls (a .cell) (a .cursor) s (a .held .now) (f .pre) _ _ (e .0) (e .1),
+    let e = o .open-pair .ensures in (
+      step-joinable (a .n) cls (a .cell) (a .cursor) s (a .held .now) (f .pre) _ _ (e .0) (e .1),
       f .pre .degrees-held,
       omega (arith, low-row-le (a .n) cls (a .cell) (a .cursor) s (a .held .now) (f .pre) _ _ (e .0) (e .1) _ _ (x .advance .ensures) (y .advance2 .ensures), f .pre .ranged .rows .within),
       omega (arith, low-column-le (a .n) cls (a .cell) (a .cursor) s (a .held .now) (f .pre) _ _ (e .0) (e .1) _ _ (x .advance .ensures) (y .advance2 .ensures), f .pre .ranged .columns .within),
       below-v (a .n) cls (a .cell) (a .cursor) s (a .held .now) (f .pre) _ _ (e .0) (e .1) _ _ (x .advance .ensures) (y .advance2 .ensures),
-      below-w (a .n) cls (a .cell) (a .cursor) s (a .held .now) (f .pre) _ _ (e .0) (e .1) _ _ (x .advance .ensures) (y .advance2 .ensures)))  -- join-requires
+      below-w (a .n) cls (a .cell) (a .cursor) s (a .held .now) (f .pre) _ _ (e .0) (e .1) _ _ (x .advance .ensures) (y .advance2 .ensures),
+    ))  -- join-requires
     (λ c.
     let o = c .before .before .before .before .before .before .before .before .before .before in
     let f = o .before .before .before in
@@ -60,8 +61,11 @@ fill-step-spec =
     let a = f .args in
     let cls = classAt (a .classes .now) in
     let s = ran (a .adjacency .now) (a .totals) in
-    let e = o .open-pair .ensures in
-    ((step-ran (a .n) cls (a .cell) (a .cursor) s (a .held .now) (f .pre) _ _ (e .0) (e .1) _ _ (j .join .ensures .1 .0) (j .join .ensures .0 .0),
-      step-resumes (a .n) cls (a .cell) (a .cursor) s (a .held .now) (f .pre) _ _ (e .0) (e .1) _ _ (x .advance .ensures) (y .advance2 .ensures) _ _ _
-        (j .join .ensures .1 .0) (j .join .ensures .0 .1) (m .least .ensures)),
-      rw (j .join .ensures .1 .0) (j .join .ensures .1 .1))))  -- returns
+    let e = o .open-pair .ensures in (
+      (
+        step-ran (a .n) cls (a .cell) (a .cursor) s (a .held .now) (f .pre) _ _ (e .0) (e .1) _ _ (j .join .ensures .1 .0) (j .join .ensures .0 .0),
+        step-resumes (a .n) cls (a .cell) (a .cursor) s (a .held .now) (f .pre) _ _ (e .0) (e .1) _ _ (x .advance .ensures) (y .advance2 .ensures) _ _ _
+            (j .join .ensures .1 .0) (j .join .ensures .0 .1) (m .least .ensures),
+      ),
+      rw (j .join .ensures .1 .0) (j .join .ensures .1 .1),
+    )))  -- returns

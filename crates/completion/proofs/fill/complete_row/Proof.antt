@@ -34,30 +34,32 @@ complete-row-spec =
     let t = c .before .before in
     let l = t .before in
     let f = l .before .before in
-    let a = f .args in
-    (working (a .n) (a .cells .now) (a .classes .now) (a .starts .now) (a .held .now) (ran (a .adjacency .now) (a .totals)) (f .pre .0) _
-      (cells-sound (a .n) (a .cells .now) (a .classes .now) (a .starts .now) (a .held .now) (ran (a .adjacency .now) (a .totals)) (f .pre .0) (l .loop .i) _ (a .k)
-        (l .loop .inv .0) (l .loop .inv .1))
-      _ (l .loop .inv .2),
+    let a = f .args in (
+      working (a .n) (a .cells .now) (a .classes .now) (a .starts .now) (a .held .now) (ran (a .adjacency .now) (a .totals)) (f .pre .0) _
+          (cells-sound (a .n) (a .cells .now) (a .classes .now) (a .starts .now) (a .held .now) (ran (a .adjacency .now) (a .totals)) (f .pre .0) (l .loop .i) _ (a .k)
+          (l .loop .inv .0) (l .loop .inv .1))
+          _ (l .loop .inv .2),
       f .pre .1,
-      omega (arith, t .loop-test .taken)))  -- complete-cell-requires
+      omega (arith, t .loop-test .taken),
+    ))  -- complete-cell-requires
     (λ c. let l = c .before .before .before .before .before .before in omega (arith, l .loop .inv .0))  -- add-i
     (λ c. let t = c .before .before .before .before .before in omega (arith, t .loop-test .taken))  -- loop-less
     (λ c.
     let d = c .before .before in
     let t = d .before .before .before in
     let l = t .before in
-    let a = l .before .before .args in
-    (omega (arith, t .loop-test .taken),
+    let a = l .before .before .args in (
+      omega (arith, t .loop-test .taken),
       foldTo-after (λ i. fillCell (a .n) (classAt (a .classes .now)) (matrixOf (a .cells .now)) (a .k) (a .k + i)) _ (l .loop .i) _ _ (l .loop .inv .1) (d .complete-cell .ensures .0),
-      d .complete-cell .ensures .1))  -- loop-again
+      d .complete-cell .ensures .1,
+    ))  -- loop-again
     (λ c.
     let l = c .before in
     let f = l .before .before in
     let a = f .args in
     working-sized (a .n) (a .cells .now) (a .classes .now) (a .starts .now) (a .held .now) (ran (a .adjacency .now) (a .totals)) (f .pre .0) _
-      (cells-sound (a .n) (a .cells .now) (a .classes .now) (a .starts .now) (a .held .now) (ran (a .adjacency .now) (a .totals)) (f .pre .0) (l .loop .i) _ (a .k)
-        (l .loop .inv .0) (l .loop .inv .1)))  -- same-length
+    (cells-sound (a .n) (a .cells .now) (a .classes .now) (a .starts .now) (a .held .now) (ran (a .adjacency .now) (a .totals)) (f .pre .0) (l .loop .i) _ (a .k)
+    (l .loop .inv .0) (l .loop .inv .1)))  -- same-length
     (λ c.
     let l = c .before in
     let e : l .loop .i ≡ degrees - l .before .before .args .k = omega (arith, l .loop .inv .0) in

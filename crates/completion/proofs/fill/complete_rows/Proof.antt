@@ -33,29 +33,31 @@ complete-rows-spec =
     let t = c .before .before in
     let l = t .before in
     let f = l .before .before in
-    let a = f .args in
-    (working (a .n) (a .cells .now) (a .classes .now) (a .starts .now) (a .held .now) (ran (a .adjacency .now) (a .totals)) (f .pre) _
-      (all-sound (a .n) (a .cells .now) (a .classes .now) (a .starts .now) (a .held .now) (ran (a .adjacency .now) (a .totals)) (f .pre) (l .loop .i) _
-        (l .loop .inv .0) (l .loop .inv .1))
-      _ (l .loop .inv .2),
-      omega (arith, t .loop-test .taken)))  -- complete-row-requires
+    let a = f .args in (
+      working (a .n) (a .cells .now) (a .classes .now) (a .starts .now) (a .held .now) (ran (a .adjacency .now) (a .totals)) (f .pre) _
+          (all-sound (a .n) (a .cells .now) (a .classes .now) (a .starts .now) (a .held .now) (ran (a .adjacency .now) (a .totals)) (f .pre) (l .loop .i) _
+          (l .loop .inv .0) (l .loop .inv .1))
+          _ (l .loop .inv .2),
+      omega (arith, t .loop-test .taken),
+    ))  -- complete-row-requires
     (λ c. let l = c .before .before .before .before .before .before in omega (arith, l .loop .inv .0))  -- add-i
     (λ c. let t = c .before .before .before .before .before in omega (arith, t .loop-test .taken))  -- loop-less
     (λ c.
     let d = c .before .before in
     let t = d .before .before .before in
     let l = t .before in
-    let a = l .before .before .args in
-    (omega (arith, t .loop-test .taken),
+    let a = l .before .before .args in (
+      omega (arith, t .loop-test .taken),
       foldTo-after (λ i. fillRow (a .n) (classAt (a .classes .now)) (matrixOf (a .cells .now)) (leastDegree + i)) _ (l .loop .i) _ _ (l .loop .inv .1) (d .complete-row .ensures .0),
-      d .complete-row .ensures .1))  -- loop-again
+      d .complete-row .ensures .1,
+    ))  -- loop-again
     (λ c.
     let l = c .before in
     let f = l .before .before in
     let a = f .args in
     working-sized (a .n) (a .cells .now) (a .classes .now) (a .starts .now) (a .held .now) (ran (a .adjacency .now) (a .totals)) (f .pre) _
-      (all-sound (a .n) (a .cells .now) (a .classes .now) (a .starts .now) (a .held .now) (ran (a .adjacency .now) (a .totals)) (f .pre) (l .loop .i) _
-        (l .loop .inv .0) (l .loop .inv .1)))  -- same-length
+    (all-sound (a .n) (a .cells .now) (a .classes .now) (a .starts .now) (a .held .now) (ran (a .adjacency .now) (a .totals)) (f .pre) (l .loop .i) _
+    (l .loop .inv .0) (l .loop .inv .1)))  -- same-length
     (λ c.
     let l = c .before in
     let e : l .loop .i ≡ mostDegree = omega (arith, l .loop .inv .0) in
