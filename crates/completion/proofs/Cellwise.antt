@@ -207,6 +207,59 @@ module _ (n : ℕ) (cls : ℕ → ℕ) (T : ℕ → ℕ → ℕ) where
           rw (eq-eqb k l e) (omega (arith, within))
       go (no e) = rw (ne-eqb k l e) (omega (arith, within))
 
+  unit-pos : (k l : ℕ) → 1 ≤ unit k l
+  unit-pos k l = go (eqb k l)
+    where
+      go : (t : Bool) → 1 ≤ cond t 2 1
+      go true = omega arith
+      go false = omega arith
+
+  -- i of the joins that cell (k, l) misses
+  module _ (s : Ran) (f : Filling n cls T (s .adjacency)) (k l : ℕ) (kC : k < degrees) (lC : l < degrees) where
+    -- the cell's count after them
+    abbrev Count : ℕ → Type 0
+    Count i = jdm n cls (edge (foldTo i (λ i. cellStep n cls k l) s .adjacency)) k l ≡ jdm n cls (edge (s .adjacency)) k l + i * unit k l
+
+    count-short : (i : ℕ) → i < cellMissing n cls T (s .adjacency) k l → Count i
+        → jdm n cls (edge (foldTo i (λ i. cellStep n cls k l) s .adjacency)) k l < T k l
+    count-short i h e =
+        omega (
+          arith,
+          e,
+          whole (s .adjacency) f k l kC lC,
+          mul-le-mul-right (unit k l) h,
+          suc-mul i (unit k l),
+          unit-pos k l,
+        )
+
+    pub part-filling : (i : ℕ) → i ≤ cellMissing n cls T (s .adjacency) k l
+        → Filling n cls T (foldTo i (λ i. cellStep n cls k l) s .adjacency) × Count i
+    unfolding foldTo
+    part-filling zero h = (f, omega arith)
+    part-filling (suc i) h = more (part-filling i (omega arith))
+      where
+        g : List ℕ
+        g = foldTo i (λ i. cellStep n cls k l) s .adjacency
+
+        more : Filling n cls T g × Count i → Filling n cls T (joinBytes n cls g (openV n cls g k l) (openW n cls g k l (openV n cls g k l))) × Count (suc i)
+        more q =
+            let st = stepped g (q .0) k l (openV n cls g k l) (openW n cls g k l (openV n cls g k l)) (chosen g (q .0) k l kC lC (count-short i h (q .1))) in
+            (st .filling, st .cells k l ∙ rw (unit-step k l, q .1, suc-mul) (omega arith))
+
+    -- while some are missing, the cell is short
+    pub part-short : (i : ℕ) → i < cellMissing n cls T (s .adjacency) k l
+        → jdm n cls (edge (foldTo i (λ i. cellStep n cls k l) s .adjacency)) k l < T k l
+    part-short i h = count-short i h (part-filling i (omega arith) .1)
+
+  -- no more edges than half the cells' sum
+  pub room : (fuel : ℕ) → allCells degrees T ≤ 2 * fuel → (g : List ℕ) → Filling n cls T g → edges n (edge g) ≤ fuel
+  room fuel enough g f =
+      omega (
+        arith,
+        cells-twice n degrees cls (edge g) (f .partial .simple) (f .target .classed),
+        sumTo-mono₂ degrees degrees (jdm n cls (edge g)) T (f .partial .within),
+      )
+
   module _ (fuel : ℕ) (s₀ : Ran) (start : s₀ .joins ≡ 0) (enough : allCells degrees T ≤ 2 * fuel) where
     -- s is on the way of `run` from s₀
     pub record Progress (s : Ran) : Type 0 where
@@ -216,15 +269,6 @@ module _ (n : ℕ) (cls : ℕ → ℕ) (T : ℕ → ℕ → ℕ) where
 
     begin : Filling n cls T (s₀ .adjacency) → Progress s₀
     begin f = record { filling = f; left = rw (start, sub-zero); counted = rw start (omega arith) }
-
-    -- no more edges than half the cells' sum
-    room : (g : List ℕ) → Filling n cls T g → edges n (edge g) ≤ fuel
-    room g f =
-        omega (
-          arith,
-          cells-twice n degrees cls (edge g) (f .partial .simple) (f .target .classed),
-          sumTo-mono₂ degrees degrees (jdm n cls (edge g)) T (f .partial .within),
-        )
 
     -- one step in the lowest short cell
     step : (s : Ran) → Progress s → (k l : ℕ) → leastDegree ≤ k → k ≤ l → l < degrees → FullBefore (s .adjacency) k l
@@ -252,7 +296,7 @@ module _ (n : ℕ) (cls : ℕ → ℕ) (T : ℕ → ℕ → ℕ) where
         at = lowest-cell g k l k1 kl lC before h
 
         below : s .joins < fuel
-        below = omega (arith, p .counted, st .one-more, room (cellStep n cls k l s .adjacency) (st .filling))
+        below = omega (arith, p .counted, st .one-more, room fuel enough (cellStep n cls k l s .adjacency) (st .filling))
 
         incomplete : isIncomplete n cls T s ≡ true
         incomplete = rw (at .0) (lt-ltb k degrees (omega arith))
@@ -271,49 +315,24 @@ module _ (n : ℕ) (cls : ℕ → ℕ) (T : ℕ → ℕ → ℕ) where
 
     -- i of the joins that cell (k, l) misses
     pub part-filled : (s : Ran) → (k l : ℕ) → leastDegree ≤ k → k ≤ l → l < degrees → Filled s k l
-        → (i : ℕ) → i ≤ cellMissing n cls T (s .adjacency) k l
-        → Filled (foldTo i (λ i. cellStep n cls k l) s) k l
-        × (jdm n cls (edge (foldTo i (λ i. cellStep n cls k l) s .adjacency)) k l ≡ jdm n cls (edge (s .adjacency)) k l + i * unit k l)
+        → (i : ℕ) → i ≤ cellMissing n cls T (s .adjacency) k l → Filled (foldTo i (λ i. cellStep n cls k l) s) k l
     unfolding foldTo
-    part-filled s k l k1 kl lC f zero h = (f, omega arith)
+    part-filled s k l k1 kl lC f zero h = f
     part-filled s k l k1 kl lC f (suc i) h = more (part-filled s k l k1 kl lC f i (omega arith))
       where
         r : Ran
         r = foldTo i (λ i. cellStep n cls k l) s
 
-        unit-pos : 1 ≤ unit k l
-        unit-pos = go (eqb k l)
-          where
-            go : (t : Bool) → 1 ≤ cond t 2 1
-            go true = omega arith
-            go false = omega arith
-
-        more : Filled r k l × (jdm n cls (edge (r .adjacency)) k l ≡ jdm n cls (edge (s .adjacency)) k l + i * unit k l)
-            → Filled (cellStep n cls k l r) k l
-            × (jdm n cls (edge (cellStep n cls k l r .adjacency)) k l ≡ jdm n cls (edge (s .adjacency)) k l + suc i * unit k l)
+        more : Filled r k l → Filled (cellStep n cls k l r) k l
         more q =
-            let short = still (q .1) in
-            let t = step r (q .0 .progress) k l k1 kl lC (q .0 .before) short in (
-              record { progress = t .0; before = stay (r .adjacency) (cellStep n cls k l r .adjacency) k l k l (t .1) (q .0 .before) },
-              t .1 .cells k l ∙ rw (unit-step k l, q .1, suc-mul) (omega arith),
-            )
-          where
-            still : jdm n cls (edge (r .adjacency)) k l ≡ jdm n cls (edge (s .adjacency)) k l + i * unit k l → jdm n cls (edge (r .adjacency)) k l < T k l
-            still e =
-                omega (
-                  arith,
-                  e,
-                  whole (s .adjacency) (f .progress .filling) k l (omega arith) lC,
-                  mul-le-mul-right (unit k l) h,
-                  suc-mul i (unit k l),
-                  unit-pos,
-                )
+            let t = step r (q .progress) k l k1 kl lC (q .before) (part-short s (f .progress .filling) k l (omega arith) lC i h) in
+            record { progress = t .0; before = stay (r .adjacency) (cellStep n cls k l r .adjacency) k l k l (t .1) (q .before) }
 
     -- the cell filled
     pub cell-filled : (s : Ran) → (k l : ℕ) → leastDegree ≤ k → k ≤ l → l < degrees → Filled s k l → Filled (fillCell n cls T k l s) k (l + 1)
     cell-filled s k l k1 kl lC f =
         record {
-          progress = r .0 .progress;
+          progress = r .progress;
           before = λ i j i1 ij jC e ik. go i j i1 ij jC e ik (ℕ-discrete i k) (ℕ-discrete j l);
         }
       where
@@ -323,15 +342,18 @@ module _ (n : ℕ) (cls : ℕ → ℕ) (T : ℕ → ℕ → ℕ) where
         g′ : List ℕ
         g′ = fillCell n cls T k l s .adjacency
 
-        r : Filled (fillCell n cls T k l s) k l × (jdm n cls (edge g′) k l ≡ jdm n cls (edge (s .adjacency)) k l + m * unit k l)
+        r : Filled (fillCell n cls T k l s) k l
         r = part-filled s k l k1 kl lC f m (omega arith)
+
+        count : jdm n cls (edge g′) k l ≡ jdm n cls (edge (s .adjacency)) k l + m * unit k l
+        count = part-filling s (f .progress .filling) k l (omega arith) lC m (omega arith) .1
 
         go : (i j : ℕ) → leastDegree ≤ i → i ≤ j → j < degrees → (i ≡ k → j < l + 1) → i ≤ k → Dec (i ≡ k) → Dec (j ≡ l)
             → T i j ≤ jdm n cls (edge g′) i j
         go i j i1 ij jC e ik (yes p) (yes q) =
-            rw (p, q) (omega (arith, r .1, whole (s .adjacency) (f .progress .filling) k l (omega arith) lC))
-        go i j i1 ij jC e ik (yes p) (no q) = r .0 .before i j i1 ij jC (λ x. omega (arith, e x)) ik
-        go i j i1 ij jC e ik (no p) q = r .0 .before i j i1 ij jC (λ x. absurd (p x)) ik
+            rw (p, q) (omega (arith, count, whole (s .adjacency) (f .progress .filling) k l (omega arith) lC))
+        go i j i1 ij jC e ik (yes p) (no q) = r .before i j i1 ij jC (λ x. omega (arith, e x)) ik
+        go i j i1 ij jC e ik (no p) q = r .before i j i1 ij jC (λ x. absurd (p x)) ik
 
     -- the first cells of row k
     pub row-part : (s : Ran) → (k : ℕ) → leastDegree ≤ k → Filled s k k → (i : ℕ) → k + i ≤ degrees

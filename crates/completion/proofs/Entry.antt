@@ -61,6 +61,12 @@ module _ (j g : List ℕ) where
   pub facts-completed : CompleteFacts j g → completeAnswer j g ≡ Completed (completed j g .joins) (completed j g .switches)
   facts-completed f = rw (f .lengths, f .sound, eq-eqb (phase j) 1 (f .phased))
 
+  -- what a run that ends in r answers and leaves
+  pub ran-answer : CompleteFacts j g → (r : Ran) → r ≡ completed j g
+      → (Completed (r .joins) (r .switches) ≡ completeAnswer j g) × (r .adjacency ≡ completeAdjacency (completeAnswer j g) j g)
+  ran-answer f r e =
+      rw (facts-completed f) (ap (λ (s : Ran). Completed (s .joins) (s .switches)) e, ap (λ (s : Ran). s .adjacency) e)
+
   -- after it
   pub record CompleteWorks : Type 0 where
     pub lengths : lengthsOk j (completed j g .adjacency) ≡ true

@@ -2,3 +2,10 @@ pub mod Cellwise
 pub mod Works
 pub mod Entry
 pub mod Cursor
+pub mod Search
+pub mod Sound
+pub mod Step
+pub mod Joins
+pub mod Arranged
+pub mod Classes
+pub mod Whole

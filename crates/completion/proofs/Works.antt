@@ -95,18 +95,31 @@ module _ (n : ℕ) (cls : ℕ → ℕ) (T : ℕ → ℕ → ℕ) where
           ∙ upper l k lC kC (omega arith)
           ∙ good .0 .target .symmetric l k lC kC
 
+  -- the lowest short cell, where there is one
+  pub short-cell : (g : List ℕ) → ltb (shortK n cls T g) degrees ≡ true
+      → (shortK n cls T g < degrees) × (shortL n cls T g (shortK n cls T g) < degrees)
+      × (jdm n cls (edge g) (shortK n cls T g) (shortL n cls T g (shortK n cls T g)) < T (shortK n cls T g) (shortL n cls T g (shortK n cls T g)))
+  short-cell g e = (kC, lC, ltb-true (jdm n cls (edge g) k l) (T k l) (lowest-holds k degrees (shortCell n cls T g k) (omega (arith, kC)) lC))
+    where
+      k : ℕ
+      k = shortK n cls T g
+
+      l : ℕ
+      l = shortL n cls T g k
+
+      kC : k < degrees
+      kC = ltb-true k degrees e
+
+      lC : l < degrees
+      lC = ltb-true l degrees (lowest-holds leastDegree degrees (λ i. ltb (shortL n cls T g i) degrees) (omega arith) kC)
+
   -- the pair that is joined next
   picks : (s : Ran) → Good s → isIncomplete n cls T s ≡ true
       → (v w : ℕ) × Open n cls T (edge (s .adjacency)) v w × Joined n cls own (edge (s .adjacency)) v w (edge (next n cls T s .adjacency)) × Good (next n cls T s)
   picks s good e =
       let g = s .adjacency in
-      let f = good .0 in
-      let kC = ltb-true (shortK n cls T g) degrees e in
-      let row = lowest-holds leastDegree degrees (λ i. ltb (shortL n cls T g i) degrees) (omega arith) kC in
-      let lC = ltb-true (shortL n cls T g (shortK n cls T g)) degrees row in
-      let short = ltb-true (jdm n cls (edge g) (shortK n cls T g) (shortL n cls T g (shortK n cls T g))) (T (shortK n cls T g) (shortL n cls T g (shortK n cls T g)))
-      (lowest-holds (shortK n cls T g) degrees (shortCell n cls T g (shortK n cls T g)) (omega arith) lC) in
-      pick g f (good .1) (shortK n cls T g) (shortL n cls T g (shortK n cls T g)) kC lC short
+      let h = short-cell g e in
+      pick g (good .0) (good .1) (shortK n cls T g) (shortL n cls T g (shortK n cls T g)) (h .0) (h .1) (h .2)
     where
       pick : (g : List ℕ) → Filling n cls T g → ZeroOutside n g → (k l : ℕ) → k < degrees → l < degrees → jdm n cls (edge g) k l < T k l
           → (v w : ℕ) × Open n cls T (edge g) v w

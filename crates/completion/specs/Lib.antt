@@ -2,3 +2,5 @@ pub mod Choice
 pub mod Complete
 pub mod Cellwise
 pub mod Cursor
+pub mod Search
+pub mod Work

@@ -1,5 +1,15 @@
-// Filling one cell, one row of cells, all cells.
+// Filling one cell.
+ghost use mathlib.Core.Path.{_≡_};
+ghost use Prim.Native.Nat.{ℕ, _+_, _≤_, _<_, min};
+ghost use lib.Dec.{ltb};
+ghost use lib.ListN.{getD};
+ghost use Rattle.finite.specs.Range.{lowest, foldTo};
+ghost use Rattle.adjacency.specs.Adjacency.{side};
+ghost use Rattle.joining.specs.Work.{classAt, degreesOf};
+ghost use Rattle.completion.specs.Cellwise.{cellStep};
+ghost use Rattle.completion.specs.Work.{ran, Resumes, Steppable, Fillable};
 use crate::pair::Cell;
+use crate::pair::Pair;
 use crate::pair::open_pair;
 
 // Edges added and switches made.
@@ -8,12 +18,10 @@ pub struct Totals {
     pub switches: usize,
 }
 
-// Where the searches in a cell go on: the row and column of the pair, and the lowest vertices of both classes that may be unsaturated.
+// Where the searches in a cell go on: at a row and a column, and for an unsaturated vertex of either class.
 pub struct Cursor {
-    pub v: usize,
-    pub w: usize,
-    pub low_k: usize,
-    pub low_l: usize,
+    pub at: Pair,
+    pub low: Pair,
 }
 
 pub struct Step {
@@ -22,7 +30,10 @@ pub struct Step {
 }
 
 // The lowest vertex of from, .., to - 1 with fewer than k edges; to where there is none.
-fn advance(held: &[usize; 200], from: usize, to: usize, k: usize) -> usize {
+fn advance(held: &[usize; 200], from: usize, to: usize, k: usize) -> usize
+    requires { ⌜ to ≤ side ⌝ }
+    ensures { λ r. ⌜ r ≡ lowest from to (λ i. ltb (getD (now (held .entry)) i 0) k) ⌝ }
+{
     let mut i = from;
     while i < to {
         if held[i] < k {
@@ -33,33 +44,40 @@ fn advance(held: &[usize; 200], from: usize, to: usize, k: usize) -> usize {
     i
 }
 
-fn least(a: usize, b: usize) -> usize {
+fn least(a: usize, b: usize) -> usize
+    ensures { λ r. ⌜ r ≡ min a b ⌝ }
+{
     if a < b {
         return a;
     }
     b
 }
 
-// The lowest open pair of the cell joined. A switch of v frees a column that was passed: the cursor falls to it.
+// The lowest open pair of the cell joined. A switch of v may free a column that was passed: the cursor falls to it.
 fn fill_step(
     adjacency: &mut [u8],
     held: &mut [usize; 200],
     classes: &[u8; 200],
     n: usize,
     cell: Cell,
-    at: Cursor,
+    cursor: Cursor,
     totals: Totals,
-) -> Step {
-    let pair = open_pair(adjacency, cell, at.v, at.w);
-    let low_k = advance(held, at.low_k, cell.to_k, cell.k);
-    let low_l = advance(held, at.low_l, cell.to_l, cell.l);
-    let done = joining::join(adjacency, held, classes, n, pair.v, pair.w, low_k, low_l);
+) -> Step
+    requires { ⌜ Steppable n (classAt (now classes)) cell cursor (ran (now adjacency) totals) (now held) ⌝ }
+    ensures { λ r. ⌜ (ran (now (adjacency .exit)) (r .totals) ≡ cellStep n (classAt (now (classes .entry))) (cell .k) (cell .l) (ran (now (adjacency .entry)) totals)) × Resumes n (classAt (now (classes .entry))) (now (adjacency .exit)) cell (r .cursor) ⌝ }
+    ensures { λ _. ⌜ now (held .exit) ≡ degreesOf n (now (adjacency .exit)) ⌝ }
+{
+    let pair = open_pair(adjacency, cell, cursor.at.v, cursor.at.w);
+    let v = advance(held, cursor.low.v, cell.rows.to, cell.k);
+    let w = advance(held, cursor.low.w, cell.columns.to, cell.l);
+    let done = joining::join(adjacency, held, classes, n, pair.v, pair.w, v, w);
     Step {
         cursor: Cursor {
-            v: pair.v,
-            w: least(done.freed, pair.w + 1),
-            low_k,
-            low_l,
+            at: Pair {
+                v: pair.v,
+                w: least(done.freed, pair.w + 1),
+            },
+            low: Pair { v, w },
         },
         totals: Totals {
             joins: totals.joins + 1,
@@ -69,7 +87,7 @@ fn fill_step(
 }
 
 // m joins in the cell.
-fn fill_cell(
+pub fn fill_cell(
     adjacency: &mut [u8],
     held: &mut [usize; 200],
     classes: &[u8; 200],
@@ -77,28 +95,26 @@ fn fill_cell(
     cell: Cell,
     m: usize,
     totals: Totals,
-) -> Totals {
-    let mut at = Cursor {
-        v: cell.from_k,
-        w: 0,
-        low_k: cell.from_k,
-        low_l: cell.from_l,
+) -> Totals
+    requires { ⌜ Fillable n (classAt (now classes)) cell m (ran (now adjacency) totals) (now held) ⌝ }
+    ensures { λ r. ⌜ ran (now (adjacency .exit)) r ≡ foldTo m (λ i. cellStep n (classAt (now (classes .entry))) (cell .k) (cell .l)) (ran (now (adjacency .entry)) totals) ⌝ }
+    ensures { λ _. ⌜ now (held .exit) ≡ degreesOf n (now (adjacency .exit)) ⌝ }
+{
+    let mut cursor = Cursor {
+        at: Pair {
+            v: cell.rows.from,
+            w: 0,
+        },
+        low: Pair {
+            v: cell.rows.from,
+            w: cell.columns.from,
+        },
     };
     let mut sum = totals;
-    for i in 0..m {
-        let step = fill_step(adjacency, held, classes, n, cell, at, sum);
-        at = step.cursor;
+    for _ in 0..m {
+        let step = fill_step(adjacency, held, classes, n, cell, cursor, sum);
+        cursor = step.cursor;
         sum = step.totals;
     }
     sum
-}
-
-// The joins that cell (k, l) misses.
-fn missing(adjacency: &[u8], cells: &[u32; 1681], cell: Cell) -> usize {
-    let want = table::cells::cell(cells, cell.k, cell.l);
-    let have = joining::cell::block_sum(adjacency, cell.from_k, cell.to_k, cell.from_l, cell.to_l);
-    if cell.k == cell.l {
-        return (want - have) / 2;
-    }
-    want - have
 }

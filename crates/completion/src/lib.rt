@@ -1,4 +1,59 @@
-// Completing (document 01: finish): cell by cell, each cell gets the joins that it misses.
+// Completing (document 01: finish): the checks 1, 2 and 3, then cell by cell each cell gets the joins that it misses.
+ghost use mathlib.Core.Path.{_≡_};
+ghost use mathlib.Core.Bool.{true};
+ghost use Rattle.journal.specs.Journal.{phase};
+ghost use Rattle.state.specs.Valid.{lengthsOk, valid};
+ghost use Rattle.completion.specs.Complete.{completed, completeAnswer, completeAdjacency};
+ghost use Rattle.completion.specs.Work.{ran};
+
 pub mod cell;
-pub mod entry;
+pub mod fill;
 pub mod pair;
+
+use crate::cell::Totals;
+use crate::fill::complete_rows;
+use answer::Cause;
+use answer::CompleteAnswer;
+use answer::refuse;
+use journal::cells_of;
+use journal::phase_of;
+use state::is_valid;
+use state::lengths_ok;
+use table::layout::classes;
+use table::layout::counts;
+use table::layout::vertex_count;
+
+// On a valid laid state: the joins that are missing.
+fn complete_laid(journal: &[u8], adjacency: &mut [u8]) -> Totals
+    requires { ⌜ (lengthsOk (now journal) (now adjacency) ≡ true) × (valid (now journal) (now adjacency) ≡ true) × (phase (now journal) ≡ 1) ⌝ }
+    ensures { λ r. ⌜ ran (now (adjacency .exit)) r ≡ completed (now (journal .entry)) (now (adjacency .entry)) ⌝ }
+{
+    let cells = cells_of(journal);
+    let d = counts(&cells);
+    let n = vertex_count(&cells, &d);
+    let c = classes(&cells, &d);
+    let s = joining::cell::starts(&d);
+    let mut held = joining::degrees(adjacency, n);
+    let none = Totals {
+        joins: 0,
+        switches: 0,
+    };
+    complete_rows(adjacency, &mut held, &c, &cells, &s, n, none)
+}
+
+pub fn complete(journal: &[u8], adjacency: &mut [u8]) -> CompleteAnswer
+    ensures { λ r. ⌜ r ≡ completeAnswer (now (journal .entry)) (now (adjacency .entry)) ⌝ }
+    ensures { λ _. ⌜ now (adjacency .exit) ≡ completeAdjacency (completeAnswer (now (journal .entry)) (now (adjacency .entry))) (now (journal .entry)) (now (adjacency .entry)) ⌝ }
+{
+    if !lengths_ok(journal, adjacency) {
+        return CompleteAnswer::Refused(refuse(Cause::Length, 0, 0));
+    }
+    if !is_valid(journal, adjacency) {
+        return CompleteAnswer::Refused(refuse(Cause::Invalid, 0, 0));
+    }
+    if phase_of(journal) != 1 {
+        return CompleteAnswer::Refused(refuse(Cause::Phase, 0, 0));
+    }
+    let totals = complete_laid(journal, adjacency);
+    CompleteAnswer::Completed(totals.joins, totals.switches)
+}

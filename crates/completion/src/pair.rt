@@ -1,23 +1,26 @@
 // The lowest open pair of a cell, searched from where the last search ended.
 ghost use mathlib.Core.Path.{_≡_};
-ghost use mathlib.Core.Bool.{_&&_, not};
-ghost use Prim.Native.Nat.{ℕ, _+_, _≤_, _<_};
-ghost use lib.Dec.{eqb, ltb};
-ghost use lib.ListN.{length, getD};
+ghost use mathlib.Core.Bool.{false};
+ghost use Prim.Native.Nat.{ℕ, _+_, _≤_, _<_, max};
+ghost use lib.ListN.{length};
 ghost use Rattle.finite.specs.Range.{lowest};
-ghost use Rattle.adjacency.specs.Adjacency.{adjacencySize, side, edge};
-ghost use Rattle.completion.specs.Choice.{openV, openW};
-ghost use Rattle.completion.specs.Cursor.{freeColumn, CellRange, RowsDone, ColumnsDone};
+ghost use Rattle.adjacency.specs.Adjacency.{adjacencySize, side};
+ghost use Rattle.completion.specs.Cursor.{freeColumn};
+ghost use Rattle.completion.specs.Search.{firstColumn, lowestColumn, hasColumn, Searchable};
 use adjacency::SIDE;
 
-// Cell (k, l): the vertices of degree k are from_k, .., to_k - 1, those of degree l are from_l, .., to_l - 1.
+// The vertices from, .., to - 1.
+pub struct Span {
+    pub from: usize,
+    pub to: usize,
+}
+
+// Cell (k, l): the vertices of degree k, and those of degree l.
 pub struct Cell {
     pub k: usize,
     pub l: usize,
-    pub from_k: usize,
-    pub to_k: usize,
-    pub from_l: usize,
-    pub to_l: usize,
+    pub rows: Span,
+    pub columns: Span,
 }
 
 // Two vertices.
@@ -33,9 +36,9 @@ fn is_free(adjacency: &[u8], v: usize, w: usize) -> bool
     (adjacency[v * SIDE + w] == 0) & (v != w)
 }
 
-// The lowest w of from, .., to - 1 that is not linked to v and is not v; to where there is none.
-fn open_column(adjacency: &[u8], v: usize, from: usize, to: usize) -> usize
-    requires { ⌜ (length (now adjacency) ≡ adjacencySize) × (v < side) × (from ≤ to) × (to ≤ side) ⌝ }
+// The lowest w of from, .., to - 1 that is not linked to v and is not v; to or above where there is none.
+fn free_column(adjacency: &[u8], v: usize, from: usize, to: usize) -> usize
+    requires { ⌜ (length (now adjacency) ≡ adjacencySize) × (v < side) × (to ≤ side) ⌝ }
     ensures { λ r. ⌜ r ≡ lowest from to (freeColumn (now (adjacency .entry)) v) ⌝ }
 {
     let mut w = from;
@@ -48,36 +51,43 @@ fn open_column(adjacency: &[u8], v: usize, from: usize, to: usize) -> usize
     w
 }
 
-// Where the candidates of row v begin that the column cursor w has not passed: above v on the diagonal.
-fn first_column(cell: Cell, v: usize, w: usize) -> usize
-    requires { ⌜ (v < side) × (cell .from_l ≤ cell .to_l) ⌝ }
+// Where the columns of row v begin: on the diagonal above v.
+fn first_column(cell: Cell, v: usize) -> usize
+    requires { ⌜ v < side ⌝ }
+    ensures { λ r. ⌜ r ≡ firstColumn cell v ⌝ }
 {
-    let mut from = cell.from_l;
     if cell.k == cell.l {
-        from = v + 1;
+        return v + 1;
     }
-    if from < w {
-        from = w;
-    }
-    if cell.to_l < from {
-        return cell.to_l;
-    }
-    from
+    cell.columns.from
 }
 
-// The lowest open pair of the cell. All rows of the cell below v are done, and so are the columns below w in row v.
-pub fn open_pair(adjacency: &[u8], cell: Cell, v: usize, w: usize) -> Pair {
-    let to_k = cell.to_k;
-    let to_l = cell.to_l;
+fn greatest(a: usize, b: usize) -> usize
+    ensures { λ r. ⌜ r ≡ max a b ⌝ }
+{
+    if a < b {
+        return b;
+    }
+    a
+}
+
+// The lowest open pair of the cell, from row v and in this row from column w on: the columns before it are not free.
+pub fn open_pair(adjacency: &[u8], cell: Cell, v: usize, w: usize) -> Pair
+    requires { ⌜ (length (now adjacency) ≡ adjacencySize) × Searchable (now adjacency) cell v w ⌝ }
+    ensures { λ r. ⌜ (r .v ≡ lowest v (cell .rows .to) (hasColumn (now (adjacency .entry)) cell)) × (r .v < cell .rows .to → r .w ≡ lowestColumn (now (adjacency .entry)) cell (r .v)) ⌝ }
+{
+    let bottom = cell.rows.to;
+    let end = cell.columns.to;
     let mut row = v;
     let mut from = w;
-    while row < to_k {
-        let column = open_column(adjacency, row, first_column(cell, row, from), to_l);
-        if column < to_l {
+    while row < bottom {
+        let first = greatest(from, first_column(cell, row));
+        let column = free_column(adjacency, row, first, end);
+        if column < end {
             return Pair { v: row, w: column };
         }
         row += 1;
         from = 0;
     }
-    Pair { v: row, w: to_l }
+    Pair { v: row, w: end }
 }

@@ -1,0 +1,63 @@
+-- The joins of one cell: before each of them the cell is short, and the cursor stands as it should.
+-- Assumes nothing.
+use mathlib.Core.Path.{_≡_, sym, ap, _∙_}
+use mathlib.Core.List.{List}
+use Prim.Native.Nat.{ℕ, _+_, _≤_, _<_}
+use native.Mathlib.Omega.{arith}
+use lib.ListN.{length}
+use Rattle.finite.specs.Range.{foldTo}
+use Rattle.finite.proofs.Fold.{foldTo-more}
+use Rattle.adjacency.specs.Adjacency.{adjacencySize}
+use Rattle.joining.specs.Work.{degreesOf}
+use Rattle.completion.specs.Complete.{Ran}
+use Rattle.completion.specs.Cellwise.{cellStep}
+use Rattle.completion.specs.Search.{Ranged}
+use Rattle.completion.specs.Work.{Sound, Resumes, Steppable, Fillable}
+use Rattle.completion.specs.declared.pair.Cell.{Cell}
+use Rattle.completion.specs.declared.cell.Cursor.{Cursor}
+use Rattle.completion.proofs.Cellwise.{part-short}
+use Rattle.completion.proofs.Sound.{part-sound}
+
+-- one more turn of a fold
+pub foldTo-after : {A : Type 0} (f : ℕ → A → A) (s : A) (i : ℕ) (x y : A) → x ≡ foldTo i f s → y ≡ f i x → y ≡ foldTo (i + 1) f s
+foldTo-after f s i x y ex ey = ey ∙ ap (f i) ex ∙ sym (foldTo-more f s i)
+
+-- before the first vertices of its classes nothing is left to do in a cell
+pub start-resumes : (n : ℕ) (cls : ℕ → ℕ) (g : List ℕ) (c : Cell) → Ranged n cls c
+    → Resumes n cls g c (record { at = record { v = c .rows .from; w = 0 }; low = record { v = c .rows .from; w = c .columns .from } })
+start-resumes n cls g c r =
+    record {
+      row = omega arith;
+      column = omega arith;
+      rows = λ u x h xn e. absurd (before-rows u h e);
+      columns = λ x h. absurd (omega arith);
+      low-row = r .rows .ordered;
+      low-column = r .columns .ordered;
+      saturated-rows = λ i h e. absurd (before-rows i h e);
+      saturated-columns = λ i h e. absurd (omega (arith, r .columns .only i (omega (arith, r .columns .ordered, r .columns .within)) e));
+    }
+  where
+    before-rows : (u : ℕ) → u < c .rows .from → cls u ≡ c .k → ⊥
+    before-rows u h e = omega (arith, r .rows .only u (omega (arith, r .rows .ordered, r .rows .within)) e)
+
+-- x: the state after i of the joins
+module _ (n : ℕ) (cls : ℕ → ℕ) (c : Cell) (m : ℕ) (s : Ran) (held₀ : List ℕ) (p : Fillable n cls c m s held₀)
+    (i : ℕ) (x : Ran) (e : x ≡ foldTo i (λ i. cellStep n cls (c .k) (c .l)) s) where
+  fill-sound : i ≤ m → Sound n cls (p .table) x
+  fill-sound h = rw e (part-sound n cls (p .table) s (p .sound) (c .k) (c .l) (p .ranged .first) (p .ranged .second) i (omega (arith, p .missing)))
+
+  pub fill-sized : i ≤ m → length (x .adjacency) ≡ length (s .adjacency)
+  fill-sized h = fill-sound h .filling .sized ∙ sym (p .sound .filling .sized)
+
+  pub fill-steppable : i < m → (u : Cursor) (held : List ℕ) → Resumes n cls (x .adjacency) c u → held ≡ degreesOf n (x .adjacency)
+      → Steppable n cls c u x held
+  fill-steppable h u held r d =
+      record {
+        table = p .table;
+        sound = fill-sound (omega arith);
+        short =
+            rw e (part-short n cls (p .table) s (p .sound .filling) (c .k) (c .l) (p .ranged .first) (p .ranged .second) i (omega (arith, p .missing)));
+        ranged = p .ranged;
+        resumes = r;
+        degrees-held = d;
+      }

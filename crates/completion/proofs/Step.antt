@@ -1,0 +1,155 @@
+-- One join in a short cell: the searches from the cursor find what is to be joined, and the cursor moved on has passed only what is done.
+-- Assumes nothing.
+use mathlib.Core.Path.{_≡_, refl, sym, ap, _∙_}
+use mathlib.Core.Bool.{false}
+use mathlib.Core.List.{List}
+use Prim.Native.Nat.{ℕ, _+_, _≤_, _<_, min}
+use native.Mathlib.Decide.{decLt}
+use native.Mathlib.Omega.{arith}
+use lib.Dec.{ltb}
+use lib.ListN.{getD, length-replicate, replicate}
+use borrow.Author.Tests.{le-ltb, ltb-false}
+use Rattle.finite.specs.Range.{lowest}
+use Rattle.finite.proofs.Lowest.{lowest-le, lowest-before}
+use Rattle.finite.proofs.Fold.{fillTo-at}
+use Rattle.graph.specs.Graph.{degree}
+use Rattle.graph.specs.Switch.{unsaturated, Joined}
+use Rattle.graph.specs.Tests.{degrees}
+use Rattle.graph.proofs.Resume.{join-degree}
+use Rattle.table.specs.Layout.{mostVertices}
+use Rattle.adjacency.specs.Adjacency.{edge}
+use Rattle.joining.specs.Join.{own, joinBytes, joinCount}
+use Rattle.joining.specs.Work.{degreesOf, Joinable, SaturatedBelow, freed}
+use Rattle.joining.proofs.Bytes.{join-bytes}
+use Rattle.completion.specs.Choice.{openW, openV}
+use Rattle.completion.specs.Complete.{Ran}
+use Rattle.completion.specs.Cellwise.{cellStep, Filling}
+use Rattle.completion.specs.Cursor.{ClassRange}
+use Rattle.completion.specs.Search.{lowestColumn, hasColumn, Searchable}
+use Rattle.completion.specs.Work.{Saturated, Resumes, Steppable}
+use Rattle.completion.specs.declared.pair.Cell.{Cell}
+use Rattle.completion.specs.declared.cell.Cursor.{Cursor}
+use Rattle.completion.proofs.Cellwise.{Chosen, chosen}
+use Rattle.completion.proofs.Cursor.{rows-after, columns-after}
+use Rattle.completion.proofs.Search.{Found, found, searchable}
+
+-- the search in the array of degrees passes over saturated vertices only
+low-saturated : (n : ℕ) (cls : ℕ → ℕ) (g held : List ℕ) (k from to low r : ℕ) → n ≤ mostVertices → ClassRange n cls k from to
+    → held ≡ degreesOf n g → low ≤ to → Saturated n cls g k low → r ≡ lowest low to (λ i. ltb (getD held i 0) k) → Saturated n cls g k r
+low-saturated n cls g held k from to low r few range eh lt sat er i ir ik = go (decLt i low)
+  where
+    go : Dec (i < low) → unsaturated n cls own (edge g) i ≡ false
+    go (yes p) = sat i p ik
+    go (no p) =
+        let passed = lowest-before low to (λ i. ltb (getD held i 0) k) lt i (omega arith) (omega arith) in
+        let i-to : i < to = omega (arith, lowest-le low to (λ i. ltb (getD held i 0) k) lt) in
+        let at : getD (degreesOf n g) i 0 ≡ degree n (edge g) i = fillTo-at (degree n (edge g)) (replicate mostVertices 0) n i (rw length-replicate few) (omega (arith, range .within)) in
+        rw ik (rw (eh, at) at passed)
+
+module _ (n : ℕ) (cls : ℕ → ℕ) (c : Cell) (u : Cursor) (s : Ran) (held : List ℕ) (p : Steppable n cls c u s held) where
+  abbrev g : List ℕ
+  g = s .adjacency
+
+  abbrev k : ℕ
+  k = c .k
+
+  abbrev l : ℕ
+  l = c .l
+
+  filling : Filling n cls (p .table) (s .adjacency)
+  filling = p .sound .filling
+
+  chose : Chosen n cls (p .table) g k l (openV n cls g k l) (openW n cls g k l (openV n cls g k l))
+  chose = chosen n cls (p .table) g filling k l (p .ranged .first) (p .ranged .second) (p .short)
+
+  find : Found n cls g c (p .ranged) (u .at .v)
+  find = found n cls g c (p .ranged) (chose .pair .first) (u .at .v) (p .resumes .row) (p .resumes .rows)
+
+  pub step-searchable : Searchable g c (u .at .v) (u .at .w)
+  step-searchable =
+      searchable n cls g c (p .ranged) (filling .few) (u .at .v) (u .at .w) (p .resumes .row) (omega (arith, find .row-from, find .row-below))
+      (p .resumes .column) (p .resumes .columns)
+
+  -- over the join no vertex loses edges, so saturated vertices stay so
+  abbrev g′ : List ℕ
+  g′ = joinBytes n cls g (openV n cls g k l) (openW n cls g k l (openV n cls g k l))
+
+  joined : Joined n cls own (edge g) (openV n cls g k l) (openW n cls g k l (openV n cls g k l)) (edge g′)
+  joined =
+      join-bytes n cls (p .table) g (openV n cls g k l) (openW n cls g k l (openV n cls g k l)) (filling .sized) (filling .few) (filling .target) (filling .partial)
+      (chose .pair)
+
+  stays : (j low : ℕ) → low ≤ n → Saturated n cls g j low → Saturated n cls g′ j low
+  stays j low ln sat i h e =
+      le-ltb (degree n (edge g′) i) (cls i)
+      (omega (
+        arith,
+        ltb-false (degree n (edge g) i) (cls i) (sat i h e),
+        join-degree n degrees cls own (p .table) (filling .target) (edge g) (openV n cls g k l) (openW n cls g k l (openV n cls g k l)) (filling .partial)
+            (chose .pair) (edge g′) joined i (omega arith),
+      ))
+
+  -- v and w: what the search for a pair found; x and y: what those for unsaturated vertices did
+  module _ (v w : ℕ) (ev : v ≡ lowest (u .at .v) (c .rows .to) (hasColumn g c)) (ew : v < c .rows .to → w ≡ lowestColumn g c v) where
+    pub pair-row : v ≡ openV n cls g k l
+    pair-row = ev ∙ find .row
+
+    pub pair-column : w ≡ openW n cls g k l (openV n cls g k l)
+    pair-column = ew (omega (arith, pair-row, find .row-below)) ∙ ap (lowestColumn g c) pair-row ∙ find .column
+
+    pub step-joinable : Joinable n cls g v w
+    step-joinable =
+        rw (pair-row, pair-column)
+        (record {
+          table = p .table;
+          sized = filling .sized;
+          few = filling .few;
+          target = filling .target;
+          partial = filling .partial;
+          pair = chose .pair;
+        })
+
+    -- the state after the join
+    pub step-ran : (g′ : List ℕ) (m : ℕ) → g′ ≡ joinBytes n cls g v w → m ≡ joinCount n cls g v w
+        → _≡_ {A = Ran} (record { adjacency = g′; joins = s .joins + 1; switches = s .switches + m }) (cellStep n cls k l s)
+    step-ran g′ m eg em = rw (eg, em, pair-row, pair-column)
+
+    module _ (x y : ℕ) (ex : x ≡ lowest (u .low .v) (c .rows .to) (λ i. ltb (getD held i 0) (c .k)))
+        (ey : y ≡ lowest (u .low .w) (c .columns .to) (λ i. ltb (getD held i 0) (c .l))) where
+      rows-saturated : Saturated n cls g k x
+      rows-saturated =
+          low-saturated n cls g held k (c .rows .from) (c .rows .to) (u .low .v) x (filling .few) (p .ranged .rows) (p .degrees-held) (p .resumes .low-row)
+          (p .resumes .saturated-rows) ex
+
+      columns-saturated : Saturated n cls g l y
+      columns-saturated =
+          low-saturated n cls g held l (c .columns .from) (c .columns .to) (u .low .w) y (filling .few) (p .ranged .columns) (p .degrees-held)
+          (p .resumes .low-column) (p .resumes .saturated-columns) ey
+
+      pub low-row-le : x ≤ c .rows .to
+      low-row-le = omega (arith, lowest-le (u .low .v) (c .rows .to) (λ i. ltb (getD held i 0) k) (p .resumes .low-row))
+
+      pub low-column-le : y ≤ c .columns .to
+      low-column-le = omega (arith, lowest-le (u .low .w) (c .columns .to) (λ i. ltb (getD held i 0) l) (p .resumes .low-column))
+
+      pub below-v : SaturatedBelow n cls g v x
+      below-v i h e = rows-saturated i h (e ∙ ap cls pair-row ∙ chose .row)
+
+      pub below-w : SaturatedBelow n cls g w y
+      below-w i h e = columns-saturated i h (e ∙ ap cls pair-column ∙ chose .column)
+
+      -- the cursor moved on: b is the column where the row's search goes on
+      pub step-resumes : (h : List ℕ) (f b : ℕ) → h ≡ joinBytes n cls g v w → f ≡ freed n cls g v w → b ≡ min f (w + 1)
+          → Resumes n cls h c (record { at = record { v = v; w = b }; low = record { v = x; w = y } })
+      step-resumes h f b eh ef eb =
+          rw (eh, eb, ef, pair-row, pair-column)
+          (record {
+            row = omega (arith, p .resumes .row, find .row-from);
+            column = omega (arith, find .column-below);
+            rows = rows-after n cls (p .table) g filling k l chose;
+            columns = columns-after n cls (p .table) g filling k l chose;
+            low-row = low-row-le;
+            low-column = low-column-le;
+            saturated-rows = stays k x (omega (arith, low-row-le, p .ranged .rows .within)) rows-saturated;
+            saturated-columns = stays l y (omega (arith, low-column-le, p .ranged .columns .within)) columns-saturated;
+          })

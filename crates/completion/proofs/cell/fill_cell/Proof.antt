@@ -1,0 +1,61 @@
+-- `completion::cell::fill_cell` meets its contract: after i turns i joins are made, and the cursor has passed only what is done.
+-- Assumes nothing.
+use mathlib.Core.Path.{_≡_, refl, sym}
+use Prim.Native.Nat.{_≤_, _-_}
+use native.Mathlib.Omega.{arith}
+use borrow.Author.Needs.{needs}
+use Rattle.finite.specs.Range.{foldTo}
+use Rattle.finite.proofs.Fold.{foldTo-none}
+use Rattle.joining.specs.Work.{classAt, degreesOf}
+use Rattle.completion.specs.Cellwise.{cellStep}
+use Rattle.completion.specs.Work.{ran, Resumes}
+use Rattle.completion.proofs.Joins.{start-resumes, fill-sized, fill-steppable, foldTo-after}
+use Rattle.completion.proofs.cell.fill_cell.Statement.{statement}
+use Rattle.completion.proofs.cell.fill_cell.Tie as tie
+
+abbrev Inv-loop : tie.InvT-loop
+Inv-loop adjacency₀ held₀ classes n cell m cursor₀ sum₀ counter₀ adjacency held cursor sum counter =
+    (counter ≤ m)
+    × (ran adjacency sum ≡ foldTo counter (λ i. cellStep n (classAt classes) (cell .k) (cell .l)) (ran adjacency₀ sum₀))
+    × (held ≡ degreesOf n adjacency)
+    × Resumes n (classAt classes) adjacency cell cursor
+
+abbrev μ-loop : tie.MeasureT-loop
+μ-loop adjacency₀ held₀ classes n cell m cursor₀ sum₀ counter₀ adjacency held cursor sum counter = m - counter
+
+pub fill-cell-spec : {M : Type 1} → statement M
+fill-cell-spec =
+    tie.close (tie.spec Inv-loop μ-loop
+    (λ c.
+    let f = c .before in
+    let a = f .args in
+    (omega arith, sym (foldTo-none _ _), f .pre .degrees-held, start-resumes (a .n) (classAt (a .classes .now)) (a .adjacency .now) (a .cell) (f .pre .ranged)))  -- loop-holds
+    (λ c κs.
+    let t = c .before .before in
+    let l = t .before in
+    let f = l .before .before in
+    let a = f .args in
+    fill-steppable (a .n) (classAt (a .classes .now)) (a .cell) (a .m) (ran (a .adjacency .now) (a .totals)) (a .held .now) (f .pre) (l .loop .counter) _ (l .loop .inv .1)
+    (t .loop-test .taken) _ _ (l .loop .inv .3) (l .loop .inv .2))  -- fill-step-requires
+    (λ c. let l = c .before .before .before .before .before .before .before .before in omega (arith, l .loop .inv .0))  -- add-counter
+    (λ c. let l = c .before .before .before .before .before .before .before .before in omega (arith, l .loop .inv .0))  -- loop-less
+    (λ c.
+    let t = c .before .before .before .before in
+    let l = t .before .before .before .before in
+    let f = l .before .before in
+    let a = f .args in (
+      omega (arith, l .loop .inv .0),
+      foldTo-after (λ i. cellStep (a .n) (classAt (a .classes .now)) (a .cell .k) (a .cell .l)) _ (l .loop .counter) _ _ (l .loop .inv .1) (t .fill-step .ensures .0 .0),
+      t .fill-step .ensures .1,
+      t .fill-step .ensures .0 .1,
+    ))  -- loop-again
+    (λ c.
+    let l = c .before in
+    let f = l .before .before in
+    let a = f .args in
+    fill-sized (a .n) (classAt (a .classes .now)) (a .cell) (a .m) (ran (a .adjacency .now) (a .totals)) (a .held .now) (f .pre) (l .loop .counter) _ (l .loop .inv .1)
+    (l .loop .inv .0))  -- same-length
+    (λ c.
+    let l = c .before in
+    let e : l .loop .counter ≡ l .before .before .args .m = omega arith in
+    (rw e at (l .loop .inv .1), l .loop .inv .2)))  -- returns

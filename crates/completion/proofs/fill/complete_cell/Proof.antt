@@ -1,0 +1,40 @@
+-- `completion::fill::complete_cell` meets its contract.
+-- Assumes nothing.
+use native.Mathlib.Omega.{arith}
+use borrow.Author.Needs.{needs}
+use Rattle.completion.specs.Work.{ran}
+use Rattle.completion.proofs.Arranged.{countable, fillable, cell-filled}
+use Rattle.completion.proofs.fill.complete_cell.Statement.{statement}
+use Rattle.completion.proofs.fill.complete_cell.Tie as tie
+
+pub complete-cell-spec : {M : Type 1} → statement M
+complete-cell-spec =
+    tie.close (tie.spec
+    (λ c κs. omega (arith, c .before .pre .1, c .before .pre .2))  -- cell-at-requires
+    (λ c κs.
+    let d = c .before in
+    let f = d .before .before in
+    let a = f .args in (
+      f .pre .0 .sound .filling .sized,
+      rw (d .cell-at .ensures)
+          (countable (a .n) (a .cells .now) (a .classes .now) (a .starts .now) (a .held .now) (ran (a .adjacency .now) (a .totals)) (f .pre .0) (a .k) (a .l) (f .pre .1) (f .pre .2)),
+    ))  -- missing-requires
+    (λ c κs.
+    let m = c .before .before in
+    let d = m .before .before in
+    let f = d .before .before in
+    let a = f .args in
+    rw (d .cell-at .ensures)
+    (fillable (a .n) (a .cells .now) (a .classes .now) (a .starts .now) (a .held .now) (ran (a .adjacency .now) (a .totals)) (f .pre .0) (a .k) (a .l) (f .pre .1) (f .pre .2)
+    (m .missing .result) (rw (d .cell-at .ensures) at (m .missing .ensures))))  -- fill-cell-requires
+    (λ c. search needs)  -- same-length
+    (λ c.
+    let t = c .before .before in
+    let m = t .before .before .before in
+    let d = m .before .before in
+    let f = d .before .before in
+    let a = f .args in (
+      cell-filled (a .n) (a .cells .now) (a .classes .now) (a .starts .now) (a .held .now) (ran (a .adjacency .now) (a .totals)) (f .pre .0) (a .k) (a .l) (f .pre .1) (f .pre .2)
+          (m .missing .result) (rw (d .cell-at .ensures) at (m .missing .ensures)) _ (rw (d .cell-at .ensures) at (t .fill-cell .ensures .0)),
+      t .fill-cell .ensures .1,
+    )))  -- returns

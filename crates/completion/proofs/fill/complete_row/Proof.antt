@@ -1,0 +1,66 @@
+-- `completion::fill::complete_row` meets its contract: after i turns the first i cells of the row are filled.
+-- Assumes nothing.
+use mathlib.Core.Path.{_≡_, sym}
+use Prim.Native.Nat.{_+_, _≤_, _-_}
+use native.Mathlib.Omega.{arith}
+use Rattle.finite.specs.Range.{foldTo}
+use Rattle.finite.proofs.Fold.{foldTo-none}
+use Rattle.graph.specs.Tests.{degrees}
+use Rattle.table.specs.Cells.{matrixOf}
+use Rattle.joining.specs.Work.{classAt, degreesOf}
+use Rattle.completion.specs.Cellwise.{fillCell}
+use Rattle.completion.specs.Work.{ran}
+use Rattle.completion.proofs.Arranged.{working, working-sized, cells-sound}
+use Rattle.completion.proofs.Joins.{foldTo-after}
+use Rattle.completion.proofs.fill.complete_row.Statement.{statement}
+use Rattle.completion.proofs.fill.complete_row.Tie as tie
+
+abbrev Inv-loop : tie.InvT-loop
+Inv-loop adjacency₀ held₀ classes cells starts n k sum₀ i₀ i-end adjacency held sum i =
+    (k + i ≤ degrees)
+    × (ran adjacency sum ≡ foldTo i (λ i. fillCell n (classAt classes) (matrixOf cells) k (k + i)) (ran adjacency₀ sum₀))
+    × (held ≡ degreesOf n adjacency)
+
+abbrev μ-loop : tie.MeasureT-loop
+μ-loop adjacency₀ held₀ classes cells starts n k sum₀ i₀ i-end adjacency held sum i = i-end - i
+
+pub complete-row-spec : {M : Type 1} → statement M
+complete-row-spec =
+    tie.close (tie.spec Inv-loop μ-loop
+    (λ c. omega (arith, c .before .pre .1))  -- sub-i-end
+    (λ c. let f = c .before in (omega (arith, f .pre .1), sym (foldTo-none _ _), f .pre .0 .degrees-held))  -- loop-holds
+    (λ c. let l = c .before .before .before in omega (arith, l .loop .inv .0))  -- add-complete-cell
+    (λ c κs.
+    let t = c .before .before in
+    let l = t .before in
+    let f = l .before .before in
+    let a = f .args in (
+      working (a .n) (a .cells .now) (a .classes .now) (a .starts .now) (a .held .now) (ran (a .adjacency .now) (a .totals)) (f .pre .0) _
+          (cells-sound (a .n) (a .cells .now) (a .classes .now) (a .starts .now) (a .held .now) (ran (a .adjacency .now) (a .totals)) (f .pre .0) (l .loop .i) _ (a .k)
+          (l .loop .inv .0) (l .loop .inv .1))
+          _ (l .loop .inv .2),
+      f .pre .1,
+      omega (arith, t .loop-test .taken),
+    ))  -- complete-cell-requires
+    (λ c. let l = c .before .before .before .before .before .before in omega (arith, l .loop .inv .0))  -- add-i
+    (λ c. let t = c .before .before .before .before .before in omega (arith, t .loop-test .taken))  -- loop-less
+    (λ c.
+    let d = c .before .before in
+    let t = d .before .before .before in
+    let l = t .before in
+    let a = l .before .before .args in (
+      omega (arith, t .loop-test .taken),
+      foldTo-after (λ i. fillCell (a .n) (classAt (a .classes .now)) (matrixOf (a .cells .now)) (a .k) (a .k + i)) _ (l .loop .i) _ _ (l .loop .inv .1) (d .complete-cell .ensures .0),
+      d .complete-cell .ensures .1,
+    ))  -- loop-again
+    (λ c.
+    let l = c .before in
+    let f = l .before .before in
+    let a = f .args in
+    working-sized (a .n) (a .cells .now) (a .classes .now) (a .starts .now) (a .held .now) (ran (a .adjacency .now) (a .totals)) (f .pre .0) _
+    (cells-sound (a .n) (a .cells .now) (a .classes .now) (a .starts .now) (a .held .now) (ran (a .adjacency .now) (a .totals)) (f .pre .0) (l .loop .i) _ (a .k)
+    (l .loop .inv .0) (l .loop .inv .1)))  -- same-length
+    (λ c.
+    let l = c .before in
+    let e : l .loop .i ≡ degrees - l .before .before .args .k = omega (arith, l .loop .inv .0) in
+    (rw e at (l .loop .inv .1), l .loop .inv .2)))  -- returns

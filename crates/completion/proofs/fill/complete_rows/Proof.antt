@@ -1,0 +1,64 @@
+-- `completion::fill::complete_rows` meets its contract: after i turns the first i rows are filled.
+-- Assumes nothing.
+use mathlib.Core.Path.{_≡_, sym}
+use Prim.Native.Nat.{_+_, _≤_, _-_}
+use native.Mathlib.Omega.{arith}
+use Rattle.finite.specs.Range.{foldTo}
+use Rattle.finite.proofs.Fold.{foldTo-none}
+use Rattle.graph.specs.Tests.{leastDegree, mostDegree}
+use Rattle.table.specs.Cells.{matrixOf}
+use Rattle.joining.specs.Work.{classAt, degreesOf}
+use Rattle.completion.specs.Cellwise.{fillRow}
+use Rattle.completion.specs.Work.{ran}
+use Rattle.completion.proofs.Arranged.{working, working-sized, all-sound}
+use Rattle.completion.proofs.Joins.{foldTo-after}
+use Rattle.completion.proofs.fill.complete_rows.Statement.{statement}
+use Rattle.completion.proofs.fill.complete_rows.Tie as tie
+
+abbrev Inv-loop : tie.InvT-loop
+Inv-loop adjacency₀ held₀ classes cells starts n sum₀ i₀ adjacency held sum i =
+    (i ≤ mostDegree)
+    × (ran adjacency sum ≡ foldTo i (λ i. fillRow n (classAt classes) (matrixOf cells) (leastDegree + i)) (ran adjacency₀ sum₀))
+    × (held ≡ degreesOf n adjacency)
+
+abbrev μ-loop : tie.MeasureT-loop
+μ-loop adjacency₀ held₀ classes cells starts n sum₀ i₀ adjacency held sum i = mostDegree - i
+
+pub complete-rows-spec : {M : Type 1} → statement M
+complete-rows-spec =
+    tie.close (tie.spec Inv-loop μ-loop
+    (λ c. let f = c .before in (omega arith, sym (foldTo-none _ _), f .pre .degrees-held))  -- loop-holds
+    (λ c. let l = c .before .before .before in omega (arith, l .loop .inv .0))  -- add-complete-row
+    (λ c κs.
+    let t = c .before .before in
+    let l = t .before in
+    let f = l .before .before in
+    let a = f .args in (
+      working (a .n) (a .cells .now) (a .classes .now) (a .starts .now) (a .held .now) (ran (a .adjacency .now) (a .totals)) (f .pre) _
+          (all-sound (a .n) (a .cells .now) (a .classes .now) (a .starts .now) (a .held .now) (ran (a .adjacency .now) (a .totals)) (f .pre) (l .loop .i) _
+          (l .loop .inv .0) (l .loop .inv .1))
+          _ (l .loop .inv .2),
+      omega (arith, t .loop-test .taken),
+    ))  -- complete-row-requires
+    (λ c. let l = c .before .before .before .before .before .before in omega (arith, l .loop .inv .0))  -- add-i
+    (λ c. let t = c .before .before .before .before .before in omega (arith, t .loop-test .taken))  -- loop-less
+    (λ c.
+    let d = c .before .before in
+    let t = d .before .before .before in
+    let l = t .before in
+    let a = l .before .before .args in (
+      omega (arith, t .loop-test .taken),
+      foldTo-after (λ i. fillRow (a .n) (classAt (a .classes .now)) (matrixOf (a .cells .now)) (leastDegree + i)) _ (l .loop .i) _ _ (l .loop .inv .1) (d .complete-row .ensures .0),
+      d .complete-row .ensures .1,
+    ))  -- loop-again
+    (λ c.
+    let l = c .before in
+    let f = l .before .before in
+    let a = f .args in
+    working-sized (a .n) (a .cells .now) (a .classes .now) (a .starts .now) (a .held .now) (ran (a .adjacency .now) (a .totals)) (f .pre) _
+    (all-sound (a .n) (a .cells .now) (a .classes .now) (a .starts .now) (a .held .now) (ran (a .adjacency .now) (a .totals)) (f .pre) (l .loop .i) _
+    (l .loop .inv .0) (l .loop .inv .1)))  -- same-length
+    (λ c.
+    let l = c .before in
+    let e : l .loop .i ≡ mostDegree = omega (arith, l .loop .inv .0) in
+    rw e at (l .loop .inv .1)))  -- returns

@@ -1,0 +1,96 @@
+-- What the code of completing keeps from join to join, and what it may rely on.
+-- Assumes nothing.
+use mathlib.Core.Path.{_≡_}
+use mathlib.Core.Bool.{false}
+use mathlib.Core.List.{List}
+use Prim.Native.Nat.{ℕ, _+_, _*_, _≤_, _<_}
+use lib.ListN.{getD}
+use Rattle.graph.specs.Graph.{jdm, edges}
+use Rattle.graph.specs.Switch.{unsaturated}
+use Rattle.graph.specs.Tests.{degrees}
+use Rattle.adjacency.specs.Adjacency.{side, edge}
+use Rattle.table.specs.Cells.{matrixOf}
+use Rattle.table.specs.Layout.{mostVertices, vertices, countsOf, classesOf}
+use Rattle.joining.specs.Join.{own}
+use Rattle.joining.specs.Work.{classAt, degreesOf}
+use Rattle.joining.specs.Block.{startsOf, blockSum}
+use Rattle.completion.specs.Complete.{Ran}
+use Rattle.completion.specs.Cellwise.{cellMissing, Filling}
+use Rattle.completion.specs.Cursor.{RowsDone, ColumnsDone}
+use Rattle.completion.specs.Search.{Ranged}
+use Rattle.completion.specs.declared.pair.Cell.{Cell}
+use Rattle.completion.specs.declared.cell.Cursor.{Cursor}
+use Rattle.completion.specs.declared.cell.Totals.{Totals}
+
+-- the matrix with the totals beside it
+abbrev pub ran : List ℕ → Totals → Ran
+ran g t = record { adjacency = g; joins = t .joins; switches = t .switches }
+
+-- a partial graph, with totals that its edges bound
+pub record Sound (n : ℕ) (cls : ℕ → ℕ) (T : ℕ → ℕ → ℕ) (s : Ran) : Type 0 where
+  pub filling : Filling n cls T (s .adjacency)
+  pub joins-le : s .joins ≤ edges n (edge (s .adjacency))
+  pub switches-le : s .switches ≤ 2 * s .joins
+
+-- the vertices of class k below `low` are saturated
+abbrev pub Saturated : ℕ → (ℕ → ℕ) → List ℕ → ℕ → ℕ → Type 0
+Saturated n cls g k low = (i : ℕ) → i < low → cls i ≡ k → unsaturated n cls own (edge g) i ≡ false
+
+-- what the cursor has passed is done
+pub record Resumes (n : ℕ) (cls : ℕ → ℕ) (g : List ℕ) (c : Cell) (u : Cursor) : Type 0 where
+  pub row : c .rows .from ≤ u .at .v
+  pub column : u .at .w ≤ c .columns .to
+  pub rows : RowsDone n cls g (c .k) (c .l) (u .at .v)
+  pub columns : ColumnsDone cls g (c .k) (c .l) (u .at .v) (u .at .w)
+  pub low-row : u .low .v ≤ c .rows .to
+  pub low-column : u .low .w ≤ c .columns .to
+  pub saturated-rows : Saturated n cls g (c .k) (u .low .v)
+  pub saturated-columns : Saturated n cls g (c .l) (u .low .w)
+
+-- m joins may be made in the cell: it misses as many
+pub record Fillable (n : ℕ) (cls : ℕ → ℕ) (c : Cell) (m : ℕ) (s : Ran) (held : List ℕ) : Type 0 where
+  pub table : ℕ → ℕ → ℕ
+  pub sound : Sound n cls table s
+  pub missing : m ≤ cellMissing n cls table (s .adjacency) (c .k) (c .l)
+  pub ranged : Ranged n cls c
+  pub degrees-held : held ≡ degreesOf n (s .adjacency)
+
+-- one join may be made in the cell: it is short
+pub record Steppable (n : ℕ) (cls : ℕ → ℕ) (c : Cell) (u : Cursor) (s : Ran) (held : List ℕ) : Type 0 where
+  pub table : ℕ → ℕ → ℕ
+  pub sound : Sound n cls table s
+  pub short : jdm n cls (edge (s .adjacency)) (c .k) (c .l) < table (c .k) (c .l)
+  pub ranged : Ranged n cls c
+  pub resumes : Resumes n cls (s .adjacency) c u
+  pub degrees-held : held ≡ degreesOf n (s .adjacency)
+
+-- cell (k, l) between the starts of its classes
+abbrev pub cellIn : List ℕ → ℕ → ℕ → Cell
+cellIn starts k l =
+    record {
+      k = k;
+      l = l;
+      rows = record { from = getD starts k 0; to = getD starts (k + 1) 0 };
+      columns = record { from = getD starts l 0; to = getD starts (l + 1) 0 };
+    }
+
+-- the arrays of a layout, all from the table's cells
+pub record Arranged (n : ℕ) (cells classes starts : List ℕ) : Type 0 where
+  pub count : n ≡ vertices (matrixOf cells)
+  pub few : n ≤ mostVertices
+  pub classed : classes ≡ classesOf (matrixOf cells)
+  pub started : starts ≡ startsOf (countsOf (matrixOf cells))
+
+-- these, and beside them a partial graph of the table with its degrees
+pub record Working (n : ℕ) (cells classes starts held : List ℕ) (s : Ran) : Type 0 where
+  pub arranged : Arranged n cells classes starts
+  pub sound : Sound n (classAt classes) (matrixOf cells) s
+  pub degrees-held : held ≡ degreesOf n (s .adjacency)
+
+-- what a cell misses can be counted: its ranges are ranges of vertices, and it does not hold more than the table
+pub record Countable (g cells : List ℕ) (c : Cell) : Type 0 where
+  pub first : c .k < degrees
+  pub second : c .l < degrees
+  pub rows : (c .rows .from ≤ c .rows .to) × (c .rows .to ≤ side)
+  pub columns : (c .columns .from ≤ c .columns .to) × (c .columns .to ≤ side)
+  pub within : blockSum (edge g) (c .rows .from) (c .rows .to) (c .columns .from) (c .columns .to) ≤ matrixOf cells (c .k) (c .l)

@@ -1,0 +1,131 @@
+// Filling cell by cell: each gets the joins that it misses.
+ghost use mathlib.Core.Path.{_≡_};
+ghost use mathlib.Core.Bool.{cond};
+ghost use Prim.Native.Nat.{ℕ, _+_, _-_, _/_, _≤_, _<_};
+ghost use lib.Dec.{eqb};
+ghost use lib.ListN.{length};
+ghost use Rattle.graph.specs.Tests.{leastDegree, degrees};
+ghost use Rattle.table.specs.Cells.{matrixOf};
+ghost use Rattle.adjacency.specs.Adjacency.{adjacencySize, side, edge};
+ghost use Rattle.joining.specs.Work.{classAt, degreesOf};
+ghost use Rattle.joining.specs.Block.{blockSum};
+ghost use Rattle.completion.specs.Cellwise.{fillCell, fillRow, fillAll};
+ghost use Rattle.completion.specs.Work.{ran, cellIn, Countable, Working};
+use crate::cell::Totals;
+use crate::cell::fill_cell;
+use crate::pair::Cell;
+use crate::pair::Span;
+use joining::cell::block_sum;
+use table::cells::DEGREES;
+use table::cells::cell;
+
+// Cell (k, l) between the starts of its classes.
+fn cell_at(starts: &[usize; 42], k: usize, l: usize) -> Cell
+    requires { ⌜ (k < degrees) × (l < degrees) ⌝ }
+    ensures { λ r. ⌜ r ≡ cellIn (now (starts .entry)) k l ⌝ }
+{
+    Cell {
+        k,
+        l,
+        rows: Span {
+            from: starts[k],
+            to: starts[k + 1],
+        },
+        columns: Span {
+            from: starts[l],
+            to: starts[l + 1],
+        },
+    }
+}
+
+// What a join adds to cell (k, l).
+fn unit(k: usize, l: usize) -> usize
+    ensures { λ r. ⌜ (r ≡ cond (eqb k l) 2 1) × (0 < r) ⌝ }
+{
+    if k == l {
+        return 2;
+    }
+    1
+}
+
+// The joins that a cell misses.
+fn missing(adjacency: &[u8], cells: &[u32; 1681], c: Cell) -> usize
+    requires { ⌜ (length (now adjacency) ≡ adjacencySize) × Countable (now adjacency) (now cells) c ⌝ }
+    ensures { λ r. ⌜ r ≡ (matrixOf (now (cells .entry)) (c .k) (c .l) - blockSum (edge (now (adjacency .entry))) (c .rows .from) (c .rows .to) (c .columns .from) (c .columns .to)) / cond (eqb (c .k) (c .l)) 2 1 ⌝ }
+{
+    let want = cell(cells, c.k, c.l);
+    if want == 0 {
+        return 0;
+    }
+    let have = block_sum(
+        adjacency,
+        c.rows.from,
+        c.rows.to,
+        c.columns.from,
+        c.columns.to,
+    );
+    (want - have) / unit(c.k, c.l)
+}
+
+// Cell (k, l) filled.
+fn complete_cell(
+    adjacency: &mut [u8],
+    held: &mut [usize; 200],
+    classes: &[u8; 200],
+    cells: &[u32; 1681],
+    starts: &[usize; 42],
+    n: usize,
+    k: usize,
+    l: usize,
+    totals: Totals,
+) -> Totals
+    requires { ⌜ Working n (now cells) (now classes) (now starts) (now held) (ran (now adjacency) totals) × (k < degrees) × (l < degrees) ⌝ }
+    ensures { λ r. ⌜ ran (now (adjacency .exit)) r ≡ fillCell n (classAt (now (classes .entry))) (matrixOf (now (cells .entry))) k l (ran (now (adjacency .entry)) totals) ⌝ }
+    ensures { λ _. ⌜ now (held .exit) ≡ degreesOf n (now (adjacency .exit)) ⌝ }
+{
+    let c = cell_at(starts, k, l);
+    let m = missing(adjacency, cells, c);
+    fill_cell(adjacency, held, classes, n, c, m, totals)
+}
+
+// The cells of row k, from the diagonal on.
+fn complete_row(
+    adjacency: &mut [u8],
+    held: &mut [usize; 200],
+    classes: &[u8; 200],
+    cells: &[u32; 1681],
+    starts: &[usize; 42],
+    n: usize,
+    k: usize,
+    totals: Totals,
+) -> Totals
+    requires { ⌜ Working n (now cells) (now classes) (now starts) (now held) (ran (now adjacency) totals) × (k < degrees) ⌝ }
+    ensures { λ r. ⌜ ran (now (adjacency .exit)) r ≡ fillRow n (classAt (now (classes .entry))) (matrixOf (now (cells .entry))) k (ran (now (adjacency .entry)) totals) ⌝ }
+    ensures { λ _. ⌜ now (held .exit) ≡ degreesOf n (now (adjacency .exit)) ⌝ }
+{
+    let mut sum = totals;
+    for i in 0..DEGREES - k {
+        sum = complete_cell(adjacency, held, classes, cells, starts, n, k, k + i, sum);
+    }
+    sum
+}
+
+// All cells, row by row.
+pub fn complete_rows(
+    adjacency: &mut [u8],
+    held: &mut [usize; 200],
+    classes: &[u8; 200],
+    cells: &[u32; 1681],
+    starts: &[usize; 42],
+    n: usize,
+    totals: Totals,
+) -> Totals
+    requires { ⌜ Working n (now cells) (now classes) (now starts) (now held) (ran (now adjacency) totals) ⌝ }
+    ensures { λ r. ⌜ ran (now (adjacency .exit)) r ≡ fillAll n (classAt (now (classes .entry))) (matrixOf (now (cells .entry))) (ran (now (adjacency .entry)) totals) ⌝ }
+{
+    let mut sum = totals;
+    for i in 0..DEGREES - 1 {
+        sum = complete_row(adjacency, held, classes, cells, starts, n, 1 + i, sum);
+    }
+    sum
+}
