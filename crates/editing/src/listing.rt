@@ -6,7 +6,9 @@ ghost use lib.Dec.{eqb, ltb};
 ghost use lib.ListN.{length};
 ghost use lib.Seq.{sets};
 ghost use Rattle.finite.specs.Range.{catTo};
+ghost use Rattle.journal.specs.Journal.{journalSize, journalOk};
 ghost use Rattle.adjacency.specs.Adjacency.{adjacencySize, side, edge};
+ghost use Rattle.state.specs.Laid.{vertexCount};
 ghost use Rattle.editing.specs.List.{edgeBytes, listBytes, listAnswer, listOutput};
 use adjacency::SIDE;
 use answer::Cause;
@@ -62,8 +64,11 @@ fn put_list(adjacency: &[u8], n: usize, output: &mut [u8]) -> usize
     a
 }
 
-// The vertices of a valid laid state.
-fn laid_vertices(journal: &[u8]) -> usize {
+// N of a laid state.
+fn laid_vertices(journal: &[u8]) -> usize
+    requires { ⌜ (length (now journal) ≡ journalSize) × (journalOk (now journal) ≡ true) ⌝ }
+    ensures { λ r. ⌜ r ≡ vertexCount (now (journal .entry)) ⌝ }
+{
     let cells = cells_of(journal);
     let d = counts(&cells);
     vertex_count(&cells, &d)
