@@ -6,21 +6,17 @@ ghost use lib.Dec.{eqb, ltb};
 ghost use lib.ListN.{length};
 ghost use lib.Seq.{sets};
 ghost use Rattle.finite.specs.Range.{catTo};
-ghost use Rattle.journal.specs.Journal.{journalSize, journalOk};
 ghost use Rattle.adjacency.specs.Adjacency.{adjacencySize, side, edge};
-ghost use Rattle.state.specs.Laid.{vertexCount};
 ghost use Rattle.editing.specs.List.{edgeBytes, listBytes, listAnswer, listOutput};
+use crate::laid::laid_vertices;
 use adjacency::SIDE;
 use answer::Cause;
 use answer::WrittenAnswer;
 use answer::refuse;
-use journal::cells_of;
 use journal::phase_of;
 use slices::put;
 use state::is_valid;
 use state::lengths_ok;
-use table::layout::counts;
-use table::layout::vertex_count;
 
 // The bytes of the edge v – w, if it is one, written at place at. The place behind them.
 fn put_edge(adjacency: &[u8], v: usize, w: usize, output: &mut [u8], at: usize) -> usize
@@ -62,16 +58,6 @@ fn put_list(adjacency: &[u8], n: usize, output: &mut [u8]) -> usize
         a = put_row(adjacency, n, v, output, a);
     }
     a
-}
-
-// N of a laid state.
-fn laid_vertices(journal: &[u8]) -> usize
-    requires { ⌜ (length (now journal) ≡ journalSize) × (journalOk (now journal) ≡ true) ⌝ }
-    ensures { λ r. ⌜ r ≡ vertexCount (now (journal .entry)) ⌝ }
-{
-    let cells = cells_of(journal);
-    let d = counts(&cells);
-    vertex_count(&cells, &d)
 }
 
 pub fn edge_list(journal: &[u8], adjacency: &[u8], output: &mut [u8]) -> WrittenAnswer
