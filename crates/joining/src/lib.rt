@@ -11,6 +11,9 @@ ghost use Rattle.graph.specs.Switch.{canTransfer, transfer, orElse};
 ghost use Rattle.adjacency.specs.Adjacency.{adjacencySize, side, edge, setEdge};
 ghost use Rattle.joining.specs.Join.{switchBytes, relieveBytes, joinBytes, joinCount};
 ghost use Rattle.joining.specs.Work.{classAt, degreesOf, Joinable, SaturatedBelow, SaturatedBut, canSubstituteIn, freed};
+
+pub mod cell;
+
 use adjacency::SIDE;
 use adjacency::set_edge;
 use slices::wide;
