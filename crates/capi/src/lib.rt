@@ -81,7 +81,7 @@ pub extern "C" fn replica_add_edge(
     ensures { λ r. ⌜ r ≡ flat (addNumbers (addAnswer (now (journal .entry)) (now (adjacency .entry)) v w)) ⌝ }
     ensures { λ _. ⌜ now (adjacency .exit) ≡ addAdjacency (addAnswer (now (journal .entry)) (now (adjacency .entry)) v w) (now (journal .entry)) (now (adjacency .entry)) v w ⌝ }
 {
-    numbers::of_add(editing::add::add_edge(journal, adjacency, v, w))
+    numbers::of_add(editing::adding::add_edge(journal, adjacency, v, w))
 }
 
 #[no_mangle]
@@ -94,7 +94,7 @@ pub extern "C" fn replica_remove_edge(
     ensures { λ r. ⌜ r ≡ flat (removeNumbers (removeAnswer (now (journal .entry)) (now (adjacency .entry)) v w)) ⌝ }
     ensures { λ _. ⌜ now (adjacency .exit) ≡ removeAdjacency (removeAnswer (now (journal .entry)) (now (adjacency .entry)) v w) (now (adjacency .entry)) v w ⌝ }
 {
-    numbers::of_remove(editing::remove::remove_edge(journal, adjacency, v, w))
+    numbers::of_remove(editing::removing::remove_edge(journal, adjacency, v, w))
 }
 
 #[no_mangle]
@@ -114,7 +114,7 @@ pub extern "C" fn replica_edge_list(
     ensures { λ r. ⌜ r ≡ flat (writtenNumbers (listAnswer (now (journal .entry)) (now (adjacency .entry)) (length (now (output .entry))))) ⌝ }
     ensures { λ _. ⌜ now (output .exit) ≡ listOutput (listAnswer (now (journal .entry)) (now (adjacency .entry)) (length (now (output .entry)))) (now (journal .entry)) (now (adjacency .entry)) (now (output .entry)) ⌝ }
 {
-    numbers::of_written(editing::list::edge_list(journal, adjacency, output))
+    numbers::of_written(editing::listing::edge_list(journal, adjacency, output))
 }
 
 #[no_mangle]

@@ -24,14 +24,19 @@ edgeBytes g v w = cond (ltb v w && eqb (edge g v w) 1) (v ∷ w ∷ []) []
 abbrev pub listBytes : ℕ → List ℕ → List ℕ
 listBytes n g = catTo n (λ v. catTo n (edgeBytes g v))
 
--- the checks 1, 2, 3, 18, for an output of m bytes
+-- on a valid laid state, for an output of m bytes: the check 18
+abbrev pub listLaid : List ℕ → List ℕ → ℕ → WrittenAnswer
+listLaid j g m =
+    unless (leb (length (listBytes (vertexCount j) g)) m) (Refused (refusal OutputLength 0 0))
+    (Written (length (listBytes (vertexCount j) g)))
+
+-- the checks 1, 2, 3, 18
 abbrev pub listAnswer : List ℕ → List ℕ → ℕ → WrittenAnswer
 listAnswer j g m =
     unless (lengthsOk j g) (Refused (refusal Length 0 0))
     (unless (valid j g) (Refused (refusal Invalid 0 0))
     (unless (eqb (phase j) 1) (Refused (refusal Phase 0 0))
-    (unless (leb (length (listBytes (vertexCount j) g)) m) (Refused (refusal OutputLength 0 0))
-    (Written (length (listBytes (vertexCount j) g))))))
+    (listLaid j g m)))
 
 -- the output afterwards: the list, and behind it what was there
 abbrev pub listOutput : WrittenAnswer → List ℕ → List ℕ → List ℕ → List ℕ

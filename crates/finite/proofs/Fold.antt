@@ -8,9 +8,9 @@ use Prim.Native.Nat.{ℕ, zero, suc, _+_, _-_, _≤_, _<_}
 use native.Mathlib.Nat.{not-suc-le-zero, eq-or-lt-of-le, le-of-suc-le-suc, add-zero, suc-add, add-suc}
 use native.Mathlib.Numerals.{add-one}
 use native.Mathlib.Omega.{arith}
-use lib.ListN.{length, getD, set, length-set}
+use lib.ListN.{length, getD, set, length-set, length-append}
 use lib.Seq.{sets, getD-set-same, getD-set-other}
-use Rattle.finite.specs.Range.{foldTo, catTo, fillTo, iterate}
+use Rattle.finite.specs.Range.{sumTo, foldTo, catTo, fillTo, iterate}
 
 pub foldTo-none : {A : Type 0} (f : ℕ → A → A) (s : A) → foldTo 0 f s ≡ s
 unfolding foldTo
@@ -38,6 +38,11 @@ pub catTo-empty : (f : ℕ → List ℕ) (n : ℕ) → ((i : ℕ) → i < n → 
 unfolding catTo
 catTo-empty f zero h = refl
 catTo-empty f (suc n) h = rw (catTo-empty f n (λ i l. h i (omega arith)), h n (omega arith))
+
+pub catTo-length : (f : ℕ → List ℕ) (n : ℕ) → length (catTo n f) ≡ sumTo n (λ i. length (f i))
+unfolding catTo sumTo
+catTo-length f zero = refl
+catTo-length f (suc n) = rw (length-append, catTo-length f n)
 
 -- what is written after a is written behind it
 pub sets-append : (l : List ℕ) (i : ℕ) (a b : List ℕ) → sets l i (a ++ b) ≡ sets (sets l i a) (i + length a) b

@@ -3,30 +3,27 @@ ghost use mathlib.Core.Path.{_≡_};
 ghost use mathlib.Core.Bool.{true};
 ghost use Prim.Native.Nat.{ℕ, _+_, _≤_, _<_};
 ghost use lib.ListN.{length};
-ghost use Rattle.journal.specs.Journal.{phase};
-ghost use Rattle.state.specs.Valid.{lengthsOk, valid};
+ghost use Rattle.journal.specs.Journal.{journalSize, journalOk};
+ghost use Rattle.adjacency.specs.Adjacency.{adjacencySize, side};
+ghost use Rattle.state.specs.Laid.{vertexCount};
 ghost use Rattle.editing.specs.Remove.{removeLaid, removeAnswer, removeAdjacency};
+use crate::laid::laid_vertices;
 use adjacency::edge_at;
 use adjacency::set_edge;
 use answer::Cause;
 use answer::RemoveAnswer;
 use answer::refuse;
-use journal::cells_of;
 use journal::phase_of;
 use state::is_valid;
 use state::lengths_ok;
-use table::layout::counts;
-use table::layout::vertex_count;
 
 // On a valid laid state: the checks 13, 14 and 17, then the edge.
 fn remove_laid(journal: &[u8], adjacency: &mut [u8], v: usize, w: usize) -> RemoveAnswer
-    requires { ⌜ (lengthsOk (now journal) (now adjacency) ≡ true) × (valid (now journal) (now adjacency) ≡ true) × (phase (now journal) ≡ 1) ⌝ }
+    requires { ⌜ (length (now journal) ≡ journalSize) × (journalOk (now journal) ≡ true) × (length (now adjacency) ≡ adjacencySize) × (vertexCount (now journal) ≤ side) ⌝ }
     ensures { λ r. ⌜ r ≡ removeLaid (now (journal .entry)) (now (adjacency .entry)) v w ⌝ }
     ensures { λ _. ⌜ now (adjacency .exit) ≡ removeAdjacency (removeLaid (now (journal .entry)) (now (adjacency .entry)) v w) (now (adjacency .entry)) v w ⌝ }
 {
-    let cells = cells_of(journal);
-    let d = counts(&cells);
-    let n = vertex_count(&cells, &d);
+    let n = laid_vertices(journal);
     if n <= v {
         return RemoveAnswer::Refused(refuse(Cause::VertexNumber, 0, 0));
     }

@@ -6,19 +6,20 @@ ghost use lib.Dec.{eqb, ltb};
 ghost use lib.ListN.{length};
 ghost use lib.Seq.{sets};
 ghost use Rattle.finite.specs.Range.{catTo};
+ghost use Rattle.graph.specs.Graph.{Simple};
+ghost use Rattle.journal.specs.Journal.{journalSize, journalOk};
 ghost use Rattle.adjacency.specs.Adjacency.{adjacencySize, side, edge};
-ghost use Rattle.editing.specs.List.{edgeBytes, listBytes, listAnswer, listOutput};
+ghost use Rattle.state.specs.Laid.{vertexCount};
+ghost use Rattle.editing.specs.List.{edgeBytes, listBytes, listLaid, listAnswer, listOutput};
+use crate::laid::laid_vertices;
 use adjacency::SIDE;
 use answer::Cause;
 use answer::WrittenAnswer;
 use answer::refuse;
-use journal::cells_of;
 use journal::phase_of;
 use slices::put;
 use state::is_valid;
 use state::lengths_ok;
-use table::layout::counts;
-use table::layout::vertex_count;
 
 // The bytes of the edge v – w, if it is one, written at place at. The place behind them.
 fn put_edge(adjacency: &[u8], v: usize, w: usize, output: &mut [u8], at: usize) -> usize
@@ -62,11 +63,18 @@ fn put_list(adjacency: &[u8], n: usize, output: &mut [u8]) -> usize
     a
 }
 
-// The vertices of a valid laid state.
-fn laid_vertices(journal: &[u8]) -> usize {
-    let cells = cells_of(journal);
-    let d = counts(&cells);
-    vertex_count(&cells, &d)
+// On a valid laid state: the check 18, then the list.
+fn list_laid(journal: &[u8], adjacency: &[u8], output: &mut [u8]) -> WrittenAnswer
+    requires { ⌜ (length (now journal) ≡ journalSize) × (journalOk (now journal) ≡ true) × (length (now adjacency) ≡ adjacencySize) × (vertexCount (now journal) ≤ side) × Simple (vertexCount (now journal)) (edge (now adjacency)) ⌝ }
+    ensures { λ r. ⌜ r ≡ listLaid (now (journal .entry)) (now (adjacency .entry)) (length (now (output .entry))) ⌝ }
+    ensures { λ _. ⌜ now (output .exit) ≡ listOutput (listLaid (now (journal .entry)) (now (adjacency .entry)) (length (now (output .entry)))) (now (journal .entry)) (now (adjacency .entry)) (now (output .entry)) ⌝ }
+{
+    let n = laid_vertices(journal);
+    let bytes = 2 * adjacency::edge_count(adjacency, n);
+    if output.len() < bytes {
+        return WrittenAnswer::Refused(refuse(Cause::OutputLength, 0, 0));
+    }
+    WrittenAnswer::Written(put_list(adjacency, n, output))
 }
 
 pub fn edge_list(journal: &[u8], adjacency: &[u8], output: &mut [u8]) -> WrittenAnswer
@@ -82,10 +90,5 @@ pub fn edge_list(journal: &[u8], adjacency: &[u8], output: &mut [u8]) -> Written
     if phase_of(journal) != 1 {
         return WrittenAnswer::Refused(refuse(Cause::Phase, 0, 0));
     }
-    let n = laid_vertices(journal);
-    let bytes = 2 * adjacency::edge_count(adjacency, n);
-    if output.len() < bytes {
-        return WrittenAnswer::Refused(refuse(Cause::OutputLength, 0, 0));
-    }
-    WrittenAnswer::Written(put_list(adjacency, n, output))
+    list_laid(journal, adjacency, output)
 }
