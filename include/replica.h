@@ -1,0 +1,272 @@
+/*
+ * replica.h - build a simple graph with a given joint degree matrix
+ *
+ * Link with libcapi.a.
+ *
+ * WHAT IT DOES
+ *
+ * A graph here is a set of vertices, some pairs of which are joined by an edge; no vertex is joined
+ * to itself and no pair is joined twice. The degree of a vertex is the number of its edges. The
+ * joint degree matrix of a graph has one cell for each pair of degrees (k, l):
+ *
+ *   - for k != l, cell (k, l) is the number of edges that join a vertex of degree k to one of
+ *     degree l; cell (l, k) is the same cell;
+ *   - cell (k, k) is TWICE the number of edges that join two vertices of degree k.
+ *
+ * You hand in such a matrix, and the library builds a graph that has it: up to 200 vertices, degrees
+ * 1 to 40, up to 4,000 edges. You may add and remove edges by hand in between; the library completes
+ * whatever you have left.
+ *
+ * THE CALLS, IN THEIR USUAL ORDER
+ *
+ *   1. replica_clear       both buffers to zero
+ *   2. replica_take_block  the matrix, block by block, numbered 0, 1, 2, ...
+ *   3. replica_lay_out     tests that a graph exists and fixes the vertices
+ *   4. replica_add_edge, replica_remove_edge   by hand, as often as you like
+ *   5. replica_complete    adds all edges still missing
+ *   6. replica_edge_list   the graph as a list of edges
+ *
+ * A block that is sent again under its old number is recognised and not added twice. Vertices are
+ * numbered from 0 by rising degree: first all of degree 1, then all of degree 2, and so on. Once
+ * laid out, any two vertices that are not joined and whose cell is still short of edges can be
+ * joined, in any order; there is no dead end.
+ *
+ * FORMATS
+ *
+ * A record is 4 bytes: k, l, then a 16-bit count, low byte first, with 1 <= k <= l <= 40. It adds
+ * its count to cell (k, l). The same cell may come in several records; counts add up.
+ * A block is 1 to 16 records, so 4 to 64 bytes.
+ * An edge list is 2 bytes an edge, v then w, v < w, ascending by v and then w.
+ *
+ * MEMORY
+ *
+ * The library owns no memory, allocates none, and keeps no pointer after a call. You own all buffers
+ * and may copy, save and reload them as plain bytes; two states in two pairs of buffers are
+ * independent, also in two threads.
+ *
+ *   - journal: REPLICA_JOURNAL_LENGTH bytes, the blocks taken and the phase
+ *   - adjacency: REPLICA_ADJACENCY_LENGTH bytes; byte v * 200 + w is 1 if v and w are joined, else 0
+ *
+ * Every buffer is passed as a pointer and its length in bytes. Pointers must not be NULL, also
+ * where the length is 0, and must point to that many readable bytes (writable ones where the
+ * pointer is not const). A buffer that a call may write must not overlap any other buffer of the
+ * same call. No alignment is needed. Bytes may hold anything: every call checks them.
+ *
+ * ANSWERS AND REFUSALS
+ *
+ * Every function returns a struct ReplicaAnswer by value. If `number` is 0, the call did its work,
+ * and the fields named with the function hold its results; all others are 0. Otherwise `number`
+ * says why the call was refused (the REPLICA_REFUSED_ constants below), `first` and `second` say
+ * where if the constant's comment names a place, and EVERY byte of every buffer is as it was before
+ * the call, outputs included.
+ *
+ * When several reasons hold at once, the first in the order listed with the function is given.
+ */
+#ifndef REPLICA_H
+#define REPLICA_H
+
+#include <stddef.h>
+#include <stdint.h>
+
+#ifdef __cplusplus
+extern "C" {
+#endif
+
+/* Bytes of a journal. */
+#define REPLICA_JOURNAL_LENGTH 4162
+/* Bytes of an adjacency matrix, 200 rows of 200. */
+#define REPLICA_ADJACENCY_LENGTH 40000
+/* Most bytes in a block. */
+#define REPLICA_BLOCK_LENGTH 64
+/* Most blocks in a journal. */
+#define REPLICA_MOST_BLOCKS 64
+/* Most vertices, and the width of a row of the adjacency matrix. */
+#define REPLICA_MOST_VERTICES 200
+/* An output of this many bytes is never too short for replica_edge_list. */
+#define REPLICA_MOST_EDGE_LIST 8000
+/* An output of this many bytes is never too short for replica_jdm_of_edges. */
+#define REPLICA_MOST_RECORDS 3280
+
+/* What every function returns. */
+struct ReplicaAnswer {
+    uint64_t number; /* 0: done; else the refusal, one of the constants below */
+    uint64_t first;
+    uint64_t second;
+    uint64_t third;
+    uint64_t fourth;
+    uint64_t fifth;
+};
+
+/* Why a call was refused. Places are in `first` and `second`; where none is named, both are 0. */
+enum {
+    /* The journal or the adjacency matrix has another length than the two above. */
+    REPLICA_REFUSED_LENGTH = 1,
+    /* Journal and adjacency matrix are not a valid state: something other than these functions has
+     * written them, or they were never cleared. */
+    REPLICA_REFUSED_INVALID = 2,
+    /* Not in this phase: laid out already, or not laid out yet. */
+    REPLICA_REFUSED_PHASE = 3,
+    /* The block has 0 bytes, more than 64, or not a multiple of 4. */
+    REPLICA_REFUSED_BLOCK_LENGTH = 4,
+    /* A record has a degree outside 1 to 40, or k > l. first: index of the first such record. */
+    REPLICA_REFUSED_RECORD = 5,
+    /* The block number is too high to come next, or no such block is held. */
+    REPLICA_REFUSED_BLOCK_NUMBER = 6,
+    /* A block with this number but other bytes is held. */
+    REPLICA_REFUSED_BLOCK_DIFFERS = 7,
+    /* 64 blocks are held; there is no room for a new one. */
+    REPLICA_REFUSED_JOURNAL_FULL = 8,
+    /* A cell (k, k) is odd. first and second: k. */
+    REPLICA_REFUSED_ODD_DIAGONAL = 9,
+    /* The sum of row k is not divisible by k. first: k. */
+    REPLICA_REFUSED_ROW = 10,
+    /* A cell (k, l) is larger than any simple graph allows. first: k, second: l. */
+    REPLICA_REFUSED_CELL = 11,
+    /* The matrix needs more than 200 vertices. */
+    REPLICA_REFUSED_VERTICES = 12,
+    /* A vertex number is not below the number of vertices. */
+    REPLICA_REFUSED_NO_VERTEX = 13,
+    /* v and w are the same vertex. */
+    REPLICA_REFUSED_SAME_VERTEX = 14,
+    /* v and w are joined already. */
+    REPLICA_REFUSED_EDGE_PRESENT = 15,
+    /* The cell of the two vertices has all its edges. first, second: their degrees, lower first. */
+    REPLICA_REFUSED_NOT_SHORT = 16,
+    /* v and w are not joined. */
+    REPLICA_REFUSED_EDGE_ABSENT = 17,
+    /* The output is too short. */
+    REPLICA_REFUSED_OUTPUT = 18,
+    /* The edge list has an odd length (first: its number of whole edges), or an edge with v >= w,
+     * w >= 200 or not above the edge before it (first: index of the first such edge). */
+    REPLICA_REFUSED_EDGE_LIST = 19,
+    /* A vertex of the edge list has a degree over 40. first: the lowest such vertex. */
+    REPLICA_REFUSED_DEGREE = 20
+};
+
+/*
+ * Sets every byte of both buffers to 0: no blocks, no edges. The only function that does not ask for
+ * a valid state, so it is the first to call on fresh memory.
+ *
+ * Refused: 1.
+ */
+struct ReplicaAnswer replica_clear(uint8_t *journal, size_t journal_length,
+                                   uint8_t *adjacency, size_t adjacency_length);
+
+/*
+ * Takes block `number`, before laying out. The next block has the number of blocks held so far.
+ *
+ *   first   0: the block is new and is in the journal now
+ *           1: the same block (number, length and bytes) is held already; nothing changes. This is
+ *              answered after laying out too.
+ *   second  when new: the number the next block will have
+ *
+ * Refused: 1, 2, 4, 5, 6 (number above the count of blocks held), 7, 3 (new, but laid out already),
+ * 8.
+ */
+struct ReplicaAnswer replica_take_block(uint8_t *journal, size_t journal_length,
+                                        const uint8_t *adjacency, size_t adjacency_length,
+                                        uint64_t number,
+                                        const uint8_t *block, size_t block_length);
+
+/*
+ * Finds a block that is held. Its bytes lie in your journal, at journal + first.
+ *
+ *   first   offset of the block in the journal
+ *   second  its length in bytes
+ *
+ * Refused: 1, 2, 6.
+ */
+struct ReplicaAnswer replica_held_block(const uint8_t *journal, size_t journal_length,
+                                        const uint8_t *adjacency, size_t adjacency_length,
+                                        uint64_t number);
+
+/*
+ * Tests that a simple graph has the sum of all blocks, and fixes the vertices. No new block is taken
+ * afterwards.
+ *
+ *   first   the number of vertices; 0 if there are no blocks
+ *
+ * Refused: 1, 2, 3 (laid out already), 9, 10, 11 (no simple graph of any size has this matrix), 12
+ * (there is one, but it has more than 200 vertices). After 9 to 12 further blocks can be taken.
+ */
+struct ReplicaAnswer replica_lay_out(uint8_t *journal, size_t journal_length,
+                                     const uint8_t *adjacency, size_t adjacency_length);
+
+/*
+ * Joins v and w. If one of them has as many edges as its degree already, it hands one of them to
+ * another vertex of the same degree first; this is a switch. v is looked at before w, so naming the
+ * pair the other way round may move other edges. No cell of the matrix changes by a switch.
+ *
+ *   first   switches made, 0 to 2
+ *
+ * Refused: 1, 2, 3 (not laid out yet), 13, 14, 15, 16.
+ */
+struct ReplicaAnswer replica_add_edge(const uint8_t *journal, size_t journal_length,
+                                      uint8_t *adjacency, size_t adjacency_length,
+                                      uint64_t v, uint64_t w);
+
+/*
+ * Removes the edge between v and w.
+ *
+ * Refused: 1, 2, 3 (not laid out yet), 13, 14, 17.
+ */
+struct ReplicaAnswer replica_remove_edge(const uint8_t *journal, size_t journal_length,
+                                         uint8_t *adjacency, size_t adjacency_length,
+                                         uint64_t v, uint64_t w);
+
+/*
+ * Adds edges until every cell has its count. It never fails on the way: it adds exactly as many
+ * edges as are missing, from any start. The same start always gives the same graph.
+ *
+ *   first   edges added
+ *   second  switches made for them
+ *
+ * Refused: 1, 2, 3 (not laid out yet).
+ */
+struct ReplicaAnswer replica_complete(const uint8_t *journal, size_t journal_length,
+                                      uint8_t *adjacency, size_t adjacency_length);
+
+/*
+ * Writes the edges laid so far as an edge list. Output bytes after the written part are untouched.
+ *
+ *   first   bytes written, 2 for each edge
+ *
+ * Refused: 1, 2, 3 (not laid out yet), 18.
+ */
+struct ReplicaAnswer replica_edge_list(const uint8_t *journal, size_t journal_length,
+                                       const uint8_t *adjacency, size_t adjacency_length,
+                                       uint8_t *output, size_t output_length);
+
+/*
+ * Writes the joint degree matrix of an edge list, which may be of any graph on vertices 0 to 199:
+ * its non-zero cells with k <= l as records, ascending by k and then l. Output bytes after the
+ * written part are untouched. It needs no journal and no adjacency matrix.
+ *
+ *   first   bytes written, 4 for each cell
+ *
+ * Refused: 19, 20, 18.
+ */
+struct ReplicaAnswer replica_jdm_of_edges(const uint8_t *edges, size_t edges_length,
+                                          uint8_t *output, size_t output_length);
+
+/*
+ * Reports on a state.
+ *
+ *   first   phase: 0 while blocks are taken, 1 when laid out
+ *   second  blocks held
+ *   third   number of vertices
+ *   fourth  edges wanted: those of the complete graph
+ *   fifth   edges laid so far
+ *
+ * The last three are 0 while blocks are taken.
+ *
+ * Refused: 1, 2.
+ */
+struct ReplicaAnswer replica_figures(const uint8_t *journal, size_t journal_length,
+                                     const uint8_t *adjacency, size_t adjacency_length);
+
+#ifdef __cplusplus
+}
+#endif
+
+#endif

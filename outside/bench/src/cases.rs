@@ -1,0 +1,279 @@
+//! The calls that are measured, and the states they are made on.
+
+use outside_tests::call::{Call, Entry, Memory};
+use reference::graphs::{self, Graph};
+use reference::journal::{self, record, LAID, TAKING};
+use reference::random::Random;
+use reference::{adjacency, Matrix};
+use reference::{ADJACENCY_LENGTH, BLOCK_LENGTH, JOURNAL_LENGTH, MOST_BLOCKS};
+
+const SIZES: [usize; 4] = [25, 50, 100, 200];
+
+/// One call on a state.
+pub struct Case {
+    pub name: String,
+    pub call: Call,
+    journal: Vec<u8>,
+    adjacency: Vec<u8>,
+}
+
+impl Case {
+    pub fn entry(&self) -> Entry {
+        self.call.entry()
+    }
+
+    /// Fresh copies of all bytes of the call.
+    pub fn memory(&self) -> Memory {
+        Memory::of(&self.journal, &self.adjacency, &self.call)
+    }
+}
+
+fn case(name: &str, call: Call, journal: Vec<u8>, adjacency: Vec<u8>) -> Case {
+    Case {
+        name: name.to_string(),
+        call,
+        journal,
+        adjacency,
+    }
+}
+
+/// All cases, entry by entry.
+pub fn all() -> Vec<Case> {
+    let mut cases = Vec::new();
+    for size in SIZES {
+        cases.extend(completions(size));
+    }
+    for size in SIZES {
+        cases.extend(edges_by_hand(size));
+    }
+    cases.extend(blocks());
+    for size in SIZES {
+        cases.extend(layings_out(size));
+    }
+    for size in SIZES {
+        cases.extend(reports(size));
+    }
+    cases.push(case(
+        "any",
+        Call::Clear,
+        vec![1; JOURNAL_LENGTH],
+        no_edges(),
+    ));
+    cases.sort_by_key(|case| case.entry() as usize);
+    cases
+}
+
+fn no_edges() -> Vec<u8> {
+    vec![0; ADJACENCY_LENGTH]
+}
+
+/// A journal with these records in blocks of 16, written without any entry.
+fn journal_of(phase: u8, records: &[u8]) -> Vec<u8> {
+    let mut bytes = vec![0; JOURNAL_LENGTH];
+    bytes[0] = phase;
+    for (i, block) in records.chunks(BLOCK_LENGTH).enumerate() {
+        let start = journal::slot_start(i);
+        bytes[1] += 1;
+        bytes[start] = block.len() as u8;
+        bytes[start + 1..start + 1 + block.len()].copy_from_slice(block);
+    }
+    bytes
+}
+
+fn laid(matrix: &Matrix) -> Vec<u8> {
+    journal_of(LAID, &matrix.records())
+}
+
+/// The records of a matrix, counts split until there are as many as a journal holds.
+fn all_records(matrix: &Matrix) -> Vec<u8> {
+    let mut cells = matrix.nonzero_cells();
+    let room = MOST_BLOCKS * BLOCK_LENGTH / 4;
+    let mut next = 0;
+    while cells.len() < room {
+        let (k, l, count) = cells[next];
+        if count > 1 {
+            cells[next].2 = count - 1;
+            cells.push((k, l, 1));
+        }
+        next = (next + 1) % cells.len();
+    }
+    cells
+        .iter()
+        .flat_map(|&(k, l, count)| record(k, l, count))
+        .collect()
+}
+
+/// The degree of the regular graph on so many vertices; 200 vertices have 4,000 edges.
+fn regular_degree(size: usize) -> usize {
+    size / 5 / 2 * 2
+}
+
+fn regular(size: usize) -> Graph {
+    graphs::regular(size, regular_degree(size))
+}
+
+/// An average degree of 21 where there is room: 2,100 edges on 200 vertices.
+fn random(size: usize) -> Graph {
+    let edges = (21 * size / 2).min(graphs::pairs(size) / 2);
+    graphs::even(size, edges, &mut Random::new(1))
+}
+
+fn hubs(size: usize) -> Graph {
+    graphs::hubs(size, 6, &mut Random::new(2))
+}
+
+/// Complete bipartite graphs, one or two of them: cells as large as they can be, or half of it.
+fn bipartite(size: usize) -> Graph {
+    let (side, copies) = match size {
+        25 => (12, 1),
+        50 => (24, 1),
+        100 => (24, 2),
+        _ => (39, 2),
+    };
+    let width = 2 * side + 1;
+    let mut graph = Graph::new(copies * width);
+    for start in (0..copies).map(|copy| copy * width) {
+        for v in 0..side {
+            for w in side..width {
+                graph.join(start + v, start + w);
+            }
+        }
+    }
+    graph
+}
+
+/// Degrees spread over 1 to 40: about 600 cells on 200 vertices.
+fn cells(size: usize) -> Graph {
+    graphs::spread(size, 40.min(size - 1), &mut Random::new(3))
+}
+
+/// Four cliques of the regular table's degree, all their vertices saturated, the others bare: every
+/// edge that is still missing wants two switches.
+fn four_cliques(size: usize) -> Graph {
+    let clique = regular_degree(size) + 1;
+    graphs::cliques(4 * clique, clique)
+}
+
+fn completions(size: usize) -> Vec<Case> {
+    let graphs = [
+        ("regular", regular(size)),
+        ("random", random(size)),
+        ("hubs", hubs(size)),
+        ("bipartite", bipartite(size)),
+        ("cells", cells(size)),
+    ];
+    let mut cases: Vec<Case> = graphs
+        .iter()
+        .map(|(name, graph)| {
+            let name = format!("{name}-{size}");
+            case(&name, Call::Complete, laid(&graph.matrix()), no_edges())
+        })
+        .collect();
+    let journal = laid(&regular(size).matrix());
+    let start = four_cliques(size).adjacency();
+    let name = format!("start-{size}");
+    cases.push(case(&name, Call::Complete, journal.clone(), start));
+    let name = format!("nothing-{size}");
+    let complete = regular(size).adjacency();
+    cases.push(case(&name, Call::Complete, journal, complete));
+    cases
+}
+
+fn edges_by_hand(size: usize) -> Vec<Case> {
+    let graph = regular(size);
+    let journal = laid(&graph.matrix());
+    let complete = graph.adjacency();
+    let mut one_missing = complete.clone();
+    adjacency::remove(&mut one_missing, 0, 1);
+    // Two vertices far from the missing edge and from each other: both are saturated.
+    let (v, w) = (size as u64 / 4, 3 * size as u64 / 4);
+    let named = |name: &str| format!("{name}-{size}");
+    vec![
+        case(
+            &named("plain"),
+            Call::AddEdge { v: 0, w: 1 },
+            journal.clone(),
+            one_missing.clone(),
+        ),
+        case(
+            &named("switches"),
+            Call::AddEdge { v, w },
+            journal.clone(),
+            one_missing,
+        ),
+        case(
+            &named("plain"),
+            Call::RemoveEdge { v: 0, w: 1 },
+            journal,
+            complete,
+        ),
+    ]
+}
+
+fn blocks() -> Vec<Case> {
+    let graph = cells(200).by_rising_degree();
+    let records = all_records(&graph.matrix());
+    let (first, last) = (0, MOST_BLOCKS - 1);
+    let block = |i: usize| records[i * BLOCK_LENGTH..(i + 1) * BLOCK_LENGTH].to_vec();
+    let take = |i: usize| Call::TakeBlock {
+        number: i as u64,
+        block: block(i),
+    };
+    let held = Call::HeldBlock {
+        number: last as u64,
+    };
+    let empty = journal_of(TAKING, &[]);
+    let but_last = journal_of(TAKING, &records[..last * BLOCK_LENGTH]);
+    let full = journal_of(TAKING, &records);
+    let laid = journal_of(LAID, &records);
+    vec![
+        case("new-1st", take(first), empty, no_edges()),
+        case("new-64th", take(last), but_last, no_edges()),
+        case("held-64th", take(last), full.clone(), no_edges()),
+        case(
+            "held-64th-laid",
+            take(last),
+            laid.clone(),
+            graph.adjacency(),
+        ),
+        case("64th", held.clone(), full, no_edges()),
+        case("64th-laid", held, laid, graph.adjacency()),
+    ]
+}
+
+fn layings_out(size: usize) -> Vec<Case> {
+    let lay = |name: &str, records: &[u8]| {
+        let name = format!("{name}-{size}");
+        case(&name, Call::LayOut, journal_of(TAKING, records), no_edges())
+    };
+    let mut cases = vec![
+        lay("regular", &regular(size).matrix().records()),
+        lay("cells", &cells(size).matrix().records()),
+    ];
+    if size == 200 {
+        cases.push(lay("64-blocks", &all_records(&cells(size).matrix())));
+    }
+    cases
+}
+
+fn reports(size: usize) -> Vec<Case> {
+    let mut cases = Vec::new();
+    for (name, graph) in [("regular", regular(size)), ("cells", cells(size))] {
+        let name = format!("{name}-{size}");
+        let graph = graph.by_rising_degree();
+        let journal = laid(&graph.matrix());
+        let edges = graph.edge_list();
+        let list = Call::EdgeList {
+            output: vec![0; edges.len()],
+        };
+        let jdm = Call::JdmOfEdges {
+            edges,
+            output: vec![0; graph.matrix().records().len()],
+        };
+        let adjacency = graph.adjacency();
+        for call in [Call::Figures, list, jdm] {
+            cases.push(case(&name, call, journal.clone(), adjacency.clone()));
+        }
+    }
+    cases
+}

@@ -1,0 +1,72 @@
+//! Times the library against the reference, in one run.
+
+use crate::cases::Case;
+use outside_tests::call::{on_library, on_reference, Memory};
+use std::hint::black_box;
+use std::time::{Duration, Instant};
+
+/// Calls are repeated until they took this long or were made this often.
+const ENOUGH: Duration = Duration::from_millis(30);
+const MOST_CALLS: u32 = 1_000;
+
+pub fn print(cases: &[Case]) {
+    println!(
+        "{:<13}{:<16}{:>14}{:>14}{:>10}",
+        "entry", "case", "library ns", "reference ns", "ratio"
+    );
+    for case in cases {
+        let library = time(case, |memory| {
+            on_library(
+                &case.call,
+                &mut memory.journal,
+                &mut memory.adjacency,
+                &memory.input,
+                &mut memory.output,
+            )
+        });
+        let reference = time(case, |memory| on_reference(&case.call, memory));
+        println!(
+            "{:<13}{:<16}{:>14}{:>14}{:>10.1}",
+            case.entry().name(),
+            case.name,
+            library.as_nanos(),
+            reference.as_nanos(),
+            reference.as_secs_f64() / library.as_secs_f64().max(1e-9)
+        );
+    }
+}
+
+/// The shortest time of one call, of many: other work on the machine only ever adds to it. Copies
+/// are made outside of it.
+fn time(case: &Case, call: impl Fn(&mut Memory) -> [u64; 6]) -> Duration {
+    let mut shortest = Duration::MAX;
+    let mut spent = Duration::ZERO;
+    let mut calls = 0;
+    while spent < ENOUGH && calls < MOST_CALLS {
+        let mut memory = case.memory();
+        let start = Instant::now();
+        let numbers = black_box(call(black_box(&mut memory)));
+        let took = start.elapsed();
+        assert_eq!(numbers[0], 0, "{} was refused", case.name);
+        shortest = shortest.min(took);
+        spent += took;
+        calls += 1;
+    }
+    shortest
+}
+
+#[cfg(test)]
+mod tests {
+    use super::*;
+    use crate::cases;
+
+    /// Every case does its work, and the states written by hand are what they should be.
+    #[test]
+    fn no_case_is_refused() {
+        for case in cases::all() {
+            let mut memory = case.memory();
+            let numbers = on_reference(&case.call, &mut memory);
+            assert_eq!(numbers[0], 0, "{} {}", case.entry().name(), case.name);
+        }
+    }
+}

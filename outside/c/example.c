@@ -1,0 +1,49 @@
+/*
+ * Lays out the table of document 004 - cells (1, 3) = 1, (2, 2) = 2, (2, 3) = 2 - completes it and
+ * prints its four edges.
+ */
+#include <inttypes.h>
+#include <stdio.h>
+#include <stdlib.h>
+
+#include "replica.h"
+
+static uint8_t journal[REPLICA_JOURNAL_LENGTH];
+static uint8_t adjacency[REPLICA_ADJACENCY_LENGTH];
+static uint8_t edges[REPLICA_MOST_EDGE_LIST];
+
+static const uint8_t block[] = {
+    1, 3, 1, 0,
+    2, 2, 2, 0,
+    2, 3, 2, 0,
+};
+
+/* Ends the program on a refusal. */
+static struct ReplicaAnswer done(const char *what, struct ReplicaAnswer answer)
+{
+    if (answer.number != 0) {
+        fprintf(stderr, "%s: refused %" PRIu64 " %" PRIu64 " %" PRIu64 "\n",
+                what, answer.number, answer.first, answer.second);
+        exit(1);
+    }
+    return answer;
+}
+
+int main(void)
+{
+    struct ReplicaAnswer list;
+
+    done("clear", replica_clear(journal, sizeof journal, adjacency, sizeof adjacency));
+    done("take_block", replica_take_block(journal, sizeof journal, adjacency, sizeof adjacency,
+                                          0, block, sizeof block));
+    /* Sent again after a time-out: held, and not added twice. */
+    done("take_block", replica_take_block(journal, sizeof journal, adjacency, sizeof adjacency,
+                                          0, block, sizeof block));
+    done("lay_out", replica_lay_out(journal, sizeof journal, adjacency, sizeof adjacency));
+    done("complete", replica_complete(journal, sizeof journal, adjacency, sizeof adjacency));
+    list = done("edge_list", replica_edge_list(journal, sizeof journal, adjacency, sizeof adjacency,
+                                               edges, sizeof edges));
+    for (uint64_t i = 0; i < list.first; i += 2)
+        printf("%d %d\n", edges[i], edges[i + 1]);
+    return 0;
+}

@@ -1,0 +1,228 @@
+//! The ten entries. Each runs its checks in the order of document 01's table and writes only when
+//! all of them have passed, so that a refusal leaves every byte as it was.
+
+use crate::{
+    adjacency, journal, refused, refused_at, switching, validity, Matrix, Refused,
+    ADJACENCY_LENGTH, JOURNAL_LENGTH, MOST_BLOCKS, MOST_DEGREE, MOST_VERTICES,
+};
+
+/// What taking a block answers when it is not refused.
+#[derive(Clone, Copy, Debug, PartialEq, Eq)]
+pub enum Take {
+    /// The block is new; the number is the block count afterwards.
+    Taken(u64),
+    /// The same block was taken before.
+    Held,
+}
+
+/// Phase, blocks, N, edges wanted, edges laid.
+#[derive(Clone, Copy, Debug, PartialEq, Eq)]
+pub struct Figures {
+    pub phase: u64,
+    pub blocks: u64,
+    pub vertices: u64,
+    pub edges_wanted: u64,
+    pub edges_laid: u64,
+}
+
+/// Check 1: both lengths, before any byte is looked at.
+fn check_lengths(journal: &[u8], adjacency: &[u8]) -> Result<(), Refused> {
+    if journal.len() != JOURNAL_LENGTH || adjacency.len() != ADJACENCY_LENGTH {
+        return Err(refused(1));
+    }
+    Ok(())
+}
+
+/// Checks 1 and 2.
+fn check_state(journal: &[u8], adjacency: &[u8]) -> Result<(), Refused> {
+    check_lengths(journal, adjacency)?;
+    if !validity::valid(journal, adjacency) {
+        return Err(refused(2));
+    }
+    Ok(())
+}
+
+/// Checks 1, 2, and 3 for the entries that need vertices.
+fn check_laid(journal: &[u8], adjacency: &[u8]) -> Result<(), Refused> {
+    check_state(journal, adjacency)?;
+    if journal::phase(journal) != journal::LAID {
+        return Err(refused(3));
+    }
+    Ok(())
+}
+
+/// Checks 13 and 14.
+fn check_pair(v: u64, w: u64, vertices: usize) -> Result<(usize, usize), Refused> {
+    if v >= vertices as u64 || w >= vertices as u64 {
+        return Err(refused(13));
+    }
+    if v == w {
+        return Err(refused(14));
+    }
+    Ok((v as usize, w as usize))
+}
+
+/// Check 18, and the writing. Returns the written length.
+fn write(bytes: &[u8], output: &mut [u8]) -> Result<u64, Refused> {
+    if output.len() < bytes.len() {
+        return Err(refused(18));
+    }
+    output[..bytes.len()].copy_from_slice(bytes);
+    Ok(bytes.len() as u64)
+}
+
+/// Sets every byte to zero.
+pub fn clear(journal: &mut [u8], adjacency: &mut [u8]) -> Result<(), Refused> {
+    check_lengths(journal, adjacency)?;
+    journal.fill(0);
+    adjacency.fill(0);
+    Ok(())
+}
+
+/// Takes a new block, or finds it held already.
+pub fn take_block(
+    journal: &mut [u8],
+    adjacency: &[u8],
+    number: u64,
+    block: &[u8],
+) -> Result<Take, Refused> {
+    check_state(journal, adjacency)?;
+    journal::check_block(block)?;
+    let blocks = journal::block_count(journal);
+    if number > blocks as u64 {
+        return Err(refused(6));
+    }
+    if number < blocks as u64 {
+        if journal::block(journal, number as usize) != block {
+            return Err(refused(7));
+        }
+        return Ok(Take::Held);
+    }
+    if journal::phase(journal) == journal::LAID {
+        return Err(refused(3));
+    }
+    if blocks == MOST_BLOCKS {
+        return Err(refused(8));
+    }
+    let start = journal::slot_start(blocks);
+    journal[start] = block.len() as u8;
+    journal[start + 1..start + 1 + block.len()].copy_from_slice(block);
+    journal[1] += 1;
+    Ok(Take::Taken(blocks as u64 + 1))
+}
+
+/// Where a held block lies in the journal: offset and length.
+pub fn held_block(journal: &[u8], adjacency: &[u8], number: u64) -> Result<(u64, u64), Refused> {
+    check_state(journal, adjacency)?;
+    if number >= journal::block_count(journal) as u64 {
+        return Err(refused(6));
+    }
+    let start = journal::slot_start(number as usize);
+    Ok((start as u64 + 1, journal[start] as u64))
+}
+
+/// Lays out the vertices. Returns their number.
+pub fn lay_out(journal: &mut [u8], adjacency: &[u8]) -> Result<u64, Refused> {
+    check_state(journal, adjacency)?;
+    if journal::phase(journal) == journal::LAID {
+        return Err(refused(3));
+    }
+    let vertices = journal::summed_matrix(journal).check()?;
+    journal[0] = journal::LAID;
+    Ok(vertices)
+}
+
+/// Joins v and w. Returns the switches made.
+pub fn add_edge(journal: &[u8], adjacency: &mut [u8], v: u64, w: u64) -> Result<u64, Refused> {
+    check_laid(journal, adjacency)?;
+    let wanted = journal::summed_matrix(journal);
+    let degrees = wanted.degrees();
+    let (v, w) = check_pair(v, w, degrees.len())?;
+    if adjacency::joined(adjacency, v, w) {
+        return Err(refused(15));
+    }
+    let (k, l) = (degrees[v].min(degrees[w]), degrees[v].max(degrees[w]));
+    if adjacency::counted_at(adjacency, &degrees).cell(k, l) >= wanted.cell(k, l) {
+        return Err(refused_at(16, k as u64, l as u64));
+    }
+    Ok(switching::join(adjacency, &degrees, v, w))
+}
+
+/// Removes the edge between v and w.
+pub fn remove_edge(journal: &[u8], adjacency: &mut [u8], v: u64, w: u64) -> Result<(), Refused> {
+    check_laid(journal, adjacency)?;
+    let vertices = journal::summed_matrix(journal).vertex_count() as usize;
+    let (v, w) = check_pair(v, w, vertices)?;
+    if !adjacency::joined(adjacency, v, w) {
+        return Err(refused(17));
+    }
+    adjacency::remove(adjacency, v, w);
+    Ok(())
+}
+
+/// Joins until no cell is short. Returns joins and switches.
+pub fn complete(journal: &[u8], adjacency: &mut [u8]) -> Result<(u64, u64), Refused> {
+    check_laid(journal, adjacency)?;
+    let wanted = journal::summed_matrix(journal);
+    Ok(switching::complete(adjacency, &wanted))
+}
+
+/// Writes the edges, 2 bytes each. Returns the written length.
+pub fn edge_list(journal: &[u8], adjacency: &[u8], output: &mut [u8]) -> Result<u64, Refused> {
+    check_laid(journal, adjacency)?;
+    let mut bytes = Vec::new();
+    for (v, w) in adjacency::edges(adjacency) {
+        bytes.push(v as u8);
+        bytes.push(w as u8);
+    }
+    write(&bytes, output)
+}
+
+/// Writes the joint degree matrix of a list of edges as records. Returns the written length.
+pub fn jdm_of_edges(edges: &[u8], output: &mut [u8]) -> Result<u64, Refused> {
+    if edges.len() % 2 != 0 {
+        return Err(refused_at(19, edges.len() as u64 / 2, 0));
+    }
+    let pairs: Vec<(usize, usize)> = edges
+        .chunks(2)
+        .map(|pair| (pair[0] as usize, pair[1] as usize))
+        .collect();
+    for (index, &(v, w)) in pairs.iter().enumerate() {
+        let not_above = index > 0 && (v, w) <= pairs[index - 1];
+        if v >= w || w >= MOST_VERTICES || not_above {
+            return Err(refused_at(19, index as u64, 0));
+        }
+    }
+    let degree_of = |vertex: usize| {
+        let at = |&&(v, w): &&(usize, usize)| v == vertex || w == vertex;
+        pairs.iter().filter(at).count()
+    };
+    let degrees: Vec<usize> = (0..MOST_VERTICES).map(degree_of).collect();
+    if let Some(vertex) = degrees.iter().position(|&degree| degree > MOST_DEGREE) {
+        return Err(refused_at(20, vertex as u64, 0));
+    }
+    let mut matrix = Matrix::new();
+    for &(v, w) in &pairs {
+        matrix.add_edge(degrees[v], degrees[w]);
+    }
+    write(&matrix.records(), output)
+}
+
+/// Phase, blocks, N, edges wanted and edges laid; the last three are 0 while blocks are taken.
+pub fn figures(journal: &[u8], adjacency: &[u8]) -> Result<Figures, Refused> {
+    check_state(journal, adjacency)?;
+    let mut figures = Figures {
+        phase: journal::phase(journal) as u64,
+        blocks: journal::block_count(journal) as u64,
+        vertices: 0,
+        edges_wanted: 0,
+        edges_laid: 0,
+    };
+    if journal::phase(journal) == journal::LAID {
+        let wanted = journal::summed_matrix(journal);
+        figures.vertices = wanted.vertex_count();
+        figures.edges_wanted = wanted.edge_count();
+        figures.edges_laid = adjacency::edges(adjacency).len() as u64;
+    }
+    Ok(figures)
+}

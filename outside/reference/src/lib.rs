@@ -1,0 +1,65 @@
+//! A second implementation of document 01, written from the document alone.
+//!
+//! It is meant to be read and believed, not to be fast: every call recounts everything from the
+//! bytes it is lent. It shares nothing with the library it is compared with.
+//!
+//! * [`matrix`]: the joint degree matrix and tests 9 to 12
+//! * [`journal`]: blocks, records and slots
+//! * [`adjacency`]: the adjacency matrix and its counts
+//! * [`validity`]: when journal and adjacency together are a valid state
+//! * [`switching`]: the neighbour switch, adding one edge, completing
+//! * [`entries`]: the ten entries, in document 01's order of checks
+//! * [`six`]: the same ten entries, answering with the six numbers of the C interface
+//! * [`program`]: what the program prints for an input
+//! * [`search`]: a second builder, by exhaustive search instead of switching
+//! * [`graphs`], [`random`]: graphs whose matrix is known, and reproducible random numbers
+
+pub mod adjacency;
+pub mod entries;
+pub mod graphs;
+pub mod journal;
+pub mod matrix;
+pub mod program;
+pub mod random;
+pub mod search;
+pub mod six;
+pub mod switching;
+pub mod validity;
+
+pub use entries::*;
+pub use matrix::Matrix;
+
+/// Bytes of a journal: phase, block count, and 64 slots of one length byte and 64 bytes.
+pub const JOURNAL_LENGTH: usize = 4162;
+/// Bytes of an adjacency matrix: 200 rows of 200 bytes.
+pub const ADJACENCY_LENGTH: usize = 40_000;
+/// Most blocks in a journal.
+pub const MOST_BLOCKS: usize = 64;
+/// Most bytes in a block.
+pub const BLOCK_LENGTH: usize = 64;
+/// Most vertices in a state, and the width of an adjacency row.
+pub const MOST_VERTICES: usize = 200;
+/// Highest degree.
+pub const MOST_DEGREE: usize = 40;
+
+/// A refusal: its number in document 01 and its two places, 0 where none is named.
+#[derive(Clone, Copy, Debug, PartialEq, Eq)]
+pub struct Refused {
+    pub number: u64,
+    pub first: u64,
+    pub second: u64,
+}
+
+/// A refusal that names no place.
+pub fn refused(number: u64) -> Refused {
+    refused_at(number, 0, 0)
+}
+
+/// A refusal that names one or two places.
+pub fn refused_at(number: u64, first: u64, second: u64) -> Refused {
+    Refused {
+        number,
+        first,
+        second,
+    }
+}

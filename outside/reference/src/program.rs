@@ -1,0 +1,64 @@
+//! What the program prints for an input.
+
+use crate::{
+    add_edge, adjacency, complete, lay_out, take_block, Refused, ADJACENCY_LENGTH, BLOCK_LENGTH,
+    JOURNAL_LENGTH,
+};
+
+/// The text on standard output, every line ended by one newline.
+pub fn output(input: &[u8]) -> String {
+    match run(input) {
+        Ok(text) => text,
+        Err(refused) => format!(
+            "refused {} {} {}\n",
+            refused.number, refused.first, refused.second
+        ),
+    }
+}
+
+fn run(input: &[u8]) -> Result<String, Refused> {
+    let laid = lay(input, &[])?;
+    let edges = adjacency::edges(&laid.adjacency);
+    let mut text = format!(
+        "boards {} links {} switches {}\n",
+        laid.vertices,
+        edges.len(),
+        laid.switches
+    );
+    for (v, w) in edges {
+        text.push_str(&format!("{v} {w}\n"));
+    }
+    Ok(text)
+}
+
+/// A completed state with what was answered on the way.
+#[derive(Clone, Debug)]
+pub struct Laid {
+    pub journal: Vec<u8>,
+    pub adjacency: Vec<u8>,
+    pub vertices: u64,
+    /// Joins and switches of the completion alone.
+    pub joins: u64,
+    pub switches: u64,
+}
+
+/// Takes all records, lays out, adds the given edges by hand, and completes.
+pub fn lay(records: &[u8], by_hand: &[(u64, u64)]) -> Result<Laid, Refused> {
+    let mut journal = vec![0; JOURNAL_LENGTH];
+    let mut adjacency = vec![0; ADJACENCY_LENGTH];
+    for (number, block) in records.chunks(BLOCK_LENGTH).enumerate() {
+        take_block(&mut journal, &adjacency, number as u64, block)?;
+    }
+    let vertices = lay_out(&mut journal, &adjacency)?;
+    for &(v, w) in by_hand {
+        add_edge(&journal, &mut adjacency, v, w)?;
+    }
+    let (joins, switches) = complete(&journal, &mut adjacency)?;
+    Ok(Laid {
+        journal,
+        adjacency,
+        vertices,
+        joins,
+        switches,
+    })
+}

@@ -1,0 +1,85 @@
+//! The neighbour switch, adding one edge, and completing, on a valid laid state.
+
+use crate::{adjacency, Matrix, MOST_DEGREE};
+
+/// Whether v has as many edges as its degree (document 01: full).
+fn saturated(adjacency: &[u8], degrees: &[usize], v: usize) -> bool {
+    adjacency::edges_at(adjacency, v) == degrees[v]
+}
+
+/// Frees one edge place of `a`, which is about to be joined to `other`.
+fn neighbor_switch(adjacency: &mut [u8], degrees: &[usize], a: usize, other: usize) {
+    let b = (0..degrees.len())
+        .find(|&b| degrees[b] == degrees[a] && b != other && !saturated(adjacency, degrees, b))
+        .unwrap_or(other);
+    let t = (0..degrees.len())
+        .find(|&t| {
+            t != b && adjacency::joined(adjacency, a, t) && !adjacency::joined(adjacency, b, t)
+        })
+        .expect("a saturated vertex has a neighbour that an unsaturated one of its degree lacks");
+    adjacency::remove(adjacency, a, t);
+    adjacency::insert(adjacency, b, t);
+}
+
+/// Joins two vertices that are not joined and whose cell is short. Returns the switches made.
+pub fn join(adjacency: &mut [u8], degrees: &[usize], v: usize, w: usize) -> u64 {
+    let mut switches = 0;
+    if saturated(adjacency, degrees, v) {
+        neighbor_switch(adjacency, degrees, v, w);
+        switches += 1;
+    }
+    if saturated(adjacency, degrees, w) {
+        neighbor_switch(adjacency, degrees, w, v);
+        switches += 1;
+    }
+    adjacency::insert(adjacency, v, w);
+    switches
+}
+
+/// The lowest cell (k, l), k at most l, that counts fewer edges than wanted.
+pub fn lowest_short_cell(counted: &Matrix, wanted: &Matrix) -> Option<(usize, usize)> {
+    for k in 1..=MOST_DEGREE {
+        for l in k..=MOST_DEGREE {
+            if counted.cell(k, l) < wanted.cell(k, l) {
+                return Some((k, l));
+            }
+        }
+    }
+    None
+}
+
+/// The lowest pair of degrees k and l that is not joined, by v and then w.
+fn lowest_open_pair(
+    adjacency: &[u8],
+    degrees: &[usize],
+    k: usize,
+    l: usize,
+) -> Option<(usize, usize)> {
+    for v in (0..degrees.len()).filter(|&v| degrees[v] == k) {
+        for w in (0..degrees.len()).filter(|&w| degrees[w] == l) {
+            // For k = l the pair is named once, lower vertex first; else v < w anyway.
+            if v < w && !adjacency::joined(adjacency, v, w) {
+                return Some((v, w));
+            }
+        }
+    }
+    None
+}
+
+/// Joins the lowest open pair of the lowest short cell until no cell is short.
+/// Returns joins and switches.
+pub fn complete(adjacency: &mut [u8], wanted: &Matrix) -> (u64, u64) {
+    let degrees = wanted.degrees();
+    let (mut joins, mut switches) = (0, 0);
+    loop {
+        // Recounted before every join: a switch must not change any cell, so it is not trusted to.
+        let counted = adjacency::counted_at(adjacency, &degrees);
+        let Some((k, l)) = lowest_short_cell(&counted, wanted) else {
+            return (joins, switches);
+        };
+        let (v, w) = lowest_open_pair(adjacency, &degrees, k, l)
+            .expect("a short cell of a realizable matrix has a pair that is not joined");
+        switches += join(adjacency, &degrees, v, w);
+        joins += 1;
+    }
+}

@@ -1,0 +1,30 @@
+//! When journal and adjacency together are a valid state (document 01: a sound bench).
+
+use crate::{adjacency, journal, Matrix, MOST_DEGREE};
+
+/// For a journal and an adjacency matrix of the right lengths.
+pub fn valid(journal: &[u8], adjacency: &[u8]) -> bool {
+    if !journal::well_formed(journal) {
+        return false;
+    }
+    if journal::phase(journal) == journal::TAKING {
+        return adjacency.iter().all(|&byte| byte == 0);
+    }
+    let wanted = journal::summed_matrix(journal);
+    wanted.check().is_ok() && valid_when_laid(&wanted, adjacency)
+}
+
+fn valid_when_laid(wanted: &Matrix, adjacency: &[u8]) -> bool {
+    let degrees = wanted.degrees();
+    adjacency::well_formed(adjacency, degrees.len())
+        && no_vertex_above_its_degree(&degrees, adjacency)
+        && no_cell_above(&adjacency::counted_at(adjacency, &degrees), wanted)
+}
+
+fn no_vertex_above_its_degree(degrees: &[usize], adjacency: &[u8]) -> bool {
+    (0..degrees.len()).all(|v| adjacency::edges_at(adjacency, v) <= degrees[v])
+}
+
+fn no_cell_above(counted: &Matrix, wanted: &Matrix) -> bool {
+    (1..=MOST_DEGREE).all(|k| (1..=MOST_DEGREE).all(|l| counted.cell(k, l) <= wanted.cell(k, l)))
+}

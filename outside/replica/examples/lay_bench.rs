@@ -1,0 +1,67 @@
+//! Loads a table from a file of records, drags some edges by hand, completes and prints.
+//!
+//!     cargo run --example lay_bench -- RECORDS [V-W ...]
+//!
+//! RECORDS is a file of 4-byte records (k, l, 16-bit count, low byte first). Each V-W joins two
+//! vertices before the rest is completed; -V-W removes an edge again. Without a file, the table of
+//! document 004 is laid.
+
+use replica::{State, BLOCK_LENGTH};
+use std::error::Error;
+
+const DOCUMENT_004: [u8; 12] = [1, 3, 1, 0, 2, 2, 2, 0, 2, 3, 2, 0];
+
+fn main() -> Result<(), Box<dyn Error>> {
+    let mut arguments = std::env::args().skip(1);
+    let records = match arguments.next() {
+        Some(file) => std::fs::read(file)?,
+        None => DOCUMENT_004.to_vec(),
+    };
+    let mut state = State::new();
+    take_all(&mut state, &records)?;
+    println!("{} vertices", state.lay_out()?);
+    for drag in arguments {
+        by_hand(&mut state, &drag)?;
+    }
+    let done = state.complete()?;
+    println!("{} joins, {} switches", done.joins, done.switches);
+    for (v, w) in state.edges()? {
+        println!("{v} {w}");
+    }
+    Ok(())
+}
+
+/// Takes the records in blocks of 64 bytes, numbered from 0.
+fn take_all(state: &mut State, records: &[u8]) -> Result<(), Box<dyn Error>> {
+    for (number, block) in (0..).zip(records.chunks(BLOCK_LENGTH)) {
+        state.take_block(number, block)?;
+    }
+    for cell in state.cells()? {
+        println!("cell ({}, {}) = {}", cell.k, cell.l, cell.count);
+    }
+    Ok(())
+}
+
+/// Adds the edge V-W, or removes it for -V-W. A refusal is told and costs nothing.
+fn by_hand(state: &mut State, drag: &str) -> Result<(), Box<dyn Error>> {
+    let (remove, pair) = match drag.strip_prefix('-') {
+        Some(pair) => (true, pair),
+        None => (false, drag),
+    };
+    let (v, w) = pair
+        .split_once('-')
+        .ok_or_else(|| format!("{drag} is not V-W"))?;
+    let (v, w) = (v.parse()?, w.parse()?);
+    let answer = if remove {
+        state.remove_edge(v, w).map(|()| "removed".to_string())
+    } else {
+        state
+            .add_edge(v, w)
+            .map(|switches| format!("joined, {switches} switches"))
+    };
+    match answer {
+        Ok(text) => println!("{drag}: {text}"),
+        Err(refusal) => println!("{drag}: refused, {refusal}"),
+    }
+    Ok(())
+}

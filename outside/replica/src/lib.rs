@@ -1,0 +1,60 @@
+//! Safe Rust over the proved replica library.
+//!
+//! The library builds a simple graph with a given joint degree matrix: cell (k, l) says how many
+//! edges join vertices of degree k to vertices of degree l, and cell (k, k) counts each of its
+//! edges twice. The matrix arrives in numbered blocks of records; the same block sent again is
+//! recognised and not added twice.
+//!
+//! A [`State`] owns the two buffers the library works on. Its methods do their work or return one
+//! numbered [`Refusal`] and then leave every byte as it was.
+//!
+//! ```
+//! use replica::{Record, State, Take};
+//!
+//! # fn main() -> Result<(), replica::Refusal> {
+//! // One edge between degrees 1 and 3, one within degree 2 (counted twice), two between 2 and 3.
+//! let block = replica::block(&[Record::new(1, 3, 1), Record::new(2, 2, 2), Record::new(2, 3, 2)]);
+//!
+//! let mut state = State::new();
+//! assert_eq!(state.take_block(0, &block)?, Take::Taken(1));
+//! assert_eq!(state.take_block(0, &block)?, Take::Held); // sent again: nothing is added
+//! assert_eq!(state.lay_out()?, 4);
+//!
+//! state.add_edge(0, 3)?; // by hand
+//! let done = state.complete()?; // the rest by the library
+//! assert_eq!(done.joins, 3);
+//!
+//! let edges: Vec<(u8, u8)> = state.edges()?.collect();
+//! assert_eq!(edges, [(0, 3), (1, 2), (1, 3), (2, 3)]);
+//! # Ok(())
+//! # }
+//! ```
+//!
+//! [`raw`] has the same entries over slices of any length, answering with the plain numbers of the
+//! C interface.
+
+mod iterators;
+pub mod raw;
+mod refusal;
+mod state;
+
+pub use iterators::{block, Cell, Cells, Edges, Record, Records};
+pub use refusal::{Cause, Refusal};
+pub use state::{jdm_of_edges, Completion, Figures, Phase, State, Take};
+
+/// Bytes of a journal.
+pub const JOURNAL_LENGTH: usize = 4162;
+/// Bytes of an adjacency matrix.
+pub const ADJACENCY_LENGTH: usize = 40_000;
+/// Most bytes in a block.
+pub const BLOCK_LENGTH: usize = 64;
+/// Bytes of a record.
+pub const RECORD_LENGTH: usize = 4;
+/// Highest degree.
+pub const MOST_DEGREE: usize = 40;
+/// Most vertices in a state.
+pub const MOST_VERTICES: usize = 200;
+/// Most edges in a state: 200 vertices of degree 40.
+pub const MOST_EDGES: usize = MOST_VERTICES * MOST_DEGREE / 2;
+/// Most cells with k at most l, so most records that [`jdm_of_edges`] writes.
+pub const MOST_CELLS: usize = MOST_DEGREE * (MOST_DEGREE + 1) / 2;

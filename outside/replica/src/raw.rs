@@ -1,0 +1,270 @@
+//! The ten exports of the C interface, over slices of any length.
+//!
+//! These functions are safe: a slice is passed as its pointer and its length, and the library
+//! checks lengths itself. They answer with the six numbers of the C interface as they are.
+//!
+//! ```
+//! use replica::raw;
+//!
+//! let mut journal = vec![7; replica::JOURNAL_LENGTH];
+//! let mut adjacency = vec![7; replica::ADJACENCY_LENGTH];
+//! assert_eq!(raw::figures(&journal, &adjacency).number, 2); // not a valid state
+//! assert_eq!(raw::clear(&mut journal, &mut adjacency).number, 0);
+//! assert_eq!(raw::figures(&journal, &adjacency).number, 0);
+//! assert_eq!(raw::figures(&journal[1..], &adjacency).number, 1); // another length
+//! ```
+
+/// What every export returns: `number` is 0 when the call did its work, else the number of the
+/// refusal, with its two places in `first` and `second`. What is not named is 0.
+#[repr(C)]
+#[derive(Clone, Copy, Debug, Default, PartialEq, Eq)]
+pub struct ReplicaAnswer {
+    pub number: u64,
+    pub first: u64,
+    pub second: u64,
+    pub third: u64,
+    pub fourth: u64,
+    pub fifth: u64,
+}
+
+impl ReplicaAnswer {
+    /// The six numbers in their order.
+    pub fn numbers(self) -> [u64; 6] {
+        [
+            self.number,
+            self.first,
+            self.second,
+            self.third,
+            self.fourth,
+            self.fifth,
+        ]
+    }
+}
+
+mod exports {
+    use super::ReplicaAnswer;
+
+    extern "C" {
+        pub fn replica_clear(
+            journal: *mut u8,
+            journal_length: usize,
+            adjacency: *mut u8,
+            adjacency_length: usize,
+        ) -> ReplicaAnswer;
+
+        pub fn replica_take_block(
+            journal: *mut u8,
+            journal_length: usize,
+            adjacency: *const u8,
+            adjacency_length: usize,
+            number: u64,
+            block: *const u8,
+            block_length: usize,
+        ) -> ReplicaAnswer;
+
+        pub fn replica_held_block(
+            journal: *const u8,
+            journal_length: usize,
+            adjacency: *const u8,
+            adjacency_length: usize,
+            number: u64,
+        ) -> ReplicaAnswer;
+
+        pub fn replica_lay_out(
+            journal: *mut u8,
+            journal_length: usize,
+            adjacency: *const u8,
+            adjacency_length: usize,
+        ) -> ReplicaAnswer;
+
+        pub fn replica_add_edge(
+            journal: *const u8,
+            journal_length: usize,
+            adjacency: *mut u8,
+            adjacency_length: usize,
+            v: u64,
+            w: u64,
+        ) -> ReplicaAnswer;
+
+        pub fn replica_remove_edge(
+            journal: *const u8,
+            journal_length: usize,
+            adjacency: *mut u8,
+            adjacency_length: usize,
+            v: u64,
+            w: u64,
+        ) -> ReplicaAnswer;
+
+        pub fn replica_complete(
+            journal: *const u8,
+            journal_length: usize,
+            adjacency: *mut u8,
+            adjacency_length: usize,
+        ) -> ReplicaAnswer;
+
+        pub fn replica_edge_list(
+            journal: *const u8,
+            journal_length: usize,
+            adjacency: *const u8,
+            adjacency_length: usize,
+            output: *mut u8,
+            output_length: usize,
+        ) -> ReplicaAnswer;
+
+        pub fn replica_jdm_of_edges(
+            edges: *const u8,
+            edges_length: usize,
+            output: *mut u8,
+            output_length: usize,
+        ) -> ReplicaAnswer;
+
+        pub fn replica_figures(
+            journal: *const u8,
+            journal_length: usize,
+            adjacency: *const u8,
+            adjacency_length: usize,
+        ) -> ReplicaAnswer;
+    }
+}
+
+// Every call below passes pointers and lengths of live slices; the borrows make sure that a slice
+// the library may write overlaps no other.
+
+/// Sets every byte of both buffers to 0. Refused: 1.
+pub fn clear(journal: &mut [u8], adjacency: &mut [u8]) -> ReplicaAnswer {
+    unsafe {
+        exports::replica_clear(
+            journal.as_mut_ptr(),
+            journal.len(),
+            adjacency.as_mut_ptr(),
+            adjacency.len(),
+        )
+    }
+}
+
+/// Takes a block: `first` is 0 when it was new, and `second` the next number, or 1 when it was
+/// held. Refused: 1, 2, 4, 5, 6, 7, 3, 8.
+pub fn take_block(
+    journal: &mut [u8],
+    adjacency: &[u8],
+    number: u64,
+    block: &[u8],
+) -> ReplicaAnswer {
+    unsafe {
+        exports::replica_take_block(
+            journal.as_mut_ptr(),
+            journal.len(),
+            adjacency.as_ptr(),
+            adjacency.len(),
+            number,
+            block.as_ptr(),
+            block.len(),
+        )
+    }
+}
+
+/// Finds a held block: `first` is its offset in the journal, `second` its length.
+/// Refused: 1, 2, 6.
+pub fn held_block(journal: &[u8], adjacency: &[u8], number: u64) -> ReplicaAnswer {
+    unsafe {
+        exports::replica_held_block(
+            journal.as_ptr(),
+            journal.len(),
+            adjacency.as_ptr(),
+            adjacency.len(),
+            number,
+        )
+    }
+}
+
+/// Lays out the vertices: `first` is their number. Refused: 1, 2, 3, 9, 10, 11, 12.
+pub fn lay_out(journal: &mut [u8], adjacency: &[u8]) -> ReplicaAnswer {
+    unsafe {
+        exports::replica_lay_out(
+            journal.as_mut_ptr(),
+            journal.len(),
+            adjacency.as_ptr(),
+            adjacency.len(),
+        )
+    }
+}
+
+/// Joins two vertices: `first` is the switches made. Refused: 1, 2, 3, 13, 14, 15, 16.
+pub fn add_edge(journal: &[u8], adjacency: &mut [u8], v: u64, w: u64) -> ReplicaAnswer {
+    unsafe {
+        exports::replica_add_edge(
+            journal.as_ptr(),
+            journal.len(),
+            adjacency.as_mut_ptr(),
+            adjacency.len(),
+            v,
+            w,
+        )
+    }
+}
+
+/// Removes one edge. Refused: 1, 2, 3, 13, 14, 17.
+pub fn remove_edge(journal: &[u8], adjacency: &mut [u8], v: u64, w: u64) -> ReplicaAnswer {
+    unsafe {
+        exports::replica_remove_edge(
+            journal.as_ptr(),
+            journal.len(),
+            adjacency.as_mut_ptr(),
+            adjacency.len(),
+            v,
+            w,
+        )
+    }
+}
+
+/// Joins until no cell is short: `first` is the joins made, `second` the switches.
+/// Refused: 1, 2, 3.
+pub fn complete(journal: &[u8], adjacency: &mut [u8]) -> ReplicaAnswer {
+    unsafe {
+        exports::replica_complete(
+            journal.as_ptr(),
+            journal.len(),
+            adjacency.as_mut_ptr(),
+            adjacency.len(),
+        )
+    }
+}
+
+/// Writes the edges, 2 bytes each: `first` is the written length. Refused: 1, 2, 3, 18.
+pub fn edge_list(journal: &[u8], adjacency: &[u8], output: &mut [u8]) -> ReplicaAnswer {
+    unsafe {
+        exports::replica_edge_list(
+            journal.as_ptr(),
+            journal.len(),
+            adjacency.as_ptr(),
+            adjacency.len(),
+            output.as_mut_ptr(),
+            output.len(),
+        )
+    }
+}
+
+/// Writes the records of an edge list's matrix: `first` is the written length.
+/// Refused: 19, 20, 18.
+pub fn jdm_of_edges(edges: &[u8], output: &mut [u8]) -> ReplicaAnswer {
+    unsafe {
+        exports::replica_jdm_of_edges(
+            edges.as_ptr(),
+            edges.len(),
+            output.as_mut_ptr(),
+            output.len(),
+        )
+    }
+}
+
+/// Phase, blocks, vertices, edges wanted and edges laid, in `first` to `fifth`. Refused: 1, 2.
+pub fn figures(journal: &[u8], adjacency: &[u8]) -> ReplicaAnswer {
+    unsafe {
+        exports::replica_figures(
+            journal.as_ptr(),
+            journal.len(),
+            adjacency.as_ptr(),
+            adjacency.len(),
+        )
+    }
+}

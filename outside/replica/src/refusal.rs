@@ -1,0 +1,195 @@
+//! Refusals: why a call did nothing.
+
+use crate::raw::ReplicaAnswer;
+use std::fmt;
+
+/// Why a call was refused. The discriminants are document 01's numbers.
+///
+/// ```
+/// use replica::Cause;
+///
+/// assert_eq!(Cause::OddDiagonal.number(), 9);
+/// assert_eq!(Cause::from_number(9), Some(Cause::OddDiagonal));
+/// assert_eq!(Cause::from_number(21), None);
+/// assert_eq!(Cause::SameVertex.to_string(), "both ends are the same vertex");
+/// ```
+#[derive(Clone, Copy, Debug, PartialEq, Eq, PartialOrd, Ord, Hash)]
+pub enum Cause {
+    /// Journal or adjacency matrix of another length.
+    WrongLength = 1,
+    /// Journal and adjacency matrix are not a valid state.
+    InvalidState = 2,
+    /// Not in this phase.
+    WrongPhase = 3,
+    /// A block of 0 or over 64 bytes, or not a multiple of 4.
+    BlockLength = 4,
+    /// A record with a degree outside 1 to 40, or with the higher degree first.
+    BadRecord = 5,
+    /// A block number too high, or not held.
+    BlockNumber = 6,
+    /// Another block is held under this number.
+    BlockDiffers = 7,
+    /// 64 blocks are held already.
+    JournalFull = 8,
+    /// A cell (k, k) is odd.
+    OddDiagonal = 9,
+    /// A row k is not divisible by k.
+    RowNotDivisible = 10,
+    /// A cell is larger than its vertices allow.
+    CellTooLarge = 11,
+    /// More than 200 vertices.
+    TooManyVertices = 12,
+    /// A vertex number that is not laid out.
+    NoSuchVertex = 13,
+    /// Both ends are the same vertex.
+    SameVertex = 14,
+    /// The two vertices are joined already.
+    EdgePresent = 15,
+    /// The cell of the two vertices has all its edges.
+    CellNotShort = 16,
+    /// The two vertices are not joined.
+    EdgeAbsent = 17,
+    /// The output is too short.
+    OutputTooShort = 18,
+    /// An edge list of odd length, or an edge out of order or out of range.
+    BadEdgeList = 19,
+    /// A vertex of the edge list has a degree over 40.
+    DegreeTooHigh = 20,
+}
+
+impl Cause {
+    /// All causes, in the order of their numbers.
+    pub const ALL: [Cause; 20] = [
+        Cause::WrongLength,
+        Cause::InvalidState,
+        Cause::WrongPhase,
+        Cause::BlockLength,
+        Cause::BadRecord,
+        Cause::BlockNumber,
+        Cause::BlockDiffers,
+        Cause::JournalFull,
+        Cause::OddDiagonal,
+        Cause::RowNotDivisible,
+        Cause::CellTooLarge,
+        Cause::TooManyVertices,
+        Cause::NoSuchVertex,
+        Cause::SameVertex,
+        Cause::EdgePresent,
+        Cause::CellNotShort,
+        Cause::EdgeAbsent,
+        Cause::OutputTooShort,
+        Cause::BadEdgeList,
+        Cause::DegreeTooHigh,
+    ];
+
+    /// Document 01's number.
+    pub fn number(self) -> u64 {
+        self as u64
+    }
+
+    /// The cause with this number, if there is one.
+    pub fn from_number(number: u64) -> Option<Cause> {
+        Cause::ALL
+            .into_iter()
+            .find(|cause| cause.number() == number)
+    }
+}
+
+impl fmt::Display for Cause {
+    fn fmt(&self, f: &mut fmt::Formatter<'_>) -> fmt::Result {
+        f.write_str(match self {
+            Cause::WrongLength => "the journal or the adjacency matrix has another length",
+            Cause::InvalidState => "journal and adjacency matrix are not a valid state",
+            Cause::WrongPhase => "the call does not fit the phase",
+            Cause::BlockLength => "a block has 4 to 64 bytes, a multiple of 4",
+            Cause::BadRecord => "a record needs degrees from 1 to 40, the lower first",
+            Cause::BlockNumber => "no block with this number is held or can come next",
+            Cause::BlockDiffers => "another block is held under this number",
+            Cause::JournalFull => "the journal holds 64 blocks already",
+            Cause::OddDiagonal => "a cell within one degree is odd",
+            Cause::RowNotDivisible => "the sum of a row is not divisible by its degree",
+            Cause::CellTooLarge => "a cell is larger than any simple graph allows",
+            Cause::TooManyVertices => "the matrix needs more than 200 vertices",
+            Cause::NoSuchVertex => "no vertex has this number",
+            Cause::SameVertex => "both ends are the same vertex",
+            Cause::EdgePresent => "the two vertices are joined already",
+            Cause::CellNotShort => "the cell of the two vertices has all its edges",
+            Cause::EdgeAbsent => "the two vertices are not joined",
+            Cause::OutputTooShort => "the output is too short",
+            Cause::BadEdgeList => "the edge list has an odd length or a bad edge",
+            Cause::DegreeTooHigh => "a vertex of the edge list has a degree over 40",
+        })
+    }
+}
+
+/// A refusal: its cause and two places, 0 where none is named. Which places a cause names:
+///
+/// | cause | places |
+/// |---|---|
+/// | `BadRecord` | index of the first bad record, 0 |
+/// | `OddDiagonal` | the degree, twice |
+/// | `RowNotDivisible` | the degree, 0 |
+/// | `CellTooLarge`, `CellNotShort` | the two degrees, lower first |
+/// | `BadEdgeList` | index of the first bad edge, or the number of whole edges for an odd length, 0 |
+/// | `DegreeTooHigh` | lowest such vertex, 0 |
+///
+/// ```
+/// use replica::{Cause, State};
+///
+/// let mut state = State::new();
+/// state.take_block(0, &[2, 2, 4, 0]).unwrap();
+/// let refusal = state.lay_out().unwrap_err();
+/// assert_eq!(refusal.cause, Cause::CellTooLarge);
+/// assert_eq!(refusal.places, (2, 2));
+/// assert_eq!(
+///     refusal.to_string(),
+///     "a cell is larger than any simple graph allows: cell (2, 2) (refusal 11)"
+/// );
+/// ```
+#[derive(Clone, Copy, Debug, PartialEq, Eq)]
+pub struct Refusal {
+    pub cause: Cause,
+    pub places: (u64, u64),
+}
+
+impl Refusal {
+    /// The refusal in an answer, or the answer itself when the call did its work.
+    pub(crate) fn unless_done(answer: ReplicaAnswer) -> Result<ReplicaAnswer, Refusal> {
+        if answer.number == 0 {
+            return Ok(answer);
+        }
+        let cause = Cause::from_number(answer.number)
+            .unwrap_or_else(|| panic!("the library has no refusal number {}", answer.number));
+        Err(Refusal {
+            cause,
+            places: (answer.first, answer.second),
+        })
+    }
+
+    /// What the places point at, for the causes that name one.
+    fn place(&self) -> Option<String> {
+        let (first, second) = self.places;
+        match self.cause {
+            Cause::BadRecord => Some(format!("record {first}")),
+            Cause::OddDiagonal | Cause::CellTooLarge | Cause::CellNotShort => {
+                Some(format!("cell ({first}, {second})"))
+            }
+            Cause::RowNotDivisible => Some(format!("row {first}")),
+            Cause::BadEdgeList => Some(format!("edge {first}")),
+            Cause::DegreeTooHigh => Some(format!("vertex {first}")),
+            _ => None,
+        }
+    }
+}
+
+impl fmt::Display for Refusal {
+    fn fmt(&self, f: &mut fmt::Formatter<'_>) -> fmt::Result {
+        write!(f, "{}", self.cause)?;
+        if let Some(place) = self.place() {
+            write!(f, ": {place}")?;
+        }
+        write!(f, " (refusal {})", self.cause.number())
+    }
+}
+
+impl std::error::Error for Refusal {}

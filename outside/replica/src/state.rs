@@ -1,0 +1,383 @@
+//! A state that owns its two buffers.
+
+use crate::raw::{self, ReplicaAnswer};
+use crate::{
+    Cells, Edges, Records, Refusal, ADJACENCY_LENGTH, JOURNAL_LENGTH, MOST_EDGES, MOST_VERTICES,
+};
+use std::fmt;
+
+/// What [`State::take_block`] answers when it is not refused.
+#[derive(Clone, Copy, Debug, PartialEq, Eq)]
+pub enum Take {
+    /// The block is new and is in the journal now; the number of the next block.
+    Taken(u64),
+    /// The same block was taken before; nothing changed.
+    Held,
+}
+
+/// What [`State::complete`] did.
+#[derive(Clone, Copy, Debug, PartialEq, Eq)]
+pub struct Completion {
+    pub joins: u64,
+    pub switches: u64,
+}
+
+/// The two phases of a state.
+#[derive(Clone, Copy, Debug, PartialEq, Eq)]
+pub enum Phase {
+    /// Blocks are taken.
+    Taking,
+    /// The vertices are laid out.
+    Laid,
+}
+
+/// What [`State::figures`] reports. The last three are 0 while blocks are taken.
+#[derive(Clone, Copy, Debug, PartialEq, Eq)]
+pub struct Figures {
+    pub phase: Phase,
+    pub blocks: u64,
+    pub vertices: u64,
+    pub edges_wanted: u64,
+    pub edges_laid: u64,
+}
+
+/// A journal and an adjacency matrix.
+///
+/// It starts in the phase of taking blocks. [`lay_out`](State::lay_out) fixes the vertices; then
+/// edges can be added and removed by hand, and [`complete`](State::complete) adds what is missing.
+/// A refused call changes nothing.
+///
+/// ```
+/// use replica::{Cause, State, Take};
+///
+/// let mut state = State::new();
+/// assert_eq!(state.take_block(0, &[2, 2, 8, 0]), Ok(Take::Taken(1))); // four vertices in a ring
+/// assert_eq!(state.add_edge(0, 1).unwrap_err().cause, Cause::WrongPhase);
+/// assert_eq!(state.lay_out(), Ok(4));
+///
+/// // A triangle by hand leaves vertex 3 alone; joining 0 and 3 moves one edge away from 0.
+/// for (v, w) in [(0, 1), (0, 2), (1, 2)] {
+///     assert_eq!(state.add_edge(v, w), Ok(0));
+/// }
+/// assert_eq!(state.add_edge(0, 3), Ok(1));
+/// let edges: Vec<_> = state.edges().unwrap().collect();
+/// assert_eq!(edges, [(0, 2), (0, 3), (1, 2), (1, 3)]);
+/// ```
+#[derive(Clone, PartialEq, Eq)]
+pub struct State {
+    journal: Vec<u8>,
+    adjacency: Vec<u8>,
+}
+
+impl Default for State {
+    fn default() -> State {
+        State::new()
+    }
+}
+
+impl fmt::Debug for State {
+    fn fmt(&self, f: &mut fmt::Formatter<'_>) -> fmt::Result {
+        f.debug_struct("State")
+            .field("figures", &self.figures())
+            .finish_non_exhaustive()
+    }
+}
+
+impl State {
+    /// A cleared state.
+    pub fn new() -> State {
+        State {
+            journal: vec![0; JOURNAL_LENGTH],
+            adjacency: vec![0; ADJACENCY_LENGTH],
+        }
+    }
+
+    /// A state from bytes kept earlier. Refused when they are not a valid state.
+    ///
+    /// ```
+    /// use replica::{Cause, State};
+    ///
+    /// let mut state = State::new();
+    /// state.take_block(0, &[1, 1, 2, 0]).unwrap();
+    /// let again = State::from_bytes(state.journal(), state.adjacency()).unwrap();
+    /// assert_eq!(again, state);
+    ///
+    /// let refusal = State::from_bytes(&[], state.adjacency()).unwrap_err();
+    /// assert_eq!(refusal.cause, Cause::WrongLength);
+    /// ```
+    pub fn from_bytes(journal: &[u8], adjacency: &[u8]) -> Result<State, Refusal> {
+        Refusal::unless_done(raw::figures(journal, adjacency))?;
+        Ok(State {
+            journal: journal.to_vec(),
+            adjacency: adjacency.to_vec(),
+        })
+    }
+
+    /// The bytes of the journal.
+    pub fn journal(&self) -> &[u8] {
+        &self.journal
+    }
+
+    /// The bytes of the adjacency matrix, 200 rows of 200.
+    pub fn adjacency(&self) -> &[u8] {
+        &self.adjacency
+    }
+
+    /// Back to no blocks and no edges.
+    ///
+    /// ```
+    /// # use replica::State;
+    /// let mut state = State::new();
+    /// state.take_block(0, &[1, 1, 2, 0]).unwrap();
+    /// state.clear().unwrap();
+    /// assert_eq!(state, State::new());
+    /// ```
+    pub fn clear(&mut self) -> Result<(), Refusal> {
+        Refusal::unless_done(raw::clear(&mut self.journal, &mut self.adjacency))?;
+        Ok(())
+    }
+
+    /// Takes a block of 1 to 16 records. Its number must be that of the next block, or that of a
+    /// held block with the same bytes.
+    ///
+    /// ```
+    /// # use replica::{Cause, State, Take};
+    /// let mut state = State::new();
+    /// assert_eq!(state.take_block(0, &[1, 1, 2, 0]), Ok(Take::Taken(1)));
+    /// assert_eq!(state.take_block(0, &[1, 1, 2, 0]), Ok(Take::Held));
+    /// let refusal = state.take_block(0, &[1, 1, 4, 0]).unwrap_err();
+    /// assert_eq!(refusal.cause, Cause::BlockDiffers);
+    /// let refusal = state.take_block(1, &[1, 1, 2, 0, 3, 2, 1, 0]).unwrap_err();
+    /// assert_eq!((refusal.cause, refusal.places), (Cause::BadRecord, (1, 0)));
+    /// ```
+    pub fn take_block(&mut self, number: u64, block: &[u8]) -> Result<Take, Refusal> {
+        let answer = raw::take_block(&mut self.journal, &self.adjacency, number, block);
+        let answer = Refusal::unless_done(answer)?;
+        Ok(match answer.first {
+            0 => Take::Taken(answer.second),
+            _ => Take::Held,
+        })
+    }
+
+    /// The bytes of a held block, lying in the journal.
+    ///
+    /// ```
+    /// # use replica::{Cause, State};
+    /// let mut state = State::new();
+    /// state.take_block(0, &[1, 1, 2, 0]).unwrap();
+    /// assert_eq!(state.held_block(0), Ok(&[1, 1, 2, 0][..]));
+    /// assert_eq!(state.held_block(1).unwrap_err().cause, Cause::BlockNumber);
+    /// ```
+    pub fn held_block(&self, number: u64) -> Result<&[u8], Refusal> {
+        let answer = raw::held_block(&self.journal, &self.adjacency, number);
+        let answer = Refusal::unless_done(answer)?;
+        let (offset, length) = (answer.first as usize, answer.second as usize);
+        Ok(&self.journal[offset..offset + length])
+    }
+
+    /// The records of a held block.
+    ///
+    /// ```
+    /// # use replica::{Record, State};
+    /// let mut state = State::new();
+    /// state.take_block(0, &[1, 1, 2, 0]).unwrap();
+    /// let records: Vec<Record> = state.records(0).unwrap().collect();
+    /// assert_eq!(records, [Record::new(1, 1, 2)]);
+    /// ```
+    pub fn records(&self, number: u64) -> Result<Records<'_>, Refusal> {
+        Ok(Records::new(self.held_block(number)?))
+    }
+
+    /// The non-zero cells of the sum of all held blocks.
+    ///
+    /// ```
+    /// # use replica::{Cell, State};
+    /// let mut state = State::new();
+    /// state.take_block(0, &[2, 2, 3, 0]).unwrap();
+    /// state.take_block(1, &[2, 2, 5, 0]).unwrap();
+    /// let cells: Vec<Cell> = state.cells().unwrap().collect();
+    /// assert_eq!(cells, [Cell { k: 2, l: 2, count: 8 }]);
+    /// ```
+    pub fn cells(&self) -> Result<Cells, Refusal> {
+        let mut records = Vec::new();
+        for number in 0..self.figures()?.blocks {
+            records.extend(self.records(number)?);
+        }
+        Ok(Cells::of(records))
+    }
+
+    /// Lays out the vertices, numbered by rising degree, and ends the taking of blocks. Returns
+    /// the number of vertices.
+    ///
+    /// ```
+    /// # use replica::{Cause, State};
+    /// let mut state = State::new();
+    /// state.take_block(0, &[2, 2, 3, 0]).unwrap();
+    /// let refusal = state.lay_out().unwrap_err();
+    /// assert_eq!((refusal.cause, refusal.places), (Cause::OddDiagonal, (2, 2)));
+    /// state.take_block(1, &[2, 2, 3, 0]).unwrap();
+    /// assert_eq!(state.lay_out(), Ok(3));
+    /// ```
+    pub fn lay_out(&mut self) -> Result<u64, Refusal> {
+        let answer = raw::lay_out(&mut self.journal, &self.adjacency);
+        Ok(Refusal::unless_done(answer)?.first)
+    }
+
+    /// Joins v and w. A vertex that has all its edges already gives one to another vertex of its
+    /// degree first; returns how many of the two had to, 0 to 2. Naming the pair the other way
+    /// round may move other edges.
+    ///
+    /// ```
+    /// # use replica::{Cause, State};
+    /// let mut state = State::new();
+    /// state.take_block(0, &[1, 1, 4, 0]).unwrap(); // four vertices, two edges
+    /// state.lay_out().unwrap();
+    /// assert_eq!(state.add_edge(0, 1), Ok(0));
+    /// assert_eq!(state.add_edge(0, 2), Ok(1)); // 0-1 becomes 1-3
+    /// let edges: Vec<_> = state.edges().unwrap().collect();
+    /// assert_eq!(edges, [(0, 2), (1, 3)]);
+    /// assert_eq!(state.add_edge(0, 1).unwrap_err().cause, Cause::CellNotShort);
+    /// ```
+    pub fn add_edge(&mut self, v: u64, w: u64) -> Result<u64, Refusal> {
+        let answer = raw::add_edge(&self.journal, &mut self.adjacency, v, w);
+        Ok(Refusal::unless_done(answer)?.first)
+    }
+
+    /// Removes the edge between v and w.
+    ///
+    /// ```
+    /// # use replica::{Cause, State};
+    /// let mut state = State::new();
+    /// state.take_block(0, &[1, 1, 2, 0]).unwrap();
+    /// state.lay_out().unwrap();
+    /// state.add_edge(0, 1).unwrap();
+    /// assert_eq!(state.remove_edge(1, 0), Ok(()));
+    /// assert_eq!(state.remove_edge(1, 0).unwrap_err().cause, Cause::EdgeAbsent);
+    /// ```
+    pub fn remove_edge(&mut self, v: u64, w: u64) -> Result<(), Refusal> {
+        let answer = raw::remove_edge(&self.journal, &mut self.adjacency, v, w);
+        Refusal::unless_done(answer)?;
+        Ok(())
+    }
+
+    /// Adds edges until every cell has its count. From any start it makes exactly as many joins as
+    /// edges are missing.
+    ///
+    /// ```
+    /// # use replica::{Completion, State};
+    /// let mut state = State::new();
+    /// state.take_block(0, &[2, 2, 8, 0]).unwrap();
+    /// state.lay_out().unwrap();
+    /// assert_eq!(state.complete(), Ok(Completion { joins: 4, switches: 2 }));
+    /// assert_eq!(state.complete(), Ok(Completion { joins: 0, switches: 0 }));
+    /// ```
+    pub fn complete(&mut self) -> Result<Completion, Refusal> {
+        let answer = raw::complete(&self.journal, &mut self.adjacency);
+        let answer = Refusal::unless_done(answer)?;
+        Ok(Completion {
+            joins: answer.first,
+            switches: answer.second,
+        })
+    }
+
+    /// The edges (v, w), v below w, ascending.
+    ///
+    /// ```
+    /// # use replica::State;
+    /// let mut state = State::new();
+    /// state.take_block(0, &[2, 2, 6, 0]).unwrap();
+    /// state.lay_out().unwrap();
+    /// state.complete().unwrap();
+    /// assert_eq!(state.edges().unwrap().collect::<Vec<_>>(), [(0, 1), (0, 2), (1, 2)]);
+    /// ```
+    pub fn edges(&self) -> Result<Edges, Refusal> {
+        let mut bytes = vec![0; 2 * MOST_EDGES];
+        let length = self.edge_list(&mut bytes)?;
+        bytes.truncate(length);
+        Ok(Edges::new(bytes))
+    }
+
+    /// Writes the edges, 2 bytes each, and returns the written length. 8,000 bytes always do.
+    ///
+    /// ```
+    /// # use replica::{Cause, State};
+    /// let mut state = State::new();
+    /// state.take_block(0, &[1, 1, 2, 0]).unwrap();
+    /// state.lay_out().unwrap();
+    /// state.complete().unwrap();
+    /// let mut output = [9; 4];
+    /// assert_eq!(state.edge_list(&mut output), Ok(2));
+    /// assert_eq!(output, [0, 1, 9, 9]);
+    /// let refusal = state.edge_list(&mut output[..1]).unwrap_err();
+    /// assert_eq!(refusal.cause, Cause::OutputTooShort);
+    /// ```
+    pub fn edge_list(&self, output: &mut [u8]) -> Result<usize, Refusal> {
+        let answer = raw::edge_list(&self.journal, &self.adjacency, output);
+        Ok(Refusal::unless_done(answer)?.first as usize)
+    }
+
+    /// Phase, blocks, vertices, edges wanted and edges laid.
+    ///
+    /// ```
+    /// # use replica::{Phase, State};
+    /// let mut state = State::new();
+    /// state.take_block(0, &[2, 2, 8, 0]).unwrap();
+    /// state.lay_out().unwrap();
+    /// state.add_edge(0, 1).unwrap();
+    /// let figures = state.figures().unwrap();
+    /// assert_eq!((figures.phase, figures.blocks, figures.vertices), (Phase::Laid, 1, 4));
+    /// assert_eq!((figures.edges_wanted, figures.edges_laid), (4, 1));
+    /// ```
+    pub fn figures(&self) -> Result<Figures, Refusal> {
+        let answer = Refusal::unless_done(raw::figures(&self.journal, &self.adjacency))?;
+        Ok(figures_of(answer))
+    }
+
+    /// Whether two vertices are joined; false for numbers that are no vertices.
+    ///
+    /// ```
+    /// # use replica::State;
+    /// let mut state = State::new();
+    /// state.take_block(0, &[1, 1, 2, 0]).unwrap();
+    /// state.lay_out().unwrap();
+    /// state.add_edge(0, 1).unwrap();
+    /// assert!(state.joined(1, 0));
+    /// assert!(!state.joined(1, 200));
+    /// ```
+    pub fn joined(&self, v: usize, w: usize) -> bool {
+        v < MOST_VERTICES && w < MOST_VERTICES && self.adjacency[v * MOST_VERTICES + w] == 1
+    }
+}
+
+fn figures_of(answer: ReplicaAnswer) -> Figures {
+    Figures {
+        phase: match answer.first {
+            0 => Phase::Taking,
+            _ => Phase::Laid,
+        },
+        blocks: answer.second,
+        vertices: answer.third,
+        edges_wanted: answer.fourth,
+        edges_laid: answer.fifth,
+    }
+}
+
+/// Writes the joint degree matrix of an edge list as records, ascending, and returns the written
+/// length. The list has 2 bytes an edge, v below w below 200, ascending; 3,280 bytes of output
+/// always do.
+///
+/// ```
+/// use replica::{jdm_of_edges, Cause, Record, Records};
+///
+/// let mut output = [0; 64];
+/// let length = jdm_of_edges(&[0, 3, 1, 2, 1, 3, 2, 3], &mut output).unwrap();
+/// let records: Vec<Record> = Records::new(&output[..length]).collect();
+/// assert_eq!(records, [Record::new(1, 3, 1), Record::new(2, 2, 2), Record::new(2, 3, 2)]);
+///
+/// let refusal = jdm_of_edges(&[0, 3, 2, 1], &mut output).unwrap_err();
+/// assert_eq!((refusal.cause, refusal.places), (Cause::BadEdgeList, (1, 0)));
+/// ```
+pub fn jdm_of_edges(edges: &[u8], output: &mut [u8]) -> Result<usize, Refusal> {
+    let answer = raw::jdm_of_edges(edges, output);
+    Ok(Refusal::unless_done(answer)?.first as usize)
+}

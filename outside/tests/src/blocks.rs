@@ -1,0 +1,158 @@
+//! Tables cut into blocks, whole and spoiled.
+
+use reference::graphs::{self, Graph};
+use reference::journal::record;
+use reference::random::Random;
+use reference::{Matrix, BLOCK_LENGTH, MOST_BLOCKS, MOST_DEGREE};
+
+/// The records of a matrix cut into blocks: some counts split over several records, some records
+/// of count 0 among them, all in random order.
+pub fn cut(matrix: &Matrix, random: &mut Random) -> Vec<Vec<u8>> {
+    let cells = matrix.nonzero_cells();
+    // A journal has room for 1,024 records; a matrix has at most 820 cells.
+    let mut spare = 1024 - cells.len();
+    let mut records = Vec::new();
+    for (k, l, count) in cells {
+        let mut left = count;
+        while spare > 0 && left > 1 && random.chance(20) {
+            let part = 1 + random.below(left as usize - 1) as u64;
+            records.push(record(k, l, part.min(65_535)));
+            left -= part.min(65_535);
+            spare -= 1;
+        }
+        records.push(record(k, l, left));
+    }
+    while spare > 0 && random.chance(20) {
+        let (k, l) = degrees(MOST_DEGREE, random);
+        records.push(record(k, l, 0));
+        spare -= 1;
+    }
+    random.shuffle(&mut records);
+    let each = random
+        .between(1, 16)
+        .max(records.len().div_ceil(MOST_BLOCKS));
+    records.chunks(each).map(|block| block.concat()).collect()
+}
+
+/// Two degrees up to `most`, the lower first.
+fn degrees(most: usize, random: &mut Random) -> (usize, usize) {
+    let (k, l) = (random.between(1, most), random.between(1, most));
+    (k.min(l), k.max(l))
+}
+
+/// A well-formed block of records with degrees and counts up to the given ones.
+pub fn any_block(most_degree: usize, most_count: usize, random: &mut Random) -> Vec<u8> {
+    let mut block = Vec::new();
+    for _ in 0..random.between(1, 16) {
+        let (k, l) = degrees(most_degree, random);
+        block.extend(record(k, l, random.below(most_count + 1) as u64));
+    }
+    block
+}
+
+/// A block with one thing changed. It may be malformed, or well-formed but another one.
+pub fn spoil(block: &[u8], random: &mut Random) -> Vec<u8> {
+    let mut spoiled = block.to_vec();
+    let records = (block.len() / 4).max(1);
+    let start = 4 * random.below(records);
+    if spoiled.len() < start + 4 {
+        return random.bytes(3);
+    }
+    match random.below(10) {
+        0 => spoiled.clear(),
+        1 => spoiled.truncate(block.len() - random.between(1, 4)),
+        2 => spoiled.push(0),
+        3 => spoiled.extend(record(1, 2, 1)),
+        4 => {
+            let more = 4 * random.between(1, 4);
+            spoiled = random.bytes(BLOCK_LENGTH + more);
+        }
+        5 => spoiled[start] = *random.pick(&[0, 41, 255]),
+        6 => spoiled[start + 1] = *random.pick(&[0, 41, 255]),
+        7 => spoiled.swap(start, start + 1),
+        8 => spoiled[start + 2] ^= 1 << random.below(8),
+        _ => {
+            let place = random.below(spoiled.len());
+            spoiled[place] = random.byte();
+        }
+    }
+    spoiled
+}
+
+/// How large the tables of a call list may be.
+#[derive(Clone, Copy, Debug)]
+pub enum Size {
+    Small,
+    Medium,
+    Large,
+}
+
+impl Size {
+    pub fn most_vertices(self) -> usize {
+        match self {
+            Size::Small => 9,
+            Size::Medium => 50,
+            Size::Large => 200,
+        }
+    }
+}
+
+/// The blocks a call list sends: of a table with a graph, of one nearly so, or of any table.
+pub fn plan(size: Size, random: &mut Random) -> Vec<Vec<u8>> {
+    let graph = graphs::any(size.most_vertices(), random);
+    match random.below(14) {
+        0 | 5 => nearly(&graph, random),
+        1 => (0..random.between(1, 3))
+            .map(|_| any_block(4, 6, random))
+            .collect(),
+        2 => many_vertices(&graph, random),
+        3 => full_journal(random),
+        4 => (0..random.between(1, 20))
+            .map(|_| any_block(MOST_DEGREE, 65_535, random))
+            .collect(),
+        _ => cut(&graph.matrix(), random),
+    }
+}
+
+/// A table with a graph, and one record more: it may have none any more.
+fn nearly(graph: &Graph, random: &mut Random) -> Vec<Vec<u8>> {
+    let mut blocks = cut(&graph.matrix(), random);
+    blocks.truncate(MOST_BLOCKS - 1);
+    let used = graph.degrees().into_iter().max().unwrap_or(0);
+    let (k, l) = degrees((used + 1).min(MOST_DEGREE), random);
+    let count = if random.chance(50) {
+        random.between(1, 2 * k)
+    } else {
+        // Rows stay divisible and diagonals even, so that only the size of a cell can be wrong.
+        even_multiple(k, l) * random.between(1, 3)
+    };
+    blocks.push(record(k, l, count as u64).to_vec());
+    blocks
+}
+
+/// The least count that two rows can share: divisible by both degrees, and even on the diagonal.
+fn even_multiple(k: usize, l: usize) -> usize {
+    let fits = |count: &usize| count % k == 0 && count % l == 0 && (k != l || count % 2 == 0);
+    (1..=2 * k * l).find(fits).expect("2kl fits")
+}
+
+/// A table with a graph and about 200 single edges: the number of vertices is near its bound.
+fn many_vertices(graph: &Graph, random: &mut Random) -> Vec<Vec<u8>> {
+    let mut blocks = cut(&graph.matrix(), random);
+    blocks.truncate(MOST_BLOCKS - 1);
+    let vertices = graph.matrix().vertex_count() as usize;
+    let room = 200usize.saturating_sub(vertices);
+    let count = (room + random.below(5)).saturating_sub(2);
+    blocks.push(record(1, 1, count as u64).to_vec());
+    blocks
+}
+
+/// As many blocks as a journal holds and one more, nearly all of them adding nothing.
+fn full_journal(random: &mut Random) -> Vec<Vec<u8>> {
+    let mut blocks: Vec<Vec<u8>> = (0..MOST_BLOCKS + 1)
+        .map(|_| any_block(MOST_DEGREE, 0, random))
+        .collect();
+    let place = random.below(MOST_BLOCKS);
+    blocks[place] = record(2, 2, 6).to_vec();
+    blocks
+}

@@ -1,0 +1,136 @@
+//! Makes a call on the library and on the reference and compares everything.
+
+use crate::call::{on_library, on_reference, Call, Memory};
+use crate::count::Count;
+use crate::lent::Lent;
+use reference::six::Six;
+use reference::{ADJACENCY_LENGTH, JOURNAL_LENGTH};
+
+/// One state for both sides: they are equal after every call, or the test has failed.
+pub struct Both {
+    pub journal: Vec<u8>,
+    pub adjacency: Vec<u8>,
+    /// The output of the last call that had one.
+    pub output: Vec<u8>,
+    pub count: Count,
+    label: String,
+    calls: usize,
+    trace: bool,
+}
+
+impl Both {
+    /// A cleared state. The label tells in messages which test it belongs to.
+    pub fn new(label: &str) -> Both {
+        Both {
+            journal: vec![0; JOURNAL_LENGTH],
+            adjacency: vec![0; ADJACENCY_LENGTH],
+            output: Vec::new(),
+            count: Count::new(),
+            label: label.to_string(),
+            calls: 0,
+            trace: std::env::var("REPLICA_TRACE").is_ok(),
+        }
+    }
+
+    /// Makes the call on both sides and compares answers and bytes. Returns the six numbers.
+    pub fn call(&mut self, call: Call) -> Six {
+        self.calls += 1;
+        if self.trace {
+            println!("{}", self.place(&call));
+        }
+        let before = Memory::of(&self.journal, &self.adjacency, &call);
+        let mut expected = before.clone();
+        let expected_numbers = on_reference(&call, &mut expected);
+        let (numbers, after) = self.on_library_between_guards(&call);
+        if numbers != expected_numbers {
+            let place = self.place(&call);
+            panic!("{place}: the library answers {numbers:?}, the reference {expected_numbers:?}");
+        }
+        self.compare(&call, "the reference", &after, &expected);
+        if numbers[0] != 0 {
+            self.compare(&call, "the bytes before the refusal", &after, &before);
+        }
+        self.compare_inputs(&call, &after);
+        self.journal = after.journal;
+        self.adjacency = after.adjacency;
+        self.output = after.output;
+        self.count.answered(call.entry(), numbers);
+        numbers
+    }
+
+    /// The same on other buffers, which are dropped afterwards; the state stays as it is.
+    pub fn call_on(&mut self, journal: Vec<u8>, adjacency: Vec<u8>, call: Call) -> Six {
+        let journal = std::mem::replace(&mut self.journal, journal);
+        let adjacency = std::mem::replace(&mut self.adjacency, adjacency);
+        let numbers = self.call(call);
+        self.journal = journal;
+        self.adjacency = adjacency;
+        numbers
+    }
+
+    /// Where a message comes from.
+    fn place(&self, call: &Call) -> String {
+        format!("{}, call {}, {call:?}", self.label, self.calls)
+    }
+
+    fn on_library_between_guards(&self, call: &Call) -> (Six, Memory) {
+        // Every slice begins at an alignment of its own, another one in each call.
+        let shift = self.calls;
+        let mut journal = Lent::new(&self.journal, shift);
+        let mut adjacency = Lent::new(&self.adjacency, shift / 3);
+        let mut input = Lent::new(call.input(), shift / 5);
+        let mut output = Lent::new(call.output(), shift / 7);
+        let numbers = on_library(
+            call,
+            journal.get_mut(),
+            adjacency.get_mut(),
+            input.get_mut(),
+            output.get_mut(),
+        );
+        for (lent, name) in [
+            (&journal, "journal"),
+            (&adjacency, "adjacency"),
+            (&input, "input"),
+            (&output, "output"),
+        ] {
+            if !lent.guards_hold() {
+                panic!("{}: written outside the {name}", self.place(call));
+            }
+        }
+        let after = Memory {
+            journal: journal.get().to_vec(),
+            adjacency: adjacency.get().to_vec(),
+            input: input.get().to_vec(),
+            output: output.get().to_vec(),
+        };
+        (numbers, after)
+    }
+
+    fn compare(&self, call: &Call, with: &str, found: &Memory, expected: &Memory) {
+        for (name, found, expected) in [
+            ("journal", &found.journal, &expected.journal),
+            ("adjacency", &found.adjacency, &expected.adjacency),
+            ("input", &found.input, &expected.input),
+            ("output", &found.output, &expected.output),
+        ] {
+            if found != expected {
+                let byte = (0..found.len()).find(|&i| found[i] != expected[i]);
+                let place = self.place(call);
+                panic!("{place}: {name} differs from {with}, first at {byte:?}");
+            }
+        }
+    }
+
+    /// What a call is lent to read only must not change, also where the reference is not asked.
+    fn compare_inputs(&self, call: &Call, after: &Memory) {
+        let same_journal = after.journal == self.journal;
+        let same_adjacency = after.adjacency == self.adjacency;
+        let writes_journal = matches!(call, Call::Clear | Call::TakeBlock { .. } | Call::LayOut);
+        let writes_adjacency = matches!(
+            call,
+            Call::Clear | Call::AddEdge { .. } | Call::RemoveEdge { .. } | Call::Complete
+        );
+        let kept = (writes_journal || same_journal) && (writes_adjacency || same_adjacency);
+        assert!(kept, "{}: a byte lent to read changed", self.place(call));
+    }
+}

@@ -1,0 +1,116 @@
+//! How many calls, tables and refusals were tried.
+
+use crate::call::Entry;
+
+const REFUSALS: usize = 20;
+
+/// What a run tried. Counts of several runs add up.
+#[derive(Clone, Debug, Default)]
+pub struct Count {
+    /// Answers of each entry by refusal number; number 0 is a call that did its work.
+    answers: [[u64; REFUSALS + 1]; Entry::ALL.len()],
+    pub call_lists: u64,
+    pub tables_laid: u64,
+    pub tables_refused: u64,
+    pub completions: u64,
+    pub joins: u64,
+    pub switches: u64,
+    pub pairs_joined: u64,
+}
+
+impl Count {
+    pub fn new() -> Count {
+        Count::default()
+    }
+
+    /// Counts one answer.
+    pub fn answered(&mut self, entry: Entry, numbers: [u64; 6]) {
+        let number = numbers[0] as usize;
+        assert!(number <= REFUSALS, "refusal {number} does not exist");
+        self.answers[entry as usize][number] += 1;
+        match entry {
+            Entry::AddEdge if number == 0 => {
+                self.joins += 1;
+                self.switches += numbers[1];
+            }
+            Entry::Complete if number == 0 => {
+                self.completions += 1;
+                self.joins += numbers[1];
+                self.switches += numbers[2];
+            }
+            _ => {}
+        }
+    }
+
+    pub fn add(&mut self, other: &Count) {
+        for (mine, others) in self.answers.iter_mut().zip(&other.answers) {
+            for (mine, others) in mine.iter_mut().zip(others) {
+                *mine += others;
+            }
+        }
+        self.call_lists += other.call_lists;
+        self.tables_laid += other.tables_laid;
+        self.tables_refused += other.tables_refused;
+        self.completions += other.completions;
+        self.joins += other.joins;
+        self.switches += other.switches;
+        self.pairs_joined += other.pairs_joined;
+    }
+
+    pub fn calls(&self) -> u64 {
+        self.answers.iter().flatten().sum()
+    }
+
+    /// How often a refusal was answered, over all entries.
+    pub fn refusals(&self, number: usize) -> u64 {
+        self.answers.iter().map(|answers| answers[number]).sum()
+    }
+
+    /// What was never reached, in words: any refusal of any entry, or an entry's work done.
+    pub fn missing(&self) -> Vec<String> {
+        let mut missing = Vec::new();
+        for entry in Entry::ALL {
+            let answers = &self.answers[entry as usize];
+            if answers[0] == 0 {
+                missing.push(format!("{} never did its work", entry.name()));
+            }
+            for &number in entry.refusals() {
+                if answers[number] == 0 {
+                    missing.push(format!("{} never refused with {number}", entry.name()));
+                }
+            }
+        }
+        missing
+    }
+
+    pub fn print(&self) {
+        println!("entry            calls       done  refusals, number:times");
+        for entry in Entry::ALL {
+            let answers = &self.answers[entry as usize];
+            let calls: u64 = answers.iter().sum();
+            print!("{:<13}{calls:>9}{:>11} ", entry.name(), answers[0]);
+            for &number in entry.refusals() {
+                print!(" {number}:{}", answers[number]);
+            }
+            println!();
+        }
+        println!("all          {:>9}", self.calls());
+        print!("refusals    ");
+        for number in 1..=REFUSALS {
+            print!(" {number}:{}", self.refusals(number));
+        }
+        println!();
+        println!(
+            "tables        {} laid out and completed, {} refused",
+            self.tables_laid, self.tables_refused
+        );
+        println!(
+            "call lists    {}; pairs tried for joining {}",
+            self.call_lists, self.pairs_joined
+        );
+        println!(
+            "edges joined  {} with {} switches; {} completions",
+            self.joins, self.switches, self.completions
+        );
+    }
+}

@@ -1,0 +1,200 @@
+//! Document 01's third demand over whole lists of calls: a tally beside the state, fed with each
+//! call's arguments and answers, says what must hold; small states are tried pair by pair.
+
+use crate::blocks::{self, Size};
+use crate::both::Both;
+use crate::call::Call;
+use crate::tables::{cells_of, simple, sum_of, Cells};
+use reference::random::Random;
+use reference::search::find_graph;
+use reference::Matrix;
+
+/// The tally of document 01, with the blocks it has counted.
+struct Tally {
+    blocks: Vec<Vec<u8>>,
+    laid: bool,
+    edges: u64,
+}
+
+impl Tally {
+    fn new() -> Tally {
+        Tally {
+            blocks: Vec::new(),
+            laid: false,
+            edges: 0,
+        }
+    }
+
+    /// T, the summed table.
+    fn cells(&self) -> Cells {
+        sum_of(&self.blocks)
+    }
+
+    fn matrix(&self) -> Matrix {
+        let cells = self.cells();
+        let cells: Vec<_> = cells.iter().map(|(&(k, l), &n)| (k, l, n)).collect();
+        Matrix::of(&cells)
+    }
+
+    fn fed(&mut self, call: &Call, numbers: [u64; 6]) {
+        let done = numbers[0] == 0;
+        match call {
+            Call::TakeBlock { number, block } => {
+                let next = *number == self.blocks.len() as u64 && self.blocks.len() < 64;
+                if well_formed(block) && next && !self.laid {
+                    self.blocks.push(block.clone());
+                }
+            }
+            Call::LayOut if !self.laid => self.laid = self.matrix().check().is_ok(),
+            Call::AddEdge { .. } if done => self.edges += 1,
+            Call::RemoveEdge { .. } if done => self.edges -= 1,
+            Call::Complete if done => self.edges += numbers[1],
+            _ => {}
+        }
+    }
+}
+
+/// Checks 4 and 5.
+fn well_formed(block: &[u8]) -> bool {
+    let length = (4..=64).contains(&block.len()) && block.len() % 4 == 0;
+    length
+        && block
+            .chunks(4)
+            .all(|record| 1 <= record[0] && record[0] <= record[1] && record[1] <= 40)
+}
+
+/// Runs a list of taking, laying out, joining, removing and completing calls from a cleared state
+/// and checks the demand after every call.
+pub fn run(seed: u64, both: &mut Both) {
+    let mut random = Random::new(seed);
+    let plan = blocks::plan(Size::Small, &mut random);
+    let mut tally = Tally::new();
+    both.call(Call::Clear);
+    for _ in 0..2 * plan.len() + random.between(5, 25) {
+        let call = next_call(&plan, &tally, &mut random);
+        let numbers = both.call(call.clone());
+        tally.fed(&call, numbers);
+        if tally.laid {
+            check_laid(&tally, both);
+        } else {
+            check_taking(&tally, both);
+        }
+    }
+    both.count.call_lists += 1;
+}
+
+fn next_call(plan: &[Vec<u8>], tally: &Tally, random: &mut Random) -> Call {
+    let blocks = tally.blocks.len();
+    let any = |random: &mut Random| random.below(10) as u64;
+    match random.below(10) {
+        0 => Call::LayOut,
+        1 if blocks > 0 => {
+            let number = random.below(blocks);
+            Call::TakeBlock {
+                number: number as u64,
+                block: tally.blocks[number].clone(),
+            }
+        }
+        2 => {
+            let block = *random.pick(&[[1, 1, 2, 0], [2, 3, 6, 0]]);
+            Call::TakeBlock {
+                number: random.below(blocks + 2) as u64,
+                block: blocks::spoil(&block, random),
+            }
+        }
+        3 | 4 if tally.laid => Call::RemoveEdge {
+            v: any(random),
+            w: any(random),
+        },
+        5 if tally.laid && random.chance(30) => Call::Complete,
+        _ if tally.laid => Call::AddEdge {
+            v: any(random),
+            w: any(random),
+        },
+        _ if blocks < plan.len() => Call::TakeBlock {
+            number: blocks as u64,
+            block: plan[blocks].clone(),
+        },
+        _ => Call::LayOut,
+    }
+}
+
+/// Not yet laid: laying out is refused for want of a graph exactly when no graph has the table.
+fn check_taking(tally: &Tally, both: &mut Both) {
+    let numbers = both.call_on(both.journal.clone(), both.adjacency.clone(), Call::LayOut);
+    let matrix = tally.matrix();
+    if matrix.vertex_count() <= 7 {
+        let refused = (9..=11).contains(&numbers[0]);
+        assert_eq!(
+            refused,
+            find_graph(&matrix).is_none(),
+            "{:?}",
+            tally.cells()
+        );
+    }
+}
+
+/// Once laid: figures agree with the tally, every short pair can be joined, there is one while a
+/// cell is short, and completing makes exactly as many joins as edges are missing.
+fn check_laid(tally: &Tally, both: &mut Both) {
+    let matrix = tally.matrix();
+    let (vertices, edges) = (matrix.vertex_count(), matrix.edge_count());
+    let figures = both.call(Call::Figures);
+    let blocks = tally.blocks.len() as u64;
+    assert_eq!(figures, [0, 1, blocks, vertices, edges, tally.edges]);
+    let missing = edges - tally.edges;
+
+    if vertices <= 10 {
+        let pairs = short_pairs(&matrix.degrees(), &tally.cells(), &both.adjacency);
+        assert_eq!(pairs.is_empty(), missing == 0);
+        for (v, w) in pairs {
+            check_pair(v, w, tally.edges, both);
+            check_pair(w, v, tally.edges, both);
+        }
+    }
+    let journal = both.journal.clone();
+    let before = both.adjacency.clone();
+    let numbers = both.call(Call::Complete);
+    assert_eq!((numbers[0], numbers[1]), (0, missing));
+    assert!(simple(&both.adjacency));
+    assert_eq!(cells_of(&both.adjacency), tally.cells());
+    both.journal = journal;
+    both.adjacency = before;
+}
+
+/// Pairs that are not joined and whose cell, counted at the degrees laid out, is short.
+fn short_pairs(degrees: &[usize], wanted: &Cells, adjacency: &[u8]) -> Vec<(usize, usize)> {
+    let mut counted = Cells::new();
+    let mut open = Vec::new();
+    for v in 0..degrees.len() {
+        for w in v + 1..degrees.len() {
+            if adjacency[200 * v + w] == 1 {
+                let both_ends = if degrees[v] == degrees[w] { 2 } else { 1 };
+                *counted.entry((degrees[v], degrees[w])).or_default() += both_ends;
+            } else {
+                open.push((v, w));
+            }
+        }
+    }
+    let count = |cells: &Cells, cell| cells.get(&cell).copied().unwrap_or(0);
+    open.retain(|&(v, w)| {
+        let cell = (degrees[v], degrees[w]);
+        count(&counted, cell) < count(wanted, cell)
+    });
+    open
+}
+
+/// The pair is joined, the state stays valid and has exactly one edge more; then all is put back.
+fn check_pair(v: usize, w: usize, edges: u64, both: &mut Both) {
+    let adjacency = both.adjacency.clone();
+    let call = Call::AddEdge {
+        v: v as u64,
+        w: w as u64,
+    };
+    assert_eq!(both.call(call)[0], 0);
+    assert_eq!(both.adjacency[200 * v + w], 1);
+    let figures = both.call(Call::Figures);
+    assert_eq!((figures[0], figures[5]), (0, edges + 1));
+    both.adjacency = adjacency;
+    both.count.pairs_joined += 1;
+}

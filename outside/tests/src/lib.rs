@@ -1,0 +1,20 @@
+//! Tests of the proved library from outside: the same calls go to the library and to the reference,
+//! and every answer number and every lent byte must be the same afterwards.
+//!
+//! * [`call`]: one call of an entry, with all it is given
+//! * [`lent`]: slices lent between guard bytes
+//! * [`both`]: makes a call on both sides and compares
+//! * [`count`]: how many calls, tables and refusals were tried
+//! * [`blocks`]: tables cut into blocks, whole and spoiled
+//! * [`lists`]: long random call lists
+//! * [`tables`]: tables laid out and completed, checked by a count of their own
+//! * [`joins`]: which pairs can be joined, over small states
+
+pub mod blocks;
+pub mod both;
+pub mod call;
+pub mod count;
+pub mod joins;
+pub mod lent;
+pub mod lists;
+pub mod tables;

@@ -1,0 +1,465 @@
+//! Long random call lists: blocks new, resent and spoiled, layings-out, joins, removals and
+//! completions in any order, damaged journals and matrices, outputs of every length.
+
+use crate::blocks::{self, Size};
+use crate::both::Both;
+use crate::call::Call;
+use reference::graphs::{self, Graph};
+use reference::random::Random;
+use reference::{adjacency, journal, validity, Matrix};
+use reference::{ADJACENCY_LENGTH, JOURNAL_LENGTH, MOST_VERTICES};
+
+/// Runs the call list of this seed.
+pub fn run(seed: u64, size: Size, both: &mut Both) {
+    let mut random = Random::new(seed);
+    let plan = blocks::plan(size, &mut random);
+    // About every second step takes the next block.
+    let steps = 3 * plan.len() + random.between(30, 100);
+    let mut list = List { random, plan, both };
+    for _ in 0..steps {
+        list.step();
+    }
+    // Whatever the list left behind, its end is a full one if it can be.
+    list.both.call(Call::LayOut);
+    list.both.call(Call::Complete);
+    list.list_edges();
+    list.both.count.call_lists += 1;
+}
+
+struct List<'a> {
+    random: Random,
+    plan: Vec<Vec<u8>>,
+    both: &'a mut Both,
+}
+
+/// What joins and removals are chosen from, in a valid laid state.
+struct Laid {
+    degrees: Vec<usize>,
+    wanted: Matrix,
+    counted: Matrix,
+}
+
+fn edge_bytes(edges: &[(usize, usize)]) -> Vec<u8> {
+    edges
+        .iter()
+        .flat_map(|&(v, w)| [v as u8, w as u8])
+        .collect()
+}
+
+impl List<'_> {
+    fn step(&mut self) {
+        match self.random.below(100) {
+            0..=2 => self.damage(),
+            3..=4 => self.other_lengths(),
+            5 if self.random.chance(30) => {
+                self.both.call(Call::Clear);
+            }
+            _ => self.ordinary(),
+        }
+    }
+
+    /// A call that fits the phase, most of the time.
+    fn ordinary(&mut self) {
+        let laid = self.both.journal[0] == journal::LAID;
+        let fits = self.random.chance(90);
+        let call = if laid == fits {
+            self.when_laid()
+        } else {
+            self.when_taking()
+        };
+        self.both.call(call);
+    }
+
+    fn when_taking(&mut self) -> Call {
+        let blocks = journal::block_count(&self.both.journal);
+        match self.random.below(20) {
+            0..=9 if blocks < self.plan.len() => self.next_block(),
+            0..=9 => Call::LayOut,
+            10..=15 => self.other_block(),
+            16 => Call::LayOut,
+            _ => self.at_any_time(),
+        }
+    }
+
+    fn when_laid(&mut self) -> Call {
+        match self.random.below(20) {
+            0..=8 => self.join(),
+            9..=13 => self.removal(),
+            14 => Call::Complete,
+            15 => self.other_block(),
+            16 if self.random.chance(30) => Call::LayOut,
+            _ => self.at_any_time(),
+        }
+    }
+
+    fn at_any_time(&mut self) -> Call {
+        match self.random.below(4) {
+            0 => Call::Figures,
+            1 => Call::HeldBlock {
+                number: self.block_number(),
+            },
+            2 => self.edge_list(),
+            _ => self.jdm_of_edges(),
+        }
+    }
+
+    /// The block of the plan whose turn it is.
+    fn next_block(&self) -> Call {
+        let blocks = journal::block_count(&self.both.journal);
+        Call::TakeBlock {
+            number: blocks as u64,
+            block: self.plan[blocks].clone(),
+        }
+    }
+
+    /// A block that is resent, spoiled, out of turn, or not of the plan.
+    fn other_block(&mut self) -> Call {
+        let number = self.block_number();
+        let planned = match usize::try_from(number) {
+            Ok(number) if number < self.plan.len() => self.plan[number].clone(),
+            _ => vec![1, 1, 2, 0],
+        };
+        let block = match self.random.below(8) {
+            0..=2 => planned,
+            3..=5 => blocks::spoil(&planned, &mut self.random),
+            6 => blocks::any_block(3, 2, &mut self.random),
+            _ => {
+                let length = self.random.below(80);
+                self.random.bytes(length)
+            }
+        };
+        Call::TakeBlock { number, block }
+    }
+
+    /// Mostly a number around those in the journal.
+    fn block_number(&mut self) -> u64 {
+        let blocks = journal::block_count(&self.both.journal) as u64;
+        match self.random.below(10) {
+            0..=4 if blocks > 0 => self.random.any() % blocks,
+            0..=6 => blocks,
+            7 => blocks + 1,
+            8 => self.random.below(70) as u64,
+            _ => self.wild_number(),
+        }
+    }
+
+    /// A number that a careless multiplication or cast would take for a good one.
+    fn wild_number(&mut self) -> u64 {
+        match self.random.below(6) {
+            0 => u64::MAX,
+            1 => 1 << 32,
+            2 => u64::MAX - self.random.below(70) as u64,
+            3 => 256 * self.random.between(1, 4) as u64,
+            4 => (1 << self.random.between(8, 63)) + self.random.below(4) as u64,
+            _ => self.random.any(),
+        }
+    }
+
+    fn join(&mut self) -> Call {
+        if self.random.chance(70) {
+            if let Some((v, w)) = self.short_pair() {
+                let turned = self.random.chance(50);
+                let (v, w) = if turned { (w, v) } else { (v, w) };
+                return Call::AddEdge { v, w };
+            }
+        }
+        let (v, w) = self.any_pair();
+        Call::AddEdge { v, w }
+    }
+
+    fn removal(&mut self) -> Call {
+        let edges = match self.laid() {
+            Some(_) => adjacency::edges(&self.both.adjacency),
+            None => Vec::new(),
+        };
+        let (v, w) = if edges.is_empty() || self.random.chance(25) {
+            self.any_pair()
+        } else {
+            let &(v, w) = self.random.pick(&edges);
+            (v as u64, w as u64)
+        };
+        if self.random.chance(50) {
+            return Call::RemoveEdge { v: w, w: v };
+        }
+        Call::RemoveEdge { v, w }
+    }
+
+    fn laid(&self) -> Option<Laid> {
+        let (journal, adjacency) = (&self.both.journal, &self.both.adjacency);
+        if !validity::valid(journal, adjacency) || journal::phase(journal) != journal::LAID {
+            return None;
+        }
+        let wanted = journal::summed_matrix(journal);
+        let degrees = wanted.degrees();
+        let counted = adjacency::counted_at(adjacency, &degrees);
+        Some(Laid {
+            degrees,
+            wanted,
+            counted,
+        })
+    }
+
+    /// A pair that is not joined and whose cell is short.
+    fn short_pair(&mut self) -> Option<(u64, u64)> {
+        let laid = self.laid()?;
+        let mut pairs = Vec::new();
+        for v in 0..laid.degrees.len() {
+            for w in v + 1..laid.degrees.len() {
+                let (k, l) = (laid.degrees[v], laid.degrees[w]);
+                let short = laid.counted.cell(k, l) < laid.wanted.cell(k, l);
+                if short && !adjacency::joined(&self.both.adjacency, v, w) {
+                    pairs.push((v as u64, w as u64));
+                }
+            }
+        }
+        if pairs.is_empty() {
+            return None;
+        }
+        Some(*self.random.pick(&pairs))
+    }
+
+    /// Any two numbers, mostly of vertices.
+    fn any_pair(&mut self) -> (u64, u64) {
+        let vertices = self.laid().map_or(0, |laid| laid.degrees.len());
+        let v = self.vertex_number(vertices);
+        let w = if self.random.chance(10) {
+            v
+        } else {
+            self.vertex_number(vertices)
+        };
+        (v, w)
+    }
+
+    fn vertex_number(&mut self, vertices: usize) -> u64 {
+        match self.random.below(20) {
+            0 => self.wild_number(),
+            1 => vertices as u64,
+            2 => self.random.below(256) as u64,
+            _ if vertices > 0 => self.random.below(vertices) as u64,
+            _ => 0,
+        }
+    }
+
+    fn edge_list(&mut self) -> Call {
+        let edges = adjacency::edges(&self.both.adjacency).len();
+        Call::EdgeList {
+            output: self.output(2 * edges),
+        }
+    }
+
+    /// An output about as long as needed, filled with any bytes.
+    fn output(&mut self, needed: usize) -> Vec<u8> {
+        let length = match self.random.below(8) {
+            0 => 0,
+            1 => needed.saturating_sub(1),
+            2 => needed.saturating_sub(4),
+            3 => self.random.below(needed + 1),
+            4 => needed + self.random.between(1, 70),
+            _ => needed,
+        };
+        self.random.bytes(length)
+    }
+
+    fn jdm_of_edges(&mut self) -> Call {
+        let mut edges = self.some_edges();
+        if self.random.chance(40) {
+            self.spoil_edges(&mut edges);
+        }
+        let mut probe = vec![0; 4 * 820];
+        let needed = reference::jdm_of_edges(&edges, &mut probe).unwrap_or(0);
+        let output = self.output(needed as usize);
+        Call::JdmOfEdges { edges, output }
+    }
+
+    /// The edges of the state, of a random graph, of a graph with high degrees, or any bytes.
+    fn some_edges(&mut self) -> Vec<u8> {
+        match self.random.below(9) {
+            0..=2 => edge_bytes(&adjacency::edges(&self.both.adjacency)),
+            3..=4 => graphs::any(60, &mut self.random).edge_list(),
+            5 => self.clique_with_one_more().edge_list(),
+            6 => self.one_center().edge_list(),
+            7 => self.two_centers().edge_list(),
+            _ => {
+                let length = self.random.below(40);
+                self.random.bytes(length)
+            }
+        }
+    }
+
+    /// Degrees around 40 on both sides of the bound.
+    fn clique_with_one_more(&mut self) -> Graph {
+        let vertices = self.random.between(40, 44);
+        let far = self.random.between(vertices, MOST_VERTICES - 1);
+        let mut graph = graphs::cliques(vertices, vertices).widened(far + 1);
+        graph.join(self.random.below(vertices), far);
+        graph
+    }
+
+    /// One vertex joined to about 40 others.
+    fn one_center(&mut self) -> Graph {
+        let center = self.random.below(MOST_VERTICES);
+        let mut graph = Graph::new(MOST_VERTICES);
+        for w in (0..MOST_VERTICES).filter(|&w| w != center) {
+            if self.random.chance(20) {
+                graph.join(center, w);
+            }
+        }
+        graph
+    }
+
+    /// Two vertices over 40, or nearly; in the list the higher one gets there first.
+    fn two_centers(&mut self) -> Graph {
+        let lower = self.random.between(60, 100);
+        let higher = self.random.between(150, 199);
+        let mut graph = Graph::new(MOST_VERTICES);
+        for v in 0..self.random.between(39, 44) {
+            graph.join(v, higher);
+        }
+        for step in 1..=self.random.between(39, 44) {
+            graph.join(lower, lower + step);
+        }
+        graph
+    }
+
+    fn spoil_edges(&mut self, edges: &mut Vec<u8>) {
+        if edges.is_empty() {
+            edges.push(0);
+            return;
+        }
+        let place = self.random.below(edges.len());
+        match self.random.below(5) {
+            0 => {
+                edges.pop();
+            }
+            1 => edges[place] = self.random.byte(),
+            2 => edges[place] = edges[place].wrapping_add(1),
+            3 if edges.len() >= 4 => {
+                let whole = edges.len() / 2;
+                let (first, second) = (place / 2 % whole * 2, self.random.below(whole) * 2);
+                edges.swap(first, second);
+                edges.swap(first + 1, second + 1);
+            }
+            _ => {
+                let last = edges.len() / 2 * 2;
+                if last >= 2 {
+                    edges.extend_from_within(last - 2..last);
+                }
+            }
+        }
+    }
+
+    fn list_edges(&mut self) {
+        let output = self.random.bytes(8_000);
+        self.both.call(Call::EdgeList { output });
+        let length = adjacency::edges(&self.both.adjacency).len() * 2;
+        if self.both.output.len() >= length {
+            let edges = self.both.output[..length].to_vec();
+            let output = self.random.bytes(3_280);
+            self.both.call(Call::JdmOfEdges { edges, output });
+        }
+    }
+
+    /// One call on a journal or an adjacency matrix of another length.
+    fn other_lengths(&mut self) {
+        let journal_length = *self
+            .random
+            .pick(&[0, 1, JOURNAL_LENGTH - 1, JOURNAL_LENGTH]);
+        let adjacency_length = match journal_length {
+            JOURNAL_LENGTH => *self.random.pick(&[0, 200, ADJACENCY_LENGTH - 1]),
+            _ => ADJACENCY_LENGTH,
+        };
+        let (mut journal, mut adjacency) = (self.both.journal.clone(), self.both.adjacency.clone());
+        if self.random.chance(40) {
+            journal.push(0);
+        } else if self.random.chance(40) {
+            adjacency.push(0);
+        } else {
+            journal.truncate(journal_length);
+            adjacency.truncate(adjacency_length);
+        }
+        if self.random.chance(30) && !journal.is_empty() {
+            // Not valid either: the lengths come first.
+            journal[0] = 9;
+        }
+        let call = match self.random.below(10) {
+            0 => Call::Clear,
+            1 => self.other_block(),
+            2 => Call::HeldBlock { number: 0 },
+            3 => Call::LayOut,
+            4 => Call::AddEdge { v: 0, w: 1 },
+            5 => Call::RemoveEdge { v: 0, w: 1 },
+            6 => Call::Complete,
+            7 => Call::EdgeList {
+                output: self.random.bytes(9),
+            },
+            _ => Call::Figures,
+        };
+        self.both.call_on(journal, adjacency, call);
+    }
+
+    /// Changes some bytes, makes some calls, and puts the bytes back unless they are valid again.
+    fn damage(&mut self) {
+        let journal = self.both.journal.clone();
+        let adjacency = self.both.adjacency.clone();
+        for _ in 0..self.random.between(1, 2) {
+            if self.random.chance(50) {
+                self.damage_journal();
+            } else {
+                self.damage_adjacency();
+            }
+        }
+        self.both.call(Call::Figures);
+        for _ in 0..self.random.below(8) {
+            self.ordinary();
+        }
+        let valid = validity::valid(&self.both.journal, &self.both.adjacency);
+        if !valid || self.random.chance(50) {
+            self.both.journal = journal;
+            self.both.adjacency = adjacency;
+        }
+    }
+
+    fn damage_journal(&mut self) {
+        let blocks = journal::block_count(&self.both.journal);
+        let slot = self.random.below(blocks.clamp(1, 64));
+        let start = journal::slot_start(slot);
+        let place = match self.random.below(8) {
+            0 => 0,
+            1 => 1,
+            2 => start,
+            3 => start + 1 + self.random.below(8),
+            4 => start + self.random.below(65),
+            5 => journal::slot_start(blocks.min(63)) + self.random.below(65),
+            6 => JOURNAL_LENGTH - 1,
+            _ => self.random.below(JOURNAL_LENGTH),
+        };
+        let byte = &mut self.both.journal[place];
+        *byte = match self.random.below(4) {
+            0 => byte.wrapping_add(1),
+            1 => byte.wrapping_sub(1),
+            2 => *self.random.pick(&[0, 1, 4, 40, 41, 64, 65, 68]),
+            _ => self.random.byte(),
+        };
+    }
+
+    fn damage_adjacency(&mut self) {
+        let vertices = self.laid().map_or(3, |laid| laid.degrees.len().max(2));
+        let v = self.random.below(vertices);
+        let w = self.random.below(vertices);
+        let far = self.random.between(vertices.min(199), 199);
+        let bytes = &mut self.both.adjacency;
+        match self.random.below(8) {
+            0..=2 if v != w => adjacency::insert(bytes, v, w),
+            3 if v != w => adjacency::remove(bytes, v, w),
+            4 => bytes[adjacency::place(v, w)] ^= 1,
+            5 => {
+                let byte = self.random.byte();
+                bytes[adjacency::place(v, w)] = byte;
+                bytes[adjacency::place(w, v)] = byte;
+            }
+            6 => bytes[adjacency::place(v, v)] = 1,
+            7 => adjacency::insert(bytes, v, far),
+            _ => bytes[self.random.below(ADJACENCY_LENGTH)] ^= 1,
+        }
+    }
+}

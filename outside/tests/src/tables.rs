@@ -1,0 +1,262 @@
+//! Tables laid out and completed, from empty and from starts made by hand, and checked by a count
+//! that uses neither the library nor the reference.
+
+use crate::blocks;
+use crate::both::Both;
+use crate::call::Call;
+use reference::adjacency;
+use reference::graphs::{self, Graph};
+use reference::random::Random;
+use reference::Matrix;
+use std::collections::BTreeMap;
+
+/// Cells (k, l) with k at most l that are not 0.
+pub type Cells = BTreeMap<(usize, usize), u64>;
+
+/// How a state comes to its first edges.
+#[derive(Clone, Copy, Debug, PartialEq, Eq)]
+pub enum Start {
+    Empty,
+    /// Joins and removals of random pairs.
+    ByHand,
+}
+
+/// The sum of all records.
+pub fn sum_of(blocks: &[Vec<u8>]) -> Cells {
+    let mut cells = Cells::new();
+    for record in blocks.iter().flat_map(|block| block.chunks(4)) {
+        let count = u64::from(record[2]) + 256 * u64::from(record[3]);
+        if count > 0 {
+            *cells
+                .entry((record[0] as usize, record[1] as usize))
+                .or_default() += count;
+        }
+    }
+    cells
+}
+
+/// Equation (1) at the degrees the graph itself has.
+pub fn cells_of(adjacency: &[u8]) -> Cells {
+    let rows: Vec<&[u8]> = adjacency.chunks(200).collect();
+    let degrees: Vec<usize> = rows
+        .iter()
+        .map(|row| row.iter().map(|&byte| byte as usize).sum())
+        .collect();
+    let mut cells = Cells::new();
+    for v in 0..200 {
+        for w in (0..200).filter(|&w| rows[v][w] == 1) {
+            // From v's side: cell (k, k) is met from both ends, any other once with k below l.
+            if degrees[v] <= degrees[w] {
+                *cells.entry((degrees[v], degrees[w])).or_default() += 1;
+            }
+        }
+    }
+    cells
+}
+
+/// Whether the bytes are a simple graph: 0 or 1, symmetric, no loops.
+pub fn simple(adjacency: &[u8]) -> bool {
+    (0..200).all(|v| {
+        adjacency[201 * v] == 0
+            && (0..v).all(|w| {
+                let byte = adjacency[200 * v + w];
+                byte <= 1 && byte == adjacency[200 * w + v]
+            })
+    })
+}
+
+/// Lays a table out and completes it, or sees it refused. Returns whether it was laid.
+pub fn run(matrix: &Matrix, start: Start, random: &mut Random, both: &mut Both) -> bool {
+    let blocks = take_all(matrix, random, both);
+    let numbers = both.call(Call::LayOut);
+    if numbers[0] != 0 {
+        assert!((9..=12).contains(&numbers[0]));
+        both.count.tables_refused += 1;
+        return false;
+    }
+    let laid = match start {
+        Start::Empty => 0,
+        Start::ByHand => edges_by_hand(numbers[1] as usize, random, both),
+    };
+    finish(&sum_of(&blocks), laid, both);
+    true
+}
+
+/// Lays out the table of a graph, lays some of the graph's own edges by hand, and completes.
+pub fn run_from_part_of(graph: &Graph, random: &mut Random, both: &mut Both) {
+    let graph = graph.by_rising_degree();
+    let blocks = take_all(&graph.matrix(), random, both);
+    let vertices = graph.vertices() as u64;
+    assert_eq!(both.call(Call::LayOut), [0, vertices, 0, 0, 0, 0]);
+    let percent = random.between(1, 99);
+    let mut edges: Vec<(usize, usize)> = graph.edges().iter().copied().collect();
+    edges.retain(|_| random.chance(percent));
+    random.shuffle(&mut edges);
+    for (i, &(v, w)) in edges.iter().enumerate() {
+        if i < MOST_BY_CALLS {
+            // No vertex and no cell is above what the graph itself has, so nothing is switched.
+            let (v, w) = (v as u64, w as u64);
+            assert_eq!(both.call(Call::AddEdge { v, w }), [0; 6]);
+        } else {
+            adjacency::insert(&mut both.adjacency, v, w);
+        }
+    }
+    finish(&sum_of(&blocks), edges.len() as u64, both);
+}
+
+/// Edges of a large start beyond these are written as bytes, to save time.
+const MOST_BY_CALLS: usize = 100;
+
+/// Clears, and takes the table's blocks, some of them twice.
+fn take_all(matrix: &Matrix, random: &mut Random, both: &mut Both) -> Vec<Vec<u8>> {
+    both.call(Call::Clear);
+    let blocks = blocks::cut(matrix, random);
+    for (number, block) in (0..).zip(&blocks) {
+        take(both, number, block, [0, 0, number + 1, 0, 0, 0]);
+        if random.chance(20) {
+            take(both, number, block, [0, 1, 0, 0, 0, 0]);
+        }
+    }
+    blocks
+}
+
+fn take(both: &mut Both, number: u64, block: &[u8], expected: [u64; 6]) {
+    let block = block.to_vec();
+    assert_eq!(both.call(Call::TakeBlock { number, block }), expected);
+}
+
+/// Tries random joins and some removals. Returns the edges laid.
+fn edges_by_hand(vertices: usize, random: &mut Random, both: &mut Both) -> u64 {
+    let mut laid = 0;
+    if vertices < 2 {
+        return laid;
+    }
+    for _ in 0..random.between(1, 3 * vertices.min(30)) {
+        let v = random.below(vertices) as u64;
+        let w = random.below(vertices) as u64;
+        if both.call(Call::AddEdge { v, w })[0] == 0 {
+            laid += 1;
+        }
+        let v = random.below(vertices) as u64;
+        if random.chance(20) && both.call(Call::RemoveEdge { v, w })[0] == 0 {
+            laid -= 1;
+        }
+    }
+    laid
+}
+
+/// Completes and checks the graph by its own count, by its list and by the list's matrix.
+fn finish(wanted: &Cells, laid: u64, both: &mut Both) {
+    let ends = |(&(k, l), &count): (&(usize, usize), &u64)| if k == l { count } else { 2 * count };
+    let edges = wanted.iter().map(ends).sum::<u64>() / 2;
+    let numbers = both.call(Call::Complete);
+    assert_eq!((numbers[0], numbers[1]), (0, edges - laid));
+    assert!(simple(&both.adjacency));
+    assert_eq!(&cells_of(&both.adjacency), wanted);
+    assert_eq!(both.call(Call::Complete), [0; 6]);
+
+    let output = vec![0xee; 2 * edges as usize];
+    let numbers = both.call(Call::EdgeList { output });
+    assert_eq!(numbers, [0, 2 * edges, 0, 0, 0, 0]);
+    let list = both.output.clone();
+    let length = 4 * wanted.len();
+    let call = Call::JdmOfEdges {
+        edges: list,
+        output: vec![0xee; length],
+    };
+    assert_eq!(both.call(call), [0, length as u64, 0, 0, 0, 0]);
+    assert_eq!(&sum_of(std::slice::from_ref(&both.output)), wanted);
+    both.count.tables_laid += 1;
+}
+
+/// Some degrees, and a most for each cell among them.
+struct Family {
+    degrees: &'static [usize],
+    most: u64,
+}
+
+const FAMILIES: [Family; 9] = [
+    Family {
+        degrees: &[1, 2, 3],
+        most: 3,
+    },
+    Family {
+        degrees: &[1, 2],
+        most: 10,
+    },
+    Family {
+        degrees: &[2, 3],
+        most: 9,
+    },
+    Family {
+        degrees: &[1, 4],
+        most: 8,
+    },
+    Family {
+        degrees: &[2, 4],
+        most: 8,
+    },
+    Family {
+        degrees: &[3, 4],
+        most: 12,
+    },
+    Family {
+        degrees: &[1],
+        most: 204,
+    },
+    Family {
+        degrees: &[2],
+        most: 60,
+    },
+    Family {
+        degrees: &[4],
+        most: 100,
+    },
+];
+
+/// Every table of small families, whether it has a graph or not.
+pub fn exhaustive() -> Vec<Matrix> {
+    let mut tables = Vec::new();
+    for family in &FAMILIES {
+        let mut pairs = Vec::new();
+        for (i, &k) in family.degrees.iter().enumerate() {
+            pairs.extend(family.degrees[i..].iter().map(|&l| (k, l)));
+        }
+        fill(&pairs, family.most, &Matrix::new(), &mut tables);
+    }
+    tables
+}
+
+fn fill(pairs: &[(usize, usize)], most: u64, matrix: &Matrix, tables: &mut Vec<Matrix>) {
+    let Some((&(k, l), rest)) = pairs.split_first() else {
+        tables.push(matrix.clone());
+        return;
+    };
+    for count in 0..=most {
+        let mut with_count = matrix.clone();
+        with_count.add(k, l, count);
+        fill(rest, most, &with_count, tables);
+    }
+}
+
+/// Tables at the bounds: most vertices, most edges, most cells, cells as large as they can be.
+pub fn at_the_bounds() -> Vec<Matrix> {
+    vec![
+        Matrix::new(),
+        Matrix::of(&[(40, 40, 8_000)]),
+        Matrix::of(&[(40, 40, 8_040)]),
+        Matrix::of(&[(40, 40, 1_640)]),
+        Matrix::of(&[(40, 40, 1_600)]),
+        Matrix::of(&[(1, 1, 200)]),
+        Matrix::of(&[(1, 1, 202)]),
+        Matrix::of(&[(1, 40, 160)]),
+        Matrix::of(&[(39, 40, 1_560)]),
+        Matrix::of(&[(39, 40, 3_120)]),
+        Matrix::of(&[(20, 40, 2_640)]),
+        Matrix::of(&[(20, 40, 40)]),
+        Matrix::of(&[(39, 39, 7_800)]),
+        graphs::spread(200, 40, &mut Random::new(3)).matrix(),
+        graphs::cliques(200, 41).matrix(),
+        graphs::cliques(200, 40).matrix(),
+    ]
+}
