@@ -1,11 +1,9 @@
 -- Adding an edge, on the definitions: what an answer Added rests on, and that an open pair of a valid laid state is always added.
 -- Assumes nothing.
-use mathlib.Core.Path.{_≡_, refl, sym, ap, subst, _∙_}
+use mathlib.Core.Path.{_≡_, refl, subst, _∙_}
 use mathlib.Core.Bool.{Bool, true, false, not}
 use mathlib.Core.List.{List}
-use mathlib.Core.Logic.{_≢_}
-use Prim.Native.Nat.{ℕ, _+_, _≤_, _<_, min, max}
-use native.Mathlib.Omega.{arith}
+use Prim.Native.Nat.{ℕ, _+_, min, max}
 use lib.Dec.{eqb, ltb}
 use lib.ListN.{length}
 use borrow.Author.Tests.{lt-ltb, eq-eqb, ne-eqb, ltb-true, eqb-true, eqb-false, not-true}
@@ -13,7 +11,7 @@ use Rattle.answer.specs.Refusals.{refusal, unless}
 use Rattle.answer.specs.declared.Cause.the-variants.{Length, Invalid, Phase, VertexNumber, SameVertex, Linked, CellFull}
 use Rattle.answer.specs.declared.AddAnswer.{AddAnswer}
 use Rattle.answer.specs.declared.AddAnswer.the-variants.{Added, Refused}
-use Rattle.graph.specs.Graph.{edges, jdm, atEdge}
+use Rattle.graph.specs.Graph.{atEdge}
 use Rattle.graph.specs.Target.{Open}
 use Rattle.graph.specs.Tests.{degrees}
 use Rattle.graph.specs.Switch.{Joined}
@@ -27,7 +25,7 @@ use Rattle.state.proofs.Facts.{StateFacts, Laid, valid-facts}
 use Rattle.state.proofs.Graph.{laid-partial, laid-outside, laid-valid}
 use Rattle.joining.specs.Join.{own, joinBytes, joinCount}
 use Rattle.joining.proofs.Bytes.{join-bytes, join-length, join-outside}
-use Rattle.editing.specs.Add.{addAnswer, addAdjacency}
+use Rattle.editing.specs.Add.{addAnswer}
 
 -- what the checks of an added edge said
 pub record AddFacts (j g : List ℕ) (v w : ℕ) : Type 0 where

@@ -1,6 +1,6 @@
 -- Removing an edge, on the definitions: what an answer Removed rests on, and that it leaves the state valid with exactly one edge less.
 -- Assumes nothing.
-use mathlib.Core.Path.{_≡_, refl, sym, ap, subst, _∙_}
+use mathlib.Core.Path.{_≡_, refl, subst, _∙_}
 use mathlib.Core.Bool.{Bool, true, false, not}
 use mathlib.Core.List.{List}
 use mathlib.Core.Logic.{_≢_}
@@ -13,7 +13,7 @@ use Rattle.answer.specs.Refusals.{refusal, unless}
 use Rattle.answer.specs.declared.Cause.the-variants.{Length, Invalid, Phase, VertexNumber, SameVertex, NotLinked}
 use Rattle.answer.specs.declared.RemoveAnswer.{RemoveAnswer}
 use Rattle.answer.specs.declared.RemoveAnswer.the-variants.{Removed, Refused}
-use Rattle.graph.specs.Graph.{Simple, AddsEdge, edges, jdm, atEdge}
+use Rattle.graph.specs.Graph.{Simple, AddsEdge}
 use Rattle.graph.specs.Target.{Partial}
 use Rattle.graph.specs.Tests.{degrees}
 use Rattle.graph.specs.Theorems.{Updated}
@@ -26,7 +26,7 @@ use Rattle.state.specs.Valid.{lengthsOk, valid}
 use Rattle.state.specs.Laid.{vertexCount, degreeAt, edgeTotal}
 use Rattle.state.proofs.Facts.{StateFacts, Laid, valid-facts, lengths-both}
 use Rattle.state.proofs.Graph.{laid-partial, laid-outside, laid-valid}
-use Rattle.editing.specs.Remove.{removeAnswer, removeAdjacency}
+use Rattle.editing.specs.Remove.{removeAnswer}
 
 -- what the checks of a removed edge said
 pub record RemoveFacts (j g : List ℕ) (v w : ℕ) : Type 0 where

@@ -1,20 +1,24 @@
 // Adding an edge (document 01: join).
 ghost use mathlib.Core.Path.{_≡_};
 ghost use mathlib.Core.Bool.{true};
-ghost use Prim.Native.Nat.{ℕ, _+_, _≤_, _<_};
+ghost use Prim.Native.Nat.{_+_, _≤_, _<_, min, max};
 ghost use lib.Dec.{ltb};
 ghost use lib.ListN.{length};
+ghost use Rattle.answer.specs.Refusals.{refusal};
+ghost use Rattle.answer.specs.declared.Cause.the-variants.{CellFull};
 ghost use Rattle.graph.specs.Graph.{jdm};
 ghost use Rattle.graph.specs.Tests.{degrees};
 ghost use Rattle.table.specs.Cells.{matrixOf, AtMost, cellSumMost};
 ghost use Rattle.table.specs.Layout.{vertices, vertexDegree, countsOf, mostVertices};
-ghost use Rattle.journal.specs.Journal.{phase};
+ghost use Rattle.journal.specs.Journal.{journalSize, journalOk};
 ghost use Rattle.adjacency.specs.Adjacency.{adjacencySize, edge};
-ghost use Rattle.state.specs.Valid.{lengthsOk, valid};
+ghost use Rattle.state.proofs.Facts.{Laid};
 ghost use Rattle.editing.specs.Add.{addLaid, addAnswer, addAdjacency};
+ghost use Rattle.editing.specs.Work.{Unlinked, addUnlinked, addedAdjacency};
 use adjacency::edge_at;
 use answer::AddAnswer;
 use answer::Cause;
+use answer::Refusal;
 use answer::refuse;
 use journal::cells_of;
 use journal::phase_of;
@@ -39,9 +43,43 @@ fn is_short(adjacency: &[u8], cells: &[u32; 1681], counts: &[usize; 41], k: usiz
         < table::cells::cell(cells, k, l)
 }
 
-// On a valid laid state: the checks 13 to 16, then the switches and the edge.
+// Cell (k, l) is not short: its degrees, lower first.
+fn full_cell(k: usize, l: usize) -> Refusal
+    ensures { λ r. ⌜ r ≡ refusal CellFull (min k l) (max k l) ⌝ }
+{
+    if k <= l {
+        return refuse(Cause::CellFull, k, l);
+    }
+    refuse(Cause::CellFull, l, k)
+}
+
+// On two unlinked vertices: the check 16, then the switches and the edge.
+fn add_unlinked(
+    adjacency: &mut [u8],
+    cells: &[u32; 1681],
+    counts: &[usize; 41],
+    v: usize,
+    w: usize,
+) -> AddAnswer
+    requires { ⌜ Unlinked (matrixOf (now cells)) (now adjacency) v w × AtMost cellSumMost (now cells) × (now counts ≡ countsOf (matrixOf (now cells))) ⌝ }
+    ensures { λ r. ⌜ r ≡ addUnlinked (matrixOf (now (cells .entry))) (now (adjacency .entry)) v w ⌝ }
+    ensures { λ _. ⌜ now (adjacency .exit) ≡ addedAdjacency (addUnlinked (matrixOf (now (cells .entry))) (now (adjacency .entry)) v w) (matrixOf (now (cells .entry))) (now (adjacency .entry)) v w ⌝ }
+{
+    let c = classes(cells, counts);
+    let k = wide(c[v]);
+    let l = wide(c[w]);
+    if !is_short(adjacency, cells, counts, k, l) {
+        return AddAnswer::Refused(full_cell(k, l));
+    }
+    let n = vertex_count(cells, counts);
+    let mut held = joining::degrees(adjacency, n);
+    let done = joining::join(adjacency, &mut held, &c, n, v, w, 0, 0);
+    AddAnswer::Added(done.switches)
+}
+
+// On a valid laid state: the checks 13 to 15, then the pair.
 fn add_laid(journal: &[u8], adjacency: &mut [u8], v: usize, w: usize) -> AddAnswer
-    requires { ⌜ (lengthsOk (now journal) (now adjacency) ≡ true) × (valid (now journal) (now adjacency) ≡ true) × (phase (now journal) ≡ 1) ⌝ }
+    requires { ⌜ (length (now journal) ≡ journalSize) × (journalOk (now journal) ≡ true) × (length (now adjacency) ≡ adjacencySize) × Laid (now journal) (now adjacency) ⌝ }
     ensures { λ r. ⌜ r ≡ addLaid (now (journal .entry)) (now (adjacency .entry)) v w ⌝ }
     ensures { λ _. ⌜ now (adjacency .exit) ≡ addAdjacency (addLaid (now (journal .entry)) (now (adjacency .entry)) v w) (now (journal .entry)) (now (adjacency .entry)) v w ⌝ }
 {
@@ -60,25 +98,7 @@ fn add_laid(journal: &[u8], adjacency: &mut [u8], v: usize, w: usize) -> AddAnsw
     if edge_at(adjacency, v, w) != 0 {
         return AddAnswer::Refused(refuse(Cause::Linked, 0, 0));
     }
-    let c = classes(&cells, &d);
-    let k = wide(c[v]);
-    let l = wide(c[w]);
-    if !is_short(adjacency, &cells, &d, k, l) {
-        return AddAnswer::Refused(full_cell(k, l));
-    }
-    let mut held = joining::degrees(adjacency, n);
-    let done = joining::join(adjacency, &mut held, &c, n, v, w, 0, 0);
-    AddAnswer::Added(done.switches)
-}
-
-// Cell (k, l) is not short: its degrees, lower first.
-fn full_cell(k: usize, l: usize) -> Refusal
-    ensures { λ r. ⌜ r ≡ refusal CellFull (min k l) (max k l) ⌝ }
-{
-    if k <= l {
-        return refuse(Cause::CellFull, k, l);
-    }
-    refuse(Cause::CellFull, l, k)
+    add_unlinked(adjacency, &cells, &d, v, w)
 }
 
 pub fn add_edge(journal: &[u8], adjacency: &mut [u8], v: usize, w: usize) -> AddAnswer

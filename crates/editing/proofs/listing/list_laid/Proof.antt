@@ -1,5 +1,5 @@
 -- `editing::listing::list_laid` meets its contract: twice the number of edges is the length of the list.
-use mathlib.Core.Path.{_≡_, refl, sym, ap, _∙_}
+use mathlib.Core.Path.{refl, sym, ap, _∙_}
 use Prim.Native.Nat.{ℕ, _*_}
 use native.Mathlib.Omega.{arith}
 use borrow.Author.Needs.{needs}
@@ -17,39 +17,40 @@ use Rattle.editing.proofs.listing.list_laid.Tie as tie
 pub list-laid-spec : {M : Type 1} → statement M
 list-laid-spec =
     tie.close (tie.spec
-    (λ c κs. let s = c .before .before .before in (s .pre .0, s .pre .1)) -- laid-vertices-requires
-    (λ c κs. let s = c .before .before .before .before in (s .pre .2, rw (c .laid-vertices .ensures) (s .pre .3))) -- edge-count-requires
+    (λ c κs. let s = c .before .before .before in (s .pre .0, s .pre .1))  -- laid-vertices-requires
+    (λ c κs. let s = c .before .before .before .before in (s .pre .2, rw (c .laid-vertices .ensures) (s .pre .3)))  -- edge-count-requires
     (λ c.
-      let l = c .before in
-      let s = l .before .before .before .before in
-      let g = s .args .adjacency .now in
-      let n = l .laid-vertices .ensures in
-      omega (arith, c .edge-count .ensures ∙ ap (λ (m : ℕ). edges m (edge g)) n, edges-few _ (edge g) (s .pre .3) (s .pre .4))) -- mul-bytes
-    (λ c κs. tt) -- refuse-requires
+    let l = c .before in
+    let s = l .before .before .before .before in
+    let g = s .args .adjacency .now in
+    let n = l .laid-vertices .ensures in
+    omega (arith, c .edge-count .ensures ∙ ap (λ (m : ℕ). edges m (edge g)) n, edges-few _ (edge g) (s .pre .3) (s .pre .4)))  -- mul-bytes
+    (λ c κs. tt)  -- refuse-requires
     (λ c.
-      let i = c .before in
-      let m = i .before in
-      let l = m .before in
-      let s = l .before .before .before .before in
-      let g = s .args .adjacency .now in
-      let e = m .edge-count .ensures ∙ ap (λ (n : ℕ). edges n (edge g)) (l .laid-vertices .ensures) in
-      let b = list-length _ g (s .pre .4) ∙ ap (λ (x : ℕ). 2 * x) (sym e) in
-      rw (lt-leb _ _ (rw (← b) at (i .if1 .taken))) (ap Refused (c .refuse .ensures), refl)) -- returns
+    let i = c .before in
+    let m = i .before in
+    let l = m .before in
+    let s = l .before .before .before .before in
+    let g = s .args .adjacency .now in
+    let e = m .edge-count .ensures ∙ ap (λ (n : ℕ). edges n (edge g)) (l .laid-vertices .ensures) in
+    let b = list-length _ g (s .pre .4) ∙ ap (λ (x : ℕ). 2 * x) (sym e) in
+    rw (lt-leb _ _ (rw (← b) at (i .if1 .taken))) (ap Refused (c .refuse .ensures), refl))  -- returns
     (λ c κs.
-      let l = c .before .before .before in
-      let s = l .before .before .before .before in
-      (s .pre .2, rw (l .laid-vertices .ensures) (s .pre .3))) -- put-list-requires
-    (λ c. search needs) -- same-length
+    let l = c .before .before .before in
+    let s = l .before .before .before .before in
+    (s .pre .2, rw (l .laid-vertices .ensures) (s .pre .3)))  -- put-list-requires
+    (λ c. search needs)  -- same-length
     (λ c.
-      let p = c .before .before in
-      let i = p .before .before in
-      let m = i .before in
-      let l = m .before in
-      let s = l .before .before .before .before in
-      let g = s .args .adjacency .now in
-      let n = l .laid-vertices .ensures in
-      let e = m .edge-count .ensures ∙ ap (λ (n : ℕ). edges n (edge g)) n in
-      let b = list-length _ g (s .pre .4) ∙ ap (λ (x : ℕ). 2 * x) (sym e) in
-      rw (le-leb _ _ (rw (← b) at (i .if1 .left)))
-      (ap Written (p .put-list .ensures .0 ∙ ap (λ (n : ℕ). length (listBytes n g)) n),
-      p .put-list .ensures .1 ∙ ap (λ (n : ℕ). sets (s .args .output .now) 0 (listBytes n g)) n))) -- returns-2
+    let p = c .before .before in
+    let i = p .before .before in
+    let m = i .before in
+    let l = m .before in
+    let s = l .before .before .before .before in
+    let g = s .args .adjacency .now in
+    let n = l .laid-vertices .ensures in
+    let e = m .edge-count .ensures ∙ ap (λ (n : ℕ). edges n (edge g)) n in
+    let b = list-length _ g (s .pre .4) ∙ ap (λ (x : ℕ). 2 * x) (sym e) in
+    rw (le-leb _ _ (rw (← b) at (i .if1 .left))) (
+      ap Written (p .put-list .ensures .0 ∙ ap (λ (n : ℕ). length (listBytes n g)) n),
+      p .put-list .ensures .1 ∙ ap (λ (n : ℕ). sets (s .args .output .now) 0 (listBytes n g)) n,
+    )))  -- returns-2

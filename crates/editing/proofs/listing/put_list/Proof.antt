@@ -1,6 +1,6 @@
 -- `editing::listing::put_list` meets its contract: the rows up to v are written.
 use mathlib.Core.Path.{_≡_, refl}
-use Prim.Native.Nat.{_≤_, _+_, _-_, _*_}
+use Prim.Native.Nat.{_≤_, _-_, _*_}
 use native.Mathlib.Nat.{zero-add}
 use native.Mathlib.Omega.{arith}
 use lib.ListN.{length, length-append}
@@ -22,19 +22,20 @@ abbrev μ-loop : tie.MeasureT-loop
 pub put-list-spec : {M : Type 1} → statement M
 put-list-spec =
     tie.close (tie.spec Inv-loop μ-loop
-    (λ c. rw catTo-none (omega arith, omega arith, omega arith, refl)) -- loop-holds
-    (λ c κs. omega arith) -- put-row-requires
-    (λ c. omega arith) -- add-v
-    (λ c. omega arith) -- loop-less
+    (λ c. rw catTo-none (omega arith, omega arith, omega arith, refl))  -- loop-holds
+    (λ c κs. omega arith)  -- put-row-requires
+    (λ c. omega arith)  -- add-v
+    (λ c. omega arith)  -- loop-less
     (λ c.
-      let p = c .before .before in
-      let l = p .before .before .before in
-      (omega arith,
+    let p = c .before .before in
+    let l = p .before .before .before in (
+      omega arith,
       simp (catTo-more, length-append) (omega arith),
       omega arith,
-      simp (catTo-more, sets-append, zero-add) (rw (← (l .loop .inv .3), ← (l .loop .inv .1)) (p .put-row .ensures .1)))) -- loop-again
-    (λ c. rw (c .before .loop .inv .3, length-sets)) -- same-length
+      simp (catTo-more, sets-append, zero-add) (rw (← (l .loop .inv .3), ← (l .loop .inv .1)) (p .put-row .ensures .1)),
+    ))  -- loop-again
+    (λ c. rw (c .before .loop .inv .3, length-sets))  -- same-length
     (λ c.
-      let l = c .before in
-      let e : l .loop .v ≡ l .before .before .before .args .n = omega arith in
-      (rw e at (l .loop .inv .1), rw e at (l .loop .inv .3)))) -- returns
+    let l = c .before in
+    let e : l .loop .v ≡ l .before .before .before .args .n = omega arith in
+    (rw e at (l .loop .inv .1), rw e at (l .loop .inv .3))))  -- returns

@@ -21,23 +21,24 @@ abbrev μ-loop : tie.MeasureT-loop
 pub put-row-spec : {M : Type 1} → statement M
 put-row-spec =
     tie.close (tie.spec Inv-loop μ-loop
-    (λ c. omega arith) -- add-w
+    (λ c. omega arith)  -- add-w
     (λ c.
-      let a = c .before .before .args in
-      rw (row-starts (a .adjacency .now) (a .v)) (omega arith, omega arith, omega arith, omega arith, refl)) -- loop-holds
-    (λ c κs. omega arith) -- put-edge-requires
-    (λ c. omega arith) -- add-w-2
-    (λ c. omega arith) -- loop-less
+    let a = c .before .before .args in
+    rw (row-starts (a .adjacency .now) (a .v)) (omega arith, omega arith, omega arith, omega arith, refl))  -- loop-holds
+    (λ c κs. omega arith)  -- put-edge-requires
+    (λ c. omega arith)  -- add-w-2
+    (λ c. omega arith)  -- loop-less
     (λ c.
-      let p = c .before .before in
-      let l = p .before .before .before in
-      (omega arith,
+    let p = c .before .before in
+    let l = p .before .before .before in (
+      omega arith,
       omega arith,
       simp (catTo-more, length-append) (omega arith),
       omega arith,
-      simp (catTo-more, sets-append) (rw (← (l .loop .inv .4), ← (l .loop .inv .2)) (p .put-edge .ensures .1)))) -- loop-again
-    (λ c. rw (c .before .loop .inv .4, length-sets)) -- same-length
+      simp (catTo-more, sets-append) (rw (← (l .loop .inv .4), ← (l .loop .inv .2)) (p .put-edge .ensures .1)),
+    ))  -- loop-again
+    (λ c. rw (c .before .loop .inv .4, length-sets))  -- same-length
     (λ c.
-      let l = c .before in
-      let e : l .loop .w ≡ l .before .before .before .args .n = omega arith in
-      rw (← e) ((l .loop .inv .2, omega arith), l .loop .inv .4))) -- returns
+    let l = c .before in
+    let e : l .loop .w ≡ l .before .before .before .args .n = omega arith in
+    rw (← e) ((l .loop .inv .2, omega arith), l .loop .inv .4)))  -- returns
