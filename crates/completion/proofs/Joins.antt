@@ -41,7 +41,7 @@ start-resumes n cls g c r =
     before-rows u h e = omega (arith, r .rows .only u (omega (arith, r .rows .ordered, r .rows .within)) e)
 
 -- x: the state after i of the joins
-module _ (n : ℕ) (cls : ℕ → ℕ) (c : Cell) (m : ℕ) (s : Ran) (held₀ : List ℕ) (p : Fillable n cls c m s held₀)
+module _ {n : ℕ} {cls : ℕ → ℕ} {c : Cell} {m : ℕ} {s : Ran} {held₀ : List ℕ} (p : Fillable n cls c m s held₀)
     (i : ℕ) (x : Ran) (e : x ≡ foldTo i (λ i. cellStep n cls (c .k) (c .l)) s) where
   fill-sound : i ≤ m → Sound n cls (p .table) x
   fill-sound h = rw e (part-sound n cls (p .table) s (p .sound) (c .k) (c .l) (p .ranged .first) (p .ranged .second) i (omega (arith, p .missing)))

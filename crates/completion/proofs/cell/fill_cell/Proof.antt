@@ -35,7 +35,7 @@ fill-cell-spec =
     let l = t .before in
     let f = l .before .before in
     let a = f .args in
-    fill-steppable (a .n) (classAt (a .classes .now)) (a .cell) (a .m) (ran (a .adjacency .now) (a .totals)) (a .held .now) (f .pre) (l .loop .counter) _ (l .loop .inv .1)
+    fill-steppable (f .pre) (l .loop .counter) _ (l .loop .inv .1)
     (t .loop-test .taken) _ _ (l .loop .inv .3) (l .loop .inv .2))  -- fill-step-requires
     (λ c. let l = c .before .before .before .before .before .before .before .before in omega (arith, l .loop .inv .0))  -- add-counter
     (λ c. let l = c .before .before .before .before .before .before .before .before in omega (arith, l .loop .inv .0))  -- loop-less
@@ -53,7 +53,7 @@ fill-cell-spec =
     let l = c .before in
     let f = l .before .before in
     let a = f .args in
-    fill-sized (a .n) (classAt (a .classes .now)) (a .cell) (a .m) (ran (a .adjacency .now) (a .totals)) (a .held .now) (f .pre) (l .loop .counter) _ (l .loop .inv .1)
+    fill-sized (f .pre) (l .loop .counter) _ (l .loop .inv .1)
     (l .loop .inv .0))  -- same-length
     (λ c.
     let l = c .before in

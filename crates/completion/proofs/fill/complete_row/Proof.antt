@@ -35,8 +35,8 @@ complete-row-spec =
     let l = t .before in
     let f = l .before .before in
     let a = f .args in (
-      working (a .n) (a .cells .now) (a .classes .now) (a .starts .now) (a .held .now) (ran (a .adjacency .now) (a .totals)) (f .pre .0) _
-          (cells-sound (a .n) (a .cells .now) (a .classes .now) (a .starts .now) (a .held .now) (ran (a .adjacency .now) (a .totals)) (f .pre .0) (l .loop .i) _ (a .k)
+      working (f .pre .0) _
+          (cells-sound (f .pre .0) (l .loop .i) _ (a .k)
           (l .loop .inv .0) (l .loop .inv .1))
           _ (l .loop .inv .2),
       f .pre .1,
@@ -57,8 +57,8 @@ complete-row-spec =
     let l = c .before in
     let f = l .before .before in
     let a = f .args in
-    working-sized (a .n) (a .cells .now) (a .classes .now) (a .starts .now) (a .held .now) (ran (a .adjacency .now) (a .totals)) (f .pre .0) _
-    (cells-sound (a .n) (a .cells .now) (a .classes .now) (a .starts .now) (a .held .now) (ran (a .adjacency .now) (a .totals)) (f .pre .0) (l .loop .i) _ (a .k)
+    working-sized (f .pre .0) _
+    (cells-sound (f .pre .0) (l .loop .i) _ (a .k)
     (l .loop .inv .0) (l .loop .inv .1)))  -- same-length
     (λ c.
     let l = c .before in

@@ -34,8 +34,8 @@ complete-rows-spec =
     let l = t .before in
     let f = l .before .before in
     let a = f .args in (
-      working (a .n) (a .cells .now) (a .classes .now) (a .starts .now) (a .held .now) (ran (a .adjacency .now) (a .totals)) (f .pre) _
-          (all-sound (a .n) (a .cells .now) (a .classes .now) (a .starts .now) (a .held .now) (ran (a .adjacency .now) (a .totals)) (f .pre) (l .loop .i) _
+      working (f .pre) _
+          (all-sound (f .pre) (l .loop .i) _
           (l .loop .inv .0) (l .loop .inv .1))
           _ (l .loop .inv .2),
       omega (arith, t .loop-test .taken),
@@ -55,8 +55,8 @@ complete-rows-spec =
     let l = c .before in
     let f = l .before .before in
     let a = f .args in
-    working-sized (a .n) (a .cells .now) (a .classes .now) (a .starts .now) (a .held .now) (ran (a .adjacency .now) (a .totals)) (f .pre) _
-    (all-sound (a .n) (a .cells .now) (a .classes .now) (a .starts .now) (a .held .now) (ran (a .adjacency .now) (a .totals)) (f .pre) (l .loop .i) _
+    working-sized (f .pre) _
+    (all-sound (f .pre) (l .loop .i) _
     (l .loop .inv .0) (l .loop .inv .1)))  -- same-length
     (λ c.
     let l = c .before in
