@@ -28,7 +28,7 @@ relieve-spec =
     let full = full-in (s .pre .0) (s .pre .1) (w .wide .ensures .0) (i .if1 .left) in
     let chose = b .choose-substitute .ensures
     ∙ substitute-in (s .args .classes .now) (s .pre .0) (s .pre .1) (s .pre .2) (s .pre .3) (w .wide .ensures .0) in
-    (s .pre .0 .sized, omega arith, omega arith, b-inside (s .pre .0) (s .pre .1) full chose))  -- choose-transfer-requires
+    omega (arith, b-inside (s .pre .0) (s .pre .1) full chose))  -- choose-transfer-requires
     (λ c κs.
     let t = c .before .before in
     let b = t .before .before in
