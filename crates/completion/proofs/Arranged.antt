@@ -87,7 +87,7 @@ module _ (n : ℕ) (cells classes starts : List ℕ) (a : Arranged n cells class
       ∙ sym (jdm-classes n (classAt classes) (classOf degrees D) (edge g) class-counted k l)
 
 -- a state of the work, and a cell of it
-module _ (n : ℕ) (cells classes starts held : List ℕ) (s : Ran) (p : Working n cells classes starts held s) (k l : ℕ) (kC : k < degrees) (lC : l < degrees) where
+module _ {n : ℕ} {cells classes starts held : List ℕ} {s : Ran} (p : Working n cells classes starts held s) (k l : ℕ) (kC : k < degrees) (lC : l < degrees) where
   pub countable : Countable (s .adjacency) cells (cellIn starts k l)
   countable =
       let r = ranged n cells classes starts (p .arranged) k l kC lC in
@@ -119,7 +119,7 @@ module _ (n : ℕ) (cells classes starts held : List ℕ) (s : Ran) (p : Working
     cell-filled r er = er ∙ ap (λ (i : ℕ). foldTo i (λ i. cellStep n (classAt classes) k l) s) missing-count
 
 -- the work goes on from any state that is sound
-module _ (n : ℕ) (cells classes starts held : List ℕ) (s : Ran) (p : Working n cells classes starts held s) where
+module _ {n : ℕ} {cells classes starts held : List ℕ} {s : Ran} (p : Working n cells classes starts held s) where
   pub working : (x : Ran) → Sound n (classAt classes) (matrixOf cells) x → (h : List ℕ) → h ≡ degreesOf n (x .adjacency) → Working n cells classes starts h x
   working x sound h e = record { arranged = p .arranged; sound = sound; degrees-held = e }
 

@@ -31,10 +31,6 @@ module _ (n : ℕ) (cls : ℕ → ℕ) where
   count-le g v w = omega (arith, relieve-le g v, relieve-le (relieveBytes n cls g v w) w)
 
 module _ (n : ℕ) (cls : ℕ → ℕ) (T : ℕ → ℕ → ℕ) where
-  pub joins-most : (s : Ran) → Sound n cls T s → s .joins ≤ mostEdges
-  joins-most s p =
-      omega (arith, p .joins-le, room n cls T mostEdges (few-edges n cls T (p .filling .target) (p .filling .few)) (s .adjacency) (p .filling))
-
   -- one join in a short cell
   step-sound : (s : Ran) → Sound n cls T s → (k l : ℕ) → k < degrees → l < degrees → jdm n cls (edge (s .adjacency)) k l < T k l
       → Sound n cls T (cellStep n cls k l s)
@@ -76,3 +72,7 @@ module _ (n : ℕ) (cls : ℕ → ℕ) (T : ℕ → ℕ → ℕ) where
   rows-sound s p i h =
       foldTo-keeps (λ i x. Sound n cls T x) (λ i. fillRow n cls T (leastDegree + i)) s i p
       (λ j x ji q. row-sound x q (leastDegree + j) (degrees - (leastDegree + j)) (omega arith))
+
+pub joins-most : {n : ℕ} {cls : ℕ → ℕ} {T : ℕ → ℕ → ℕ} {s : Ran} → Sound n cls T s → s .joins ≤ mostEdges
+joins-most {n} {cls} {T} {s} p =
+    omega (arith, p .joins-le, room n cls T mostEdges (few-edges n cls T (p .filling .target) (p .filling .few)) (s .adjacency) (p .filling))

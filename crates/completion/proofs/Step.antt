@@ -46,7 +46,7 @@ low-saturated n cls g held k from to low r few range eh lt sat er i ir ik = go (
         let at : getD (degreesOf n g) i 0 ≡ degree n (edge g) i = fillTo-at (degree n (edge g)) (replicate mostVertices 0) n i (rw length-replicate few) (omega (arith, range .within)) in
         rw ik (rw (eh, at) at passed)
 
-module _ (n : ℕ) (cls : ℕ → ℕ) (c : Cell) (u : Cursor) (s : Ran) (held : List ℕ) (p : Steppable n cls c u s held) where
+module _ {n : ℕ} {cls : ℕ → ℕ} {c : Cell} {u : Cursor} {s : Ran} {held : List ℕ} (p : Steppable n cls c u s held) where
   abbrev g : List ℕ
   g = s .adjacency
 
@@ -126,11 +126,17 @@ module _ (n : ℕ) (cls : ℕ → ℕ) (c : Cell) (u : Cursor) (s : Ran) (held :
           low-saturated n cls g held l (c .columns .from) (c .columns .to) (u .low .w) y (filling .few) (p .ranged .columns) (p .degrees-held)
           (p .resumes .low-column) (p .resumes .saturated-columns) ey
 
-      pub low-row-le : x ≤ c .rows .to
+      low-row-le : x ≤ c .rows .to
       low-row-le = omega (arith, lowest-le (u .low .v) (c .rows .to) (λ i. ltb (getD held i 0) k) (p .resumes .low-row))
 
-      pub low-column-le : y ≤ c .columns .to
+      low-column-le : y ≤ c .columns .to
       low-column-le = omega (arith, lowest-le (u .low .w) (c .columns .to) (λ i. ltb (getD held i 0) l) (p .resumes .low-column))
+
+      pub low-row-most : x ≤ n
+      low-row-most = omega (arith, low-row-le, p .ranged .rows .within)
+
+      pub low-column-most : y ≤ n
+      low-column-most = omega (arith, low-column-le, p .ranged .columns .within)
 
       pub below-v : SaturatedBelow n cls g v x
       below-v i h e = rows-saturated i h (e ∙ ap cls pair-row ∙ chose .row)
@@ -150,6 +156,6 @@ module _ (n : ℕ) (cls : ℕ → ℕ) (c : Cell) (u : Cursor) (s : Ran) (held :
             columns = columns-after n cls (p .table) g filling k l chose;
             low-row = low-row-le;
             low-column = low-column-le;
-            saturated-rows = stays k x (omega (arith, low-row-le, p .ranged .rows .within)) rows-saturated;
-            saturated-columns = stays l y (omega (arith, low-column-le, p .ranged .columns .within)) columns-saturated;
+            saturated-rows = stays k x low-row-most rows-saturated;
+            saturated-columns = stays l y low-column-most columns-saturated;
           })

@@ -20,6 +20,10 @@ pub foldTo-more : {A : Type 0} (f : ℕ → A → A) (s : A) (n : ℕ) → foldT
 unfolding foldTo
 foldTo-more f s n = rw add-one
 
+-- one more turn, from the state x that the first i led to
+pub foldTo-after : {A : Type 0} (f : ℕ → A → A) (s : A) (i : ℕ) (x y : A) → x ≡ foldTo i f s → y ≡ f i x → y ≡ foldTo (i + 1) f s
+foldTo-after f s i x y ex ey = ey ∙ ap (f i) ex ∙ sym (foldTo-more f s i)
+
 pub catTo-none : (f : ℕ → List ℕ) → catTo 0 f ≡ []
 unfolding catTo
 catTo-none f = refl

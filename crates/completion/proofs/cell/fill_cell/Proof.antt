@@ -1,15 +1,14 @@
 -- `completion::cell::fill_cell` meets its contract: after i turns i joins are made, and the cursor has passed only what is done.
 -- Assumes nothing.
-use mathlib.Core.Path.{_≡_, refl, sym}
+use mathlib.Core.Path.{_≡_, sym}
 use Prim.Native.Nat.{_≤_, _-_}
 use native.Mathlib.Omega.{arith}
-use borrow.Author.Needs.{needs}
 use Rattle.finite.specs.Range.{foldTo}
-use Rattle.finite.proofs.Fold.{foldTo-none}
+use Rattle.finite.proofs.Fold.{foldTo-none, foldTo-after}
 use Rattle.joining.specs.Work.{classAt, degreesOf}
 use Rattle.completion.specs.Cellwise.{cellStep}
 use Rattle.completion.specs.Work.{ran, Resumes}
-use Rattle.completion.proofs.Joins.{start-resumes, fill-sized, fill-steppable, foldTo-after}
+use Rattle.completion.proofs.Joins.{start-resumes, fill-sized, fill-steppable}
 use Rattle.completion.proofs.cell.fill_cell.Statement.{statement}
 use Rattle.completion.proofs.cell.fill_cell.Tie as tie
 
@@ -29,32 +28,29 @@ fill-cell-spec =
     (λ c.
     let f = c .before in
     let a = f .args in
-    (omega arith, sym (foldTo-none _ _), f .pre .degrees-held, start-resumes (a .n) (classAt (a .classes .now)) (a .adjacency .now) (a .cell) (f .pre .ranged)))  -- loop-holds
+    let start = start-resumes (a .n) (classAt (a .classes .now)) (a .adjacency .now) (a .cell) (f .pre .ranged) in
+    (omega arith, sym (foldTo-none _ _), f .pre .degrees-held, start))  -- loop-holds
     (λ c κs.
     let t = c .before .before in
     let l = t .before in
     let f = l .before .before in
-    let a = f .args in
-    fill-steppable (a .n) (classAt (a .classes .now)) (a .cell) (a .m) (ran (a .adjacency .now) (a .totals)) (a .held .now) (f .pre) (l .loop .counter) _ (l .loop .inv .1)
-    (t .loop-test .taken) _ _ (l .loop .inv .3) (l .loop .inv .2))  -- fill-step-requires
+    fill-steppable (f .pre) (l .loop .counter) _ (l .loop .inv .1) (t .loop-test .taken) _ _ (l .loop .inv .3) (l .loop .inv .2))  -- fill-step-requires
     (λ c. let l = c .before .before .before .before .before .before .before .before in omega (arith, l .loop .inv .0))  -- add-counter
     (λ c. let l = c .before .before .before .before .before .before .before .before in omega (arith, l .loop .inv .0))  -- loop-less
     (λ c.
     let t = c .before .before .before .before in
     let l = t .before .before .before .before in
-    let f = l .before .before in
-    let a = f .args in (
+    let a = l .before .before .args in (
       omega (arith, l .loop .inv .0),
-      foldTo-after (λ i. cellStep (a .n) (classAt (a .classes .now)) (a .cell .k) (a .cell .l)) _ (l .loop .counter) _ _ (l .loop .inv .1) (t .fill-step .ensures .0 .0),
+      foldTo-after (λ i. cellStep (a .n) (classAt (a .classes .now)) (a .cell .k) (a .cell .l))
+          _ (l .loop .counter) _ _ (l .loop .inv .1) (t .fill-step .ensures .0 .0),
       t .fill-step .ensures .1,
       t .fill-step .ensures .0 .1,
     ))  -- loop-again
     (λ c.
     let l = c .before in
     let f = l .before .before in
-    let a = f .args in
-    fill-sized (a .n) (classAt (a .classes .now)) (a .cell) (a .m) (ran (a .adjacency .now) (a .totals)) (a .held .now) (f .pre) (l .loop .counter) _ (l .loop .inv .1)
-    (l .loop .inv .0))  -- same-length
+    fill-sized (f .pre) (l .loop .counter) _ (l .loop .inv .1) (l .loop .inv .0))  -- same-length
     (λ c.
     let l = c .before in
     let e : l .loop .counter ≡ l .before .before .args .m = omega arith in

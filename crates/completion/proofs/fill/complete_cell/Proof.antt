@@ -2,7 +2,6 @@
 -- Assumes nothing.
 use native.Mathlib.Omega.{arith}
 use borrow.Author.Needs.{needs}
-use Rattle.completion.specs.Work.{ran}
 use Rattle.completion.proofs.Arranged.{countable, fillable, cell-filled}
 use Rattle.completion.proofs.fill.complete_cell.Statement.{statement}
 use Rattle.completion.proofs.fill.complete_cell.Tie as tie
@@ -16,8 +15,7 @@ complete-cell-spec =
     let f = d .before .before in
     let a = f .args in (
       f .pre .0 .sound .filling .sized,
-      rw (d .cell-at .ensures)
-          (countable (a .n) (a .cells .now) (a .classes .now) (a .starts .now) (a .held .now) (ran (a .adjacency .now) (a .totals)) (f .pre .0) (a .k) (a .l) (f .pre .1) (f .pre .2)),
+      rw (d .cell-at .ensures) (countable (f .pre .0) (a .k) (a .l) (f .pre .1) (f .pre .2)),
     ))  -- missing-requires
     (λ c κs.
     let m = c .before .before in
@@ -25,8 +23,7 @@ complete-cell-spec =
     let f = d .before .before in
     let a = f .args in
     rw (d .cell-at .ensures)
-    (fillable (a .n) (a .cells .now) (a .classes .now) (a .starts .now) (a .held .now) (ran (a .adjacency .now) (a .totals)) (f .pre .0) (a .k) (a .l) (f .pre .1) (f .pre .2)
-    (m .missing .result) (rw (d .cell-at .ensures) at (m .missing .ensures))))  -- fill-cell-requires
+    (fillable (f .pre .0) (a .k) (a .l) (f .pre .1) (f .pre .2) (m .missing .result) (rw (d .cell-at .ensures) at (m .missing .ensures))))  -- fill-cell-requires
     (λ c. search needs)  -- same-length
     (λ c.
     let t = c .before .before in
@@ -34,7 +31,7 @@ complete-cell-spec =
     let d = m .before .before in
     let f = d .before .before in
     let a = f .args in (
-      cell-filled (a .n) (a .cells .now) (a .classes .now) (a .starts .now) (a .held .now) (ran (a .adjacency .now) (a .totals)) (f .pre .0) (a .k) (a .l) (f .pre .1) (f .pre .2)
+      cell-filled (f .pre .0) (a .k) (a .l) (f .pre .1) (f .pre .2)
           (m .missing .result) (rw (d .cell-at .ensures) at (m .missing .ensures)) _ (rw (d .cell-at .ensures) at (t .fill-cell .ensures .0)),
       t .fill-cell .ensures .1,
     )))  -- returns

@@ -4,14 +4,13 @@ use mathlib.Core.Path.{_≡_, sym}
 use Prim.Native.Nat.{_+_, _≤_, _-_}
 use native.Mathlib.Omega.{arith}
 use Rattle.finite.specs.Range.{foldTo}
-use Rattle.finite.proofs.Fold.{foldTo-none}
+use Rattle.finite.proofs.Fold.{foldTo-none, foldTo-after}
 use Rattle.graph.specs.Tests.{degrees}
 use Rattle.table.specs.Cells.{matrixOf}
 use Rattle.joining.specs.Work.{classAt, degreesOf}
 use Rattle.completion.specs.Cellwise.{fillCell}
 use Rattle.completion.specs.Work.{ran}
 use Rattle.completion.proofs.Arranged.{working, working-sized, cells-sound}
-use Rattle.completion.proofs.Joins.{foldTo-after}
 use Rattle.completion.proofs.fill.complete_row.Statement.{statement}
 use Rattle.completion.proofs.fill.complete_row.Tie as tie
 
@@ -35,10 +34,7 @@ complete-row-spec =
     let l = t .before in
     let f = l .before .before in
     let a = f .args in (
-      working (a .n) (a .cells .now) (a .classes .now) (a .starts .now) (a .held .now) (ran (a .adjacency .now) (a .totals)) (f .pre .0) _
-          (cells-sound (a .n) (a .cells .now) (a .classes .now) (a .starts .now) (a .held .now) (ran (a .adjacency .now) (a .totals)) (f .pre .0) (l .loop .i) _ (a .k)
-          (l .loop .inv .0) (l .loop .inv .1))
-          _ (l .loop .inv .2),
+      working (f .pre .0) _ (cells-sound (f .pre .0) (l .loop .i) _ (a .k) (l .loop .inv .0) (l .loop .inv .1)) _ (l .loop .inv .2),
       f .pre .1,
       omega (arith, t .loop-test .taken),
     ))  -- complete-cell-requires
@@ -50,16 +46,15 @@ complete-row-spec =
     let l = t .before in
     let a = l .before .before .args in (
       omega (arith, t .loop-test .taken),
-      foldTo-after (λ i. fillCell (a .n) (classAt (a .classes .now)) (matrixOf (a .cells .now)) (a .k) (a .k + i)) _ (l .loop .i) _ _ (l .loop .inv .1) (d .complete-cell .ensures .0),
+      foldTo-after (λ i. fillCell (a .n) (classAt (a .classes .now)) (matrixOf (a .cells .now)) (a .k) (a .k + i))
+          _ (l .loop .i) _ _ (l .loop .inv .1) (d .complete-cell .ensures .0),
       d .complete-cell .ensures .1,
     ))  -- loop-again
     (λ c.
     let l = c .before in
     let f = l .before .before in
     let a = f .args in
-    working-sized (a .n) (a .cells .now) (a .classes .now) (a .starts .now) (a .held .now) (ran (a .adjacency .now) (a .totals)) (f .pre .0) _
-    (cells-sound (a .n) (a .cells .now) (a .classes .now) (a .starts .now) (a .held .now) (ran (a .adjacency .now) (a .totals)) (f .pre .0) (l .loop .i) _ (a .k)
-    (l .loop .inv .0) (l .loop .inv .1)))  -- same-length
+    working-sized (f .pre .0) _ (cells-sound (f .pre .0) (l .loop .i) _ (a .k) (l .loop .inv .0) (l .loop .inv .1)))  -- same-length
     (λ c.
     let l = c .before in
     let e : l .loop .i ≡ degrees - l .before .before .args .k = omega (arith, l .loop .inv .0) in
