@@ -23,7 +23,7 @@ use Rattle.adjacency.specs.Adjacency.{edge}
 use Rattle.state.specs.Valid.{lengthsOk, valid}
 use Rattle.state.specs.Laid.{vertexCount, degreeAt, edgeTotal}
 use Rattle.state.proofs.Facts.{StateFacts, Laid, valid-facts, lengths-both}
-use Rattle.state.proofs.Graph.{laid-partial, laid-outside, laid-valid}
+use Rattle.state.proofs.Graph.{laid-valid}
 use Rattle.completion.specs.Complete.{Ran, completed, completeAnswer, completeAdjacency}
 use Rattle.completion.specs.Cellwise.{Filling}
 use Rattle.completion.proofs.Works.{Finished, finishes}
@@ -98,7 +98,7 @@ module _ (j g : List ℕ) where
       g′ = completed j g .adjacency
 
       filling : Filling (vertexCount j) (degreeAt j) (jdmOf j) g
-      filling = record { sized = facts .adjacency-length; few = laid .vertices-le; target = laid .target; partial = laid-partial j g laid }
+      filling = record { sized = facts .adjacency-length; few = laid .vertices-le; target = laid .target; partial = laid .partial }
 
       r : Finished (vertexCount j) (degreeAt j) (jdmOf j) g (completed j g)
-      r = finishes (vertexCount j) (degreeAt j) (jdmOf j) g filling (laid-outside j g laid)
+      r = finishes (vertexCount j) (degreeAt j) (jdmOf j) g filling (laid .outside)

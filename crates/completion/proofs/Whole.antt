@@ -15,7 +15,6 @@ use Rattle.journal.specs.Journal.{phase, jdmOf}
 use Rattle.state.specs.Valid.{lengthsOk, valid}
 use Rattle.state.specs.Laid.{vertexCount, degreeAt}
 use Rattle.state.proofs.Facts.{StateFacts, Laid, valid-facts}
-use Rattle.state.proofs.Graph.{laid-partial}
 use Rattle.joining.specs.Work.{classAt, degreesOf}
 use Rattle.joining.specs.Block.{startsOf}
 use Rattle.completion.specs.Complete.{Ran, run, mostEdges, completed}
@@ -46,7 +45,7 @@ module _ (j g cells : List ℕ) (lengths : lengthsOk j g ≡ true) (sound : vali
   filling : Filling (vertices (matrixOf cells)) (vertexDegree (matrixOf cells)) (matrixOf cells) g
   filling =
       rw same-cells
-      (record { sized = facts .adjacency-length; few = laid .vertices-le; target = laid .target; partial = laid-partial j g laid })
+      (record { sized = facts .adjacency-length; few = laid .vertices-le; target = laid .target; partial = laid .partial })
 
   module _ (n : ℕ) (counts classes starts held : List ℕ) (en : n ≡ vertices (matrixOf cells)) (ed : counts ≡ countsOf (matrixOf cells))
       (ec : classes ≡ classesOf (matrixOf cells)) (es : starts ≡ startsOf counts) (eh : held ≡ degreesOf n g) where

@@ -22,7 +22,7 @@ use Rattle.adjacency.specs.Adjacency.{adjacencySize, edge}
 use Rattle.state.specs.Valid.{lengthsOk, valid}
 use Rattle.state.specs.Laid.{vertexCount, degreeAt, cellAt, isShort, edgeTotal}
 use Rattle.state.proofs.Facts.{StateFacts, Laid, valid-facts}
-use Rattle.state.proofs.Graph.{laid-partial, laid-outside, laid-valid}
+use Rattle.state.proofs.Graph.{laid-valid}
 use Rattle.joining.specs.Join.{own, joinBytes, joinCount}
 use Rattle.joining.proofs.Bytes.{join-bytes, join-length, join-outside}
 use Rattle.editing.specs.Add.{addAnswer}
@@ -138,16 +138,16 @@ module _ (j g : List ℕ) (v w : ℕ) where
       g′ = joinBytes (vertexCount j) (degreeAt j) g v w
 
       jo : Joined (vertexCount j) (degreeAt j) own (edge g) v w (edge g′)
-      jo = join-bytes (vertexCount j) (degreeAt j) (jdmOf j) g v w (facts .adjacency-length) (laid .vertices-le) (laid .target) (laid-partial j g laid) (f .pair)
+      jo = join-bytes (vertexCount j) (degreeAt j) (jdmOf j) g v w (facts .adjacency-length) (laid .vertices-le) (laid .target) (laid .partial) (f .pair)
 
       a : AfterJoin (vertexCount j) degrees (degreeAt j) own (jdmOf j) (edge g) v w (jo .twice) (edge g′)
-      a = join-works (vertexCount j) degrees (degreeAt j) own (jdmOf j) (edge g) v w (laid .target) (laid-partial j g laid) (f .pair) (edge g′) jo
+      a = join-works (vertexCount j) degrees (degreeAt j) own (jdmOf j) (edge g) v w (laid .target) (laid .partial) (f .pair) (edge g′) jo
 
       sized : length g′ ≡ adjacencySize
       sized = join-length (vertexCount j) (degreeAt j) g v w ∙ facts .adjacency-length
 
       outside : Rattle.adjacency.proofs.Facts.ZeroOutside (vertexCount j) g′
       outside x y xs ys o =
-          join-outside (vertexCount j) (degreeAt j) (jdmOf j) g v w (facts .adjacency-length) (laid .vertices-le) (laid .target) (laid-partial j g laid) (f .pair)
+          join-outside (vertexCount j) (degreeAt j) (jdmOf j) g v w (facts .adjacency-length) (laid .vertices-le) (laid .target) (laid .partial) (f .pair)
           x y xs ys o
-          ∙ laid-outside j g laid x y xs ys o
+          ∙ laid .outside x y xs ys o

@@ -25,7 +25,7 @@ use Rattle.adjacency.proofs.Set.{set-length, set-removes, set-outside}
 use Rattle.state.specs.Valid.{lengthsOk, valid}
 use Rattle.state.specs.Laid.{vertexCount, degreeAt, edgeTotal}
 use Rattle.state.proofs.Facts.{StateFacts, Laid, valid-facts, lengths-both}
-use Rattle.state.proofs.Graph.{laid-partial, laid-outside, laid-valid}
+use Rattle.state.proofs.Graph.{laid-valid}
 use Rattle.editing.specs.Remove.{removeAnswer}
 
 -- what the checks of a removed edge said
@@ -116,7 +116,7 @@ module _ (j g : List ℕ) (v w : ℕ) where
       laid = facts .laid (f .phased)
 
       before : Partial (vertexCount j) degrees (degreeAt j) (λ k. k) (jdmOf j) (edge g)
-      before = laid-partial j g laid
+      before = laid .partial
 
       g′ : List ℕ
       g′ = setEdge g v w 0
@@ -147,4 +147,4 @@ module _ (j g : List ℕ) (v w : ℕ) where
       outside x y xs ys o =
           set-outside (vertexCount j) g v w (facts .adjacency-length) (omega (arith, f .first, few)) (omega (arith, f .second, few)) few (f .distinct) 0 (f .first)
           (f .second) x y xs ys o
-          ∙ laid-outside j g laid x y xs ys o
+          ∙ laid .outside x y xs ys o

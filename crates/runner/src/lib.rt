@@ -116,8 +116,7 @@ fn lay_out(journal: &mut [u8], adjacency: &mut [u8]) {
 }
 
 // Takes, lays out, completes and prints the records of an input. The 65th block is refused, so nothing behind it matters.
-pub fn run(input: &[u8])
-{
+pub fn run(input: &[u8]) {
     let mut journal = [0u8; 4162];
     let mut adjacency = [0u8; 40000];
     let taken = take_all(&mut journal, &adjacency, input);

@@ -15,20 +15,20 @@ abbrev μ-loop : tie.MeasureT-loop
 pub print-edges-spec : {M : Type 1} → statement M
 print-edges-spec =
     tie.close (tie.spec Inv-loop μ-loop
-    (λ c κs. tt) -- least-requires
-    (λ c. omega arith) -- loop-holds
-    (λ c. omega arith) -- mul-print-number
-    (λ c. omega arith) -- shared-slice-read-print-number
-    (λ c κs. tt) -- print-number-requires
-    (λ c. search needs) -- slice-aggregate-write-all
-    (λ c κs. tt) -- write-all-requires
-    (λ c. omega arith) -- mul-print-number-2
-    (λ c. omega arith) -- add-print-number
-    (λ c. omega arith) -- shared-slice-read-print-number-2
-    (λ c κs. tt) -- print-number-requires-2
-    (λ c. search needs) -- slice-aggregate-write-all-2
-    (λ c κs. tt) -- write-all-requires-2
-    (λ c. omega arith) -- add-i
-    (λ c. omega arith) -- loop-less
-    (λ c. omega arith) -- loop-again
-    (λ c. search needs)) -- returns
+    (λ c κs. tt)  -- least-requires
+    (λ c. omega arith)  -- loop-holds
+    (λ c. omega arith)  -- mul-print-number
+    (λ c. omega arith)  -- shared-slice-read-print-number
+    (λ c κs. tt)  -- print-number-requires
+    (λ c. search needs)  -- slice-aggregate-write-all
+    (λ c κs. tt)  -- write-all-requires
+    (λ c. omega arith)  -- mul-print-number-2
+    (λ c. omega arith)  -- add-print-number
+    (λ c. omega arith)  -- shared-slice-read-print-number-2
+    (λ c κs. tt)  -- print-number-requires-2
+    (λ c. search needs)  -- slice-aggregate-write-all-2
+    (λ c κs. tt)  -- write-all-requires-2
+    (λ c. omega arith)  -- add-i
+    (λ c. omega arith)  -- loop-less
+    (λ c. omega arith)  -- loop-again
+    (λ c. search needs))  -- returns

@@ -16,19 +16,19 @@ abbrev μ-loop : tie.MeasureT-loop
 pub take-all-spec : {M : Type 1} → statement M
 take-all-spec =
     tie.close (tie.spec Inv-loop μ-loop
-    (λ c. search needs) -- loop-holds
-    (λ c. search needs) -- same-length
-    (λ c. search needs) -- returns
-    (λ c κs. omega arith) -- block-end-requires
-    (λ c. omega arith) -- sub-take-block
-    (λ c. omega arith) -- part-take-block-start
-    (λ c. omega arith) -- part-take-block-end
-    (λ c κs. tt) -- take-block-requires
-    (λ c. search needs) -- enum-known-answer
-    (λ c. search needs) -- same-length-2
-    (λ c. search needs) -- returns-2
-    (λ c. omega arith) -- add-number
-    (λ c. omega arith) -- loop-less
-    (λ c. search needs) -- loop-again
-    (λ c. search needs) -- same-length-3
-    (λ c. search needs)) -- returns-3
+    (λ c. search needs)  -- loop-holds
+    (λ c. search needs)  -- same-length
+    (λ c. search needs)  -- returns
+    (λ c κs. omega arith)  -- block-end-requires
+    (λ c. omega arith)  -- sub-take-block
+    (λ c. omega arith)  -- part-take-block-start
+    (λ c. omega arith)  -- part-take-block-end
+    (λ c κs. tt)  -- take-block-requires
+    (λ c. search needs)  -- enum-known-answer
+    (λ c. search needs)  -- same-length-2
+    (λ c. search needs)  -- returns-2
+    (λ c. omega arith)  -- add-number
+    (λ c. omega arith)  -- loop-less
+    (λ c. search needs)  -- loop-again
+    (λ c. search needs)  -- same-length-3
+    (λ c. search needs))  -- returns-3
