@@ -102,7 +102,7 @@ pub extern "C" fn replica_complete(journal: &[u8], adjacency: &mut [u8]) -> Repl
     ensures { λ r. ⌜ r ≡ flat (completeNumbers (completeAnswer (now (journal .entry)) (now (adjacency .entry)))) ⌝ }
     ensures { λ _. ⌜ now (adjacency .exit) ≡ completeAdjacency (completeAnswer (now (journal .entry)) (now (adjacency .entry))) (now (journal .entry)) (now (adjacency .entry)) ⌝ }
 {
-    numbers::of_complete(completion::entry::complete(journal, adjacency))
+    numbers::of_complete(completion::complete(journal, adjacency))
 }
 
 #[no_mangle]

@@ -99,7 +99,7 @@ fn print_state(journal: &[u8], adjacency: &[u8], n: usize, switches: usize) {
 
 // Completes a laid state and prints it.
 fn finish(journal: &[u8], adjacency: &mut [u8], n: usize) {
-    let answer = completion::entry::complete(journal, adjacency);
+    let answer = completion::complete(journal, adjacency);
     match answer {
         CompleteAnswer::Refused(r) => print_refusal(r),
         CompleteAnswer::Completed(_, switches) => print_state(journal, adjacency, n, switches),
