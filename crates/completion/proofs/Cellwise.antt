@@ -241,9 +241,11 @@ module _ (n : ℕ) (cls : ℕ → ℕ) (T : ℕ → ℕ → ℕ) where
         g : List ℕ
         g = foldTo i (λ i. cellStep n cls k l) s .adjacency
 
-        more : Filling n cls T g × Count i → Filling n cls T (joinBytes n cls g (openV n cls g k l) (openW n cls g k l (openV n cls g k l))) × Count (suc i)
+        more : Filling n cls T g × Count i
+            → Filling n cls T (joinBytes n cls g (openV n cls g k l) (openW n cls g k l (openV n cls g k l))) × Count (suc i)
         more q =
-            let st = stepped g (q .0) k l (openV n cls g k l) (openW n cls g k l (openV n cls g k l)) (chosen g (q .0) k l kC lC (count-short i h (q .1))) in
+            let st = stepped g (q .0) k l (openV n cls g k l) (openW n cls g k l (openV n cls g k l))
+            (chosen g (q .0) k l kC lC (count-short i h (q .1))) in
             (st .filling, st .cells k l ∙ rw (unit-step k l, q .1, suc-mul) (omega arith))
 
     -- while some are missing, the cell is short

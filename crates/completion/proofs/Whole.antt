@@ -30,7 +30,8 @@ use Rattle.completion.proofs.Works.{few-edges}
 abbrev fresh : List ℕ → Ran
 fresh g = record { adjacency = g; joins = 0; switches = 0 }
 
-module _ (j g cells : List ℕ) (lengths : lengthsOk j g ≡ true) (sound : valid j g ≡ true) (phased : phase j ≡ 1) (same-cells : matrixOf cells ≡ jdmOf j) where
+module _ (j g cells : List ℕ) (lengths : lengthsOk j g ≡ true) (sound : valid j g ≡ true) (phased : phase j ≡ 1)
+    (same-cells : matrixOf cells ≡ jdmOf j) where
   facts : StateFacts j g
   facts = valid-facts j g lengths sound
 

@@ -115,7 +115,9 @@ module _ (n : ℕ) (cls : ℕ → ℕ) (T : ℕ → ℕ → ℕ) where
 
   -- the pair that is joined next
   picks : (s : Ran) → Good s → isIncomplete n cls T s ≡ true
-      → (v w : ℕ) × Open n cls T (edge (s .adjacency)) v w × Joined n cls own (edge (s .adjacency)) v w (edge (next n cls T s .adjacency)) × Good (next n cls T s)
+      → (v w : ℕ) × Open n cls T (edge (s .adjacency)) v w
+      × Joined n cls own (edge (s .adjacency)) v w (edge (next n cls T s .adjacency))
+      × Good (next n cls T s)
   picks s good e =
       let g = s .adjacency in
       let h = short-cell g e in
