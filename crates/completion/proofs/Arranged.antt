@@ -14,13 +14,13 @@ use Rattle.graph.specs.Tests.{leastDegree, mostDegree, degrees}
 use Rattle.graph.proofs.Matrix.{jdm-classes}
 use Rattle.graph.proofs.Numbering.{classOf-range}
 use Rattle.table.specs.Cells.{matrixOf}
-use Rattle.table.specs.Layout.{mostVertices, vertices, vertexDegree, countsOf, classesOf}
+use Rattle.table.specs.Layout.{vertexDegree, countsOf}
 use Rattle.table.specs.Run.{countIn}
 use Rattle.table.proofs.Counts.{counted}
 use Rattle.adjacency.specs.Adjacency.{edge}
 use Rattle.adjacency.proofs.Classes.{class-at}
 use Rattle.joining.specs.Work.{classAt, degreesOf}
-use Rattle.joining.specs.Block.{startsOf, blockSum}
+use Rattle.joining.specs.Block.{blockSum}
 use Rattle.joining.proofs.Blocks.{start-at, start-rises, start-most, cell-block}
 use Rattle.completion.specs.Complete.{Ran}
 use Rattle.completion.specs.Cellwise.{cellStep, cellMissing, fillCell, fillRow}

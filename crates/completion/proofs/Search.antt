@@ -1,18 +1,17 @@
 -- The searches over ranges find the lowest open pair: a class is a range of vertices, and what the cursors have passed is done.
 -- Assumes nothing.
-use mathlib.Core.Path.{_≡_, refl, sym, ap, _∙_}
-use mathlib.Core.Bool.{Bool, true, false, _&&_, not, cond, true≢false}
+use mathlib.Core.Path.{_≡_, refl, sym, _∙_}
+use mathlib.Core.Bool.{Bool, true, false, _&&_, true≢false}
 use mathlib.Core.List.{List}
-use mathlib.Core.Logic.{_≢_}
 use Prim.Native.Nat.{ℕ, _+_, _≤_, _<_, max}
 use native.Mathlib.Decide.{ℕ-discrete, decLt}
 use native.Mathlib.Omega.{arith}
 use lib.Dec.{eqb, ltb}
 use borrow.Author.Tests.{eq-eqb, ne-eqb, lt-ltb, le-ltb, ltb-true, ltb-false, eqb-true}
 use Rattle.finite.specs.Range.{lowest}
-use Rattle.finite.proofs.Lowest.{lowest-skip, lowest-only, lowest-none, lowest-holds, lowest-before, lowest-le, lowest-ge}
-use Rattle.finite.proofs.All.{and-left, and-right, and-both, and-false}
-use Rattle.adjacency.specs.Adjacency.{side, edge}
+use Rattle.finite.proofs.Lowest.{lowest-skip, lowest-only, lowest-none, lowest-holds, lowest-before, lowest-ge}
+use Rattle.finite.proofs.All.{and-left, and-right, and-false}
+use Rattle.adjacency.specs.Adjacency.{edge}
 use Rattle.table.specs.Layout.{mostVertices}
 use Rattle.completion.specs.Choice.{openColumn, openW, openV}
 use Rattle.completion.specs.Cursor.{freeColumn, RowsDone, ColumnsDone}

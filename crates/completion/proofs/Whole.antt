@@ -13,7 +13,6 @@ use Rattle.table.specs.Run.{countIn}
 use Rattle.table.proofs.Counts.{counted}
 use Rattle.journal.specs.Journal.{phase, jdmOf}
 use Rattle.state.specs.Valid.{lengthsOk, valid}
-use Rattle.state.specs.Laid.{vertexCount, degreeAt}
 use Rattle.state.proofs.Facts.{StateFacts, Laid, valid-facts}
 use Rattle.state.proofs.Graph.{laid-partial}
 use Rattle.joining.specs.Work.{classAt, degreesOf}

@@ -1,6 +1,5 @@
 -- `completion::complete_laid` meets its contract.
 -- Assumes nothing.
-use native.Mathlib.Omega.{arith}
 use borrow.Author.Needs.{needs}
 use Rattle.completion.proofs.Whole.{vertices-few, total-few, working-start, working-end}
 use Rattle.state.proofs.Facts.{valid-facts}
