@@ -14,13 +14,13 @@ use Rattle.graph.specs.Tests.{leastDegree, mostDegree, degrees}
 use Rattle.graph.proofs.Matrix.{jdm-classes}
 use Rattle.graph.proofs.Numbering.{classOf-range}
 use Rattle.table.specs.Cells.{matrixOf}
-use Rattle.table.specs.Layout.{mostVertices, vertices, vertexDegree, countsOf, classesOf}
+use Rattle.table.specs.Layout.{vertexDegree, countsOf}
 use Rattle.table.specs.Run.{countIn}
 use Rattle.table.proofs.Counts.{counted}
 use Rattle.adjacency.specs.Adjacency.{edge}
 use Rattle.adjacency.proofs.Classes.{class-at}
 use Rattle.joining.specs.Work.{classAt, degreesOf}
-use Rattle.joining.specs.Block.{startsOf, blockSum}
+use Rattle.joining.specs.Block.{blockSum}
 use Rattle.joining.proofs.Blocks.{start-at, start-rises, start-most, cell-block}
 use Rattle.completion.specs.Complete.{Ran}
 use Rattle.completion.specs.Cellwise.{cellStep, cellMissing, fillCell, fillRow}
@@ -65,7 +65,8 @@ module _ (n : ℕ) (cells classes starts : List ℕ) (a : Arranged n cells class
         inside = λ v f t.
             let vn : v < n = omega (arith, to-n) in
             class-counted v vn
-            ∙ classOf-range degrees D v k (omega (arith, same-total)) .1 (omega (arith, start k (omega arith)), omega (arith, start (k + 1) (omega arith)));
+            ∙ classOf-range degrees D v k (omega (arith, same-total)) .1
+            (omega (arith, start k (omega arith)), omega (arith, start (k + 1) (omega arith)));
         only = λ v vn e.
             let in-range = classOf-range degrees D v k (omega (arith, same-total)) .0 (sym (class-counted v vn) ∙ e) in
             (omega (arith, start k (omega arith)), omega (arith, start (k + 1) (omega arith)));
@@ -87,7 +88,8 @@ module _ (n : ℕ) (cells classes starts : List ℕ) (a : Arranged n cells class
       ∙ sym (jdm-classes n (classAt classes) (classOf degrees D) (edge g) class-counted k l)
 
 -- a state of the work, and a cell of it
-module _ {n : ℕ} {cells classes starts held : List ℕ} {s : Ran} (p : Working n cells classes starts held s) (k l : ℕ) (kC : k < degrees) (lC : l < degrees) where
+module _ {n : ℕ} {cells classes starts held : List ℕ} {s : Ran} (p : Working n cells classes starts held s)
+    (k l : ℕ) (kC : k < degrees) (lC : l < degrees) where
   pub countable : Countable (s .adjacency) cells (cellIn starts k l)
   countable =
       let r = ranged n cells classes starts (p .arranged) k l kC lC in
@@ -101,7 +103,9 @@ module _ {n : ℕ} {cells classes starts held : List ℕ} {s : Ran} (p : Working
       }
 
   -- m: what the cell misses, by the sum of its block
-  module _ (m : ℕ) (e : m ≡ (matrixOf cells k l - blockSum (edge (s .adjacency)) (getD starts k 0) (getD starts (k + 1) 0) (getD starts l 0) (getD starts (l + 1) 0)) / cond (eqb k l) 2 1) where
+  module _ (m : ℕ)
+      (e : m ≡ (matrixOf cells k l - blockSum (edge (s .adjacency)) (getD starts k 0) (getD starts (k + 1) 0) (getD starts l 0) (getD starts (l + 1) 0))
+      / cond (eqb k l) 2 1) where
     missing-count : m ≡ cellMissing n (classAt classes) (matrixOf cells) (s .adjacency) k l
     missing-count = rw (← (block-count n cells classes starts (p .arranged) (s .adjacency) k l kC lC)) e
 
@@ -120,7 +124,8 @@ module _ {n : ℕ} {cells classes starts held : List ℕ} {s : Ran} (p : Working
 
 -- the work goes on from any state that is sound
 module _ {n : ℕ} {cells classes starts held : List ℕ} {s : Ran} (p : Working n cells classes starts held s) where
-  pub working : (x : Ran) → Sound n (classAt classes) (matrixOf cells) x → (h : List ℕ) → h ≡ degreesOf n (x .adjacency) → Working n cells classes starts h x
+  pub working : (x : Ran) → Sound n (classAt classes) (matrixOf cells) x → (h : List ℕ) → h ≡ degreesOf n (x .adjacency)
+      → Working n cells classes starts h x
   working x sound h e = record { arranged = p .arranged; sound = sound; degrees-held = e }
 
   pub working-sized : (x : Ran) → Sound n (classAt classes) (matrixOf cells) x → length (x .adjacency) ≡ length (s .adjacency)

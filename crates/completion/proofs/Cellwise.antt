@@ -1,24 +1,23 @@
 -- Completing cell by cell is completing (`run` of specs/Complete.antt): the lowest short cell only moves up, so that each cell gets the
 -- joins it misses when its turn comes.
 -- Assumes nothing.
-use mathlib.Core.Path.{_≡_, refl, sym, ap, _∙_}
+use mathlib.Core.Path.{_≡_, refl, ap, _∙_}
 use mathlib.Core.Bool.{Bool, true, false, _&&_, not, cond}
 use mathlib.Core.List.{List}
-use mathlib.Core.Logic.{_≢_, ⊎-elim}
+use mathlib.Core.Logic.{_≢_}
 use Prim.Native.Nat.{ℕ, zero, suc, _+_, _-_, _*_, _/_, _%_, _≤_, _<_}
 use native.Mathlib.Nat.{add-zero, sub-zero, suc-mul, mul-le-mul-right}
-use native.Mathlib.Decide.{ℕ-discrete, decLt}
+use native.Mathlib.Decide.{ℕ-discrete}
 use native.Mathlib.Omega.{arith}
 use lib.Dec.{eqb, ltb}
-use lib.ListN.{length}
-use borrow.Author.Tests.{lt-ltb, le-ltb, eq-eqb, ne-eqb, ltb-true, ltb-false, eqb-true}
-use Rattle.finite.specs.Range.{lowest, foldTo, iterate}
-use Rattle.finite.proofs.Lowest.{lowest-le, lowest-ge, lowest-before, lowest-holds, lowest-found, lowest-only, lowest-none}
+use borrow.Author.Tests.{lt-ltb, le-ltb, eq-eqb, ne-eqb, ltb-true, eqb-true}
+use Rattle.finite.specs.Range.{foldTo}
+use Rattle.finite.proofs.Lowest.{lowest-holds, lowest-found, lowest-only, lowest-none}
 use Rattle.finite.proofs.All.{and-left, and-right, and-both}
 use Rattle.finite.proofs.Fold.{iterate-next, iterate-stop}
 use Rattle.finite.proofs.Delta.{δ-self}
 use Rattle.graph.specs.Graph.{jdm, edges, atEdge}
-use Rattle.graph.specs.Target.{Target, Partial, Open}
+use Rattle.graph.specs.Target.{Open}
 use Rattle.graph.specs.Switch.{Joined}
 use Rattle.graph.specs.Theorems.{AfterJoin}
 use Rattle.graph.specs.Tests.{leastDegree, mostDegree, degrees}
@@ -28,12 +27,11 @@ use Rattle.graph.proofs.Join.{join-works}
 use Rattle.graph.proofs.Necessary.{necessary-always}
 use Rattle.graph.proofs.Completion.{allCells, cells-twice}
 use Rattle.finite.proofs.Sum.{sumTo-mono₂}
-use Rattle.table.specs.Layout.{mostVertices}
-use Rattle.adjacency.specs.Adjacency.{adjacencySize, edge}
+use Rattle.adjacency.specs.Adjacency.{edge}
 use Rattle.joining.specs.Join.{own, joinBytes}
 use Rattle.joining.proofs.Bytes.{join-bytes, join-length}
 use Rattle.completion.specs.Choice.{shortCell, shortL, shortK, openColumn, openW, openV}
-use Rattle.completion.specs.Complete.{Ran, joined, next, isIncomplete, run}
+use Rattle.completion.specs.Complete.{Ran, next, isIncomplete, run}
 use Rattle.completion.specs.Cellwise.{cellStep, cellMissing, fillCell, fillRow, fillAll, Filling}
 
 -- what the choice of a pair gives in a short cell (k, l)
@@ -241,9 +239,11 @@ module _ (n : ℕ) (cls : ℕ → ℕ) (T : ℕ → ℕ → ℕ) where
         g : List ℕ
         g = foldTo i (λ i. cellStep n cls k l) s .adjacency
 
-        more : Filling n cls T g × Count i → Filling n cls T (joinBytes n cls g (openV n cls g k l) (openW n cls g k l (openV n cls g k l))) × Count (suc i)
+        more : Filling n cls T g × Count i
+            → Filling n cls T (joinBytes n cls g (openV n cls g k l) (openW n cls g k l (openV n cls g k l))) × Count (suc i)
         more q =
-            let st = stepped g (q .0) k l (openV n cls g k l) (openW n cls g k l (openV n cls g k l)) (chosen g (q .0) k l kC lC (count-short i h (q .1))) in
+            let st = stepped g (q .0) k l (openV n cls g k l) (openW n cls g k l (openV n cls g k l))
+            (chosen g (q .0) k l kC lC (count-short i h (q .1))) in
             (st .filling, st .cells k l ∙ rw (unit-step k l, q .1, suc-mul) (omega arith))
 
     -- while some are missing, the cell is short

@@ -4,9 +4,8 @@ use mathlib.Core.Path.{_≡_, refl, sym, ap, _∙_}
 use mathlib.Core.Bool.{Bool, true, false}
 use mathlib.Core.List.{List}
 use Prim.Native.Nat.{ℕ, zero, suc, _<_}
-use native.Mathlib.Omega.{arith}
 use lib.Dec.{ltb}
-use Rattle.finite.specs.Range.{lowest, iterate}
+use Rattle.finite.specs.Range.{iterate}
 use Rattle.finite.proofs.Lowest.{lowest-cong}
 use Rattle.graph.specs.Tests.{leastDegree, degrees}
 use Rattle.graph.proofs.Matrix.{jdm-classes}
@@ -14,7 +13,7 @@ use Rattle.adjacency.specs.Adjacency.{edge}
 use Rattle.joining.specs.Join.{own}
 use Rattle.joining.proofs.Classes.{target-classes, partial-classes, join-classes, joinCount-classes}
 use Rattle.completion.specs.Choice.{shortCell, shortL, shortK, openColumn, openW, openV}
-use Rattle.completion.specs.Complete.{Ran, joined, next, isIncomplete, run}
+use Rattle.completion.specs.Complete.{Ran, next, isIncomplete, run}
 use Rattle.completion.specs.Cellwise.{Filling}
 use Rattle.completion.proofs.Cellwise.{Chosen, chosen, stepped}
 use Rattle.completion.proofs.Works.{short-cell}

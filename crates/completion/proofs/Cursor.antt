@@ -9,15 +9,15 @@ use Prim.Native.Nat.{ℕ, _+_, _≤_, _<_, min}
 use native.Mathlib.Decide.{ℕ-discrete, decLt}
 use native.Mathlib.Omega.{arith}
 use lib.Dec.{eqb, ltb}
-use borrow.Author.Tests.{eq-eqb, ne-eqb, lt-ltb, le-ltb, ltb-false, eqb-false}
+use borrow.Author.Tests.{eq-eqb, ne-eqb, lt-ltb, ltb-false}
 use Rattle.finite.proofs.All.{and-false}
 use Rattle.finite.proofs.Lowest.{lowest-before}
-use Rattle.graph.specs.Graph.{Simple, jdm}
+use Rattle.graph.specs.Graph.{Simple}
 use Rattle.graph.specs.Switch.{unsaturated, Joined}
 use Rattle.graph.specs.Theorems.{AfterJoin}
 use Rattle.graph.specs.Tests.{degrees}
 use Rattle.graph.proofs.Join.{join-works}
-use Rattle.graph.proofs.Resume.{RowFull, RowsFull, join-row, join-rows, join-degree}
+use Rattle.graph.proofs.Resume.{RowsFull, join-row, join-rows}
 use Rattle.adjacency.specs.Adjacency.{edge}
 use Rattle.joining.specs.Join.{own, transferAt, joinBytes}
 use Rattle.joining.specs.Work.{freed}

@@ -2,11 +2,10 @@
 -- Assumes nothing.
 use mathlib.Core.Path.{_≡_, sym, _∙_}
 use mathlib.Core.List.{List}
-use Prim.Native.Nat.{ℕ, _+_, _≤_, _<_}
+use Prim.Native.Nat.{ℕ, _≤_, _<_}
 use native.Mathlib.Omega.{arith}
 use lib.ListN.{length}
 use Rattle.finite.specs.Range.{foldTo}
-use Rattle.adjacency.specs.Adjacency.{adjacencySize}
 use Rattle.joining.specs.Work.{degreesOf}
 use Rattle.completion.specs.Complete.{Ran}
 use Rattle.completion.specs.Cellwise.{cellStep}

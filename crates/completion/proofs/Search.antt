@@ -1,18 +1,17 @@
 -- The searches over ranges find the lowest open pair: a class is a range of vertices, and what the cursors have passed is done.
 -- Assumes nothing.
-use mathlib.Core.Path.{_≡_, refl, sym, ap, _∙_}
-use mathlib.Core.Bool.{Bool, true, false, _&&_, not, cond, true≢false}
+use mathlib.Core.Path.{_≡_, refl, sym, _∙_}
+use mathlib.Core.Bool.{Bool, true, false, _&&_, true≢false}
 use mathlib.Core.List.{List}
-use mathlib.Core.Logic.{_≢_}
 use Prim.Native.Nat.{ℕ, _+_, _≤_, _<_, max}
 use native.Mathlib.Decide.{ℕ-discrete, decLt}
 use native.Mathlib.Omega.{arith}
 use lib.Dec.{eqb, ltb}
 use borrow.Author.Tests.{eq-eqb, ne-eqb, lt-ltb, le-ltb, ltb-true, ltb-false, eqb-true}
 use Rattle.finite.specs.Range.{lowest}
-use Rattle.finite.proofs.Lowest.{lowest-skip, lowest-only, lowest-none, lowest-holds, lowest-before, lowest-le, lowest-ge}
-use Rattle.finite.proofs.All.{and-left, and-right, and-both, and-false}
-use Rattle.adjacency.specs.Adjacency.{side, edge}
+use Rattle.finite.proofs.Lowest.{lowest-skip, lowest-only, lowest-none, lowest-holds, lowest-before, lowest-ge}
+use Rattle.finite.proofs.All.{and-left, and-right, and-false}
+use Rattle.adjacency.specs.Adjacency.{edge}
 use Rattle.table.specs.Layout.{mostVertices}
 use Rattle.completion.specs.Choice.{openColumn, openW, openV}
 use Rattle.completion.specs.Cursor.{freeColumn, RowsDone, ColumnsDone}
@@ -20,9 +19,9 @@ use Rattle.completion.specs.Search.{firstColumn, lowestColumn, hasColumn
 use Rattle.completion.specs.declared.pair.Cell.{Cell}
 
 -- the columns that the cursor has passed need not be searched: b is where the columns begin, f where the search does, r what it finds
-pub column-resumed : (g : List ℕ) (c : Cell) (v w : ℕ) → Searchable g c v w → v < c .rows .to
+pub column-resumed : {g : List ℕ} {c : Cell} {v w : ℕ} → Searchable g c v w → v < c .rows .to
     → (b f r : ℕ) → b ≡ firstColumn c v → f ≡ max w b → r ≡ lowest f (c .columns .to) (freeColumn g v) → r ≡ lowestColumn g c v
-column-resumed g c v w s h b f r eb ef er =
+column-resumed {g} {c} {v} {w} s h b f r eb ef er =
     er
     ∙ sym (lowest-skip (firstColumn c v) f (c .columns .to) (freeColumn g v) (omega arith)
     (omega (arith, s .first v (omega arith) h)) (λ x a d. s .done x a (omega arith)))
@@ -97,7 +96,9 @@ module _ (n : ℕ) (cls : ℕ → ℕ) (g : List ℕ) (c : Cell) (r : Ranged n c
 
     -- where none is free, none is open
     column-missing : hasColumn g c u ≡ false → openW n cls g k l u ≡ n
-    column-missing h = lowest-none 0 n (openColumn cls g k l u) (omega arith) (λ x z xn. none x xn (decLt x (firstColumn c u)) (decLt x (c .columns .to)))
+    column-missing h =
+        lowest-none 0 n (openColumn cls g k l u) (omega arith)
+        (λ x z xn. none x xn (decLt x (firstColumn c u)) (decLt x (c .columns .to)))
       where
         none : (x : ℕ) → x < n → Dec (x < firstColumn c u) → Dec (x < c .columns .to) → openColumn cls g k l u x ≡ false
         none x xn (yes p) q = column-before u un uk x xn p
@@ -171,7 +172,13 @@ module _ (n : ℕ) (cls : ℕ → ℕ) (g : List ℕ) (c : Cell) (r : Ranged n c
         go : (t : Bool) → hasColumn g c u ≡ t → hasColumn g c u ≡ false
         go false e = e
         go true e =
-            absurd (omega (arith, ltb-false (openW n cls g k l u) n closed, column-found u un uk e, ltb-true (lowestColumn g c u) (c .columns .to) e, r .columns .within))
+            absurd (omega (
+              arith,
+              ltb-false (openW n cls g k l u) n closed,
+              column-found u un uk e,
+              ltb-true (lowestColumn g c u) (c .columns .to) e,
+              r .columns .within,
+            ))
 
     pub found : (v : ℕ) → c .rows .from ≤ v → RowsDone n cls g k l v → Found v
     unfolding top

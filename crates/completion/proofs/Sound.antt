@@ -1,22 +1,21 @@
 -- Filling keeps the graph partial and the totals bounded by its edges.
 -- Assumes nothing.
-use mathlib.Core.Path.{_≡_}
 use mathlib.Core.Bool.{Bool, true, false, cond}
 use mathlib.Core.List.{List}
-use Prim.Native.Nat.{ℕ, zero, suc, _+_, _-_, _*_, _≤_, _<_}
+use Prim.Native.Nat.{ℕ, zero, suc, _+_, _-_, _≤_, _<_}
 use native.Mathlib.Omega.{arith}
 use Rattle.finite.specs.Range.{foldTo}
 use Rattle.finite.proofs.Fold.{foldTo-keeps}
-use Rattle.graph.specs.Graph.{jdm, edges}
+use Rattle.graph.specs.Graph.{jdm}
 use Rattle.graph.specs.Switch.{unsaturated}
 use Rattle.graph.specs.Tests.{leastDegree, mostDegree, degrees}
 use Rattle.adjacency.specs.Adjacency.{edge}
 use Rattle.joining.specs.Join.{own, relieveBytes, relieveCount, joinCount}
 use Rattle.completion.specs.Choice.{openW, openV}
 use Rattle.completion.specs.Complete.{Ran, mostEdges}
-use Rattle.completion.specs.Cellwise.{cellStep, cellMissing, fillCell, fillRow, fillAll}
+use Rattle.completion.specs.Cellwise.{cellStep, cellMissing, fillCell, fillRow}
 use Rattle.completion.specs.Work.{Sound}
-use Rattle.completion.proofs.Cellwise.{Stepped, chosen, stepped, part-filling, part-short, room}
+use Rattle.completion.proofs.Cellwise.{Stepped, chosen, stepped, part-short, room}
 use Rattle.completion.proofs.Works.{few-edges}
 
 module _ (n : ℕ) (cls : ℕ → ℕ) where

@@ -1,6 +1,6 @@
 -- One join in a short cell: the searches from the cursor find what is to be joined, and the cursor moved on has passed only what is done.
 -- Assumes nothing.
-use mathlib.Core.Path.{_≡_, refl, sym, ap, _∙_}
+use mathlib.Core.Path.{_≡_, ap, _∙_}
 use mathlib.Core.Bool.{false}
 use mathlib.Core.List.{List}
 use Prim.Native.Nat.{ℕ, _+_, _≤_, _<_, min}
@@ -38,13 +38,15 @@ low-saturated : (n : ℕ) (cls : ℕ → ℕ) (g held : List ℕ) (k from to low
     → held ≡ degreesOf n g → low ≤ to → Saturated n cls g k low → r ≡ lowest low to (λ i. ltb (getD held i 0) k) → Saturated n cls g k r
 low-saturated n cls g held k from to low r few range eh lt sat er i ir ik = go (decLt i low)
   where
+    held-at : i < to → getD (degreesOf n g) i 0 ≡ degree n (edge g) i
+    held-at h = fillTo-at (degree n (edge g)) (replicate mostVertices 0) n i (rw length-replicate few) (omega (arith, range .within))
+
     go : Dec (i < low) → unsaturated n cls own (edge g) i ≡ false
     go (yes p) = sat i p ik
     go (no p) =
         let passed = lowest-before low to (λ i. ltb (getD held i 0) k) lt i (omega arith) (omega arith) in
         let i-to : i < to = omega (arith, lowest-le low to (λ i. ltb (getD held i 0) k) lt) in
-        let at : getD (degreesOf n g) i 0 ≡ degree n (edge g) i = fillTo-at (degree n (edge g)) (replicate mostVertices 0) n i (rw length-replicate few) (omega (arith, range .within)) in
-        rw ik (rw (eh, at) at passed)
+        rw ik (rw (eh, held-at i-to) at passed)
 
 module _ {n : ℕ} {cls : ℕ → ℕ} {c : Cell} {u : Cursor} {s : Ran} {held : List ℕ} (p : Steppable n cls c u s held) where
   abbrev g : List ℕ
@@ -76,7 +78,8 @@ module _ {n : ℕ} {cls : ℕ → ℕ} {c : Cell} {u : Cursor} {s : Ran} {held :
 
   joined : Joined n cls own (edge g) (openV n cls g k l) (openW n cls g k l (openV n cls g k l)) (edge g′)
   joined =
-      join-bytes n cls (p .table) g (openV n cls g k l) (openW n cls g k l (openV n cls g k l)) (filling .sized) (filling .few) (filling .target) (filling .partial)
+      join-bytes n cls (p .table) g (openV n cls g k l) (openW n cls g k l (openV n cls g k l))
+      (filling .sized) (filling .few) (filling .target) (filling .partial)
       (chose .pair)
 
   stays : (j low : ℕ) → low ≤ n → Saturated n cls g j low → Saturated n cls g′ j low
@@ -85,8 +88,8 @@ module _ {n : ℕ} {cls : ℕ → ℕ} {c : Cell} {u : Cursor} {s : Ran} {held :
       (omega (
         arith,
         ltb-false (degree n (edge g) i) (cls i) (sat i h e),
-        join-degree n degrees cls own (p .table) (filling .target) (edge g) (openV n cls g k l) (openW n cls g k l (openV n cls g k l)) (filling .partial)
-            (chose .pair) (edge g′) joined i (omega arith),
+        join-degree n degrees cls own (p .table) (filling .target) (edge g) (openV n cls g k l) (openW n cls g k l (openV n cls g k l))
+            (filling .partial) (chose .pair) (edge g′) joined i (omega arith),
       ))
 
   -- v and w: what the search for a pair found; x and y: what those for unsaturated vertices did
@@ -118,8 +121,8 @@ module _ {n : ℕ} {cls : ℕ → ℕ} {c : Cell} {u : Cursor} {s : Ran} {held :
         (ey : y ≡ lowest (u .low .w) (c .columns .to) (λ i. ltb (getD held i 0) (c .l))) where
       rows-saturated : Saturated n cls g k x
       rows-saturated =
-          low-saturated n cls g held k (c .rows .from) (c .rows .to) (u .low .v) x (filling .few) (p .ranged .rows) (p .degrees-held) (p .resumes .low-row)
-          (p .resumes .saturated-rows) ex
+          low-saturated n cls g held k (c .rows .from) (c .rows .to) (u .low .v) x (filling .few) (p .ranged .rows) (p .degrees-held)
+          (p .resumes .low-row) (p .resumes .saturated-rows) ex
 
       columns-saturated : Saturated n cls g l y
       columns-saturated =

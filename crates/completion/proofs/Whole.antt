@@ -13,7 +13,6 @@ use Rattle.table.specs.Run.{countIn}
 use Rattle.table.proofs.Counts.{counted}
 use Rattle.journal.specs.Journal.{phase, jdmOf}
 use Rattle.state.specs.Valid.{lengthsOk, valid}
-use Rattle.state.specs.Laid.{vertexCount, degreeAt}
 use Rattle.state.proofs.Facts.{StateFacts, Laid, valid-facts}
 use Rattle.joining.specs.Work.{classAt, degreesOf}
 use Rattle.joining.specs.Block.{startsOf}
@@ -29,7 +28,8 @@ use Rattle.completion.proofs.Works.{few-edges}
 abbrev fresh : List ℕ → Ran
 fresh g = record { adjacency = g; joins = 0; switches = 0 }
 
-module _ (j g cells : List ℕ) (lengths : lengthsOk j g ≡ true) (sound : valid j g ≡ true) (phased : phase j ≡ 1) (same-cells : matrixOf cells ≡ jdmOf j) where
+module _ (j g cells : List ℕ) (lengths : lengthsOk j g ≡ true) (sound : valid j g ≡ true) (phased : phase j ≡ 1)
+    (same-cells : matrixOf cells ≡ jdmOf j) where
   facts : StateFacts j g
   facts = valid-facts j g lengths sound
 

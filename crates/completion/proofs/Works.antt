@@ -1,8 +1,8 @@
 -- Completing a partial graph makes exactly as many joins as edges are missing, and ends with every cell at the table: the law for any rule
 -- (crates/graph/proofs/Completion.antt) at the rule of the lowest open pair.
 -- Assumes nothing.
-use mathlib.Core.Path.{_≡_, refl, sym, ap, _∙_}
-use mathlib.Core.Bool.{Bool, true, false}
+use mathlib.Core.Path.{_≡_, refl, sym, _∙_}
+use mathlib.Core.Bool.{true, false}
 use mathlib.Core.List.{List}
 use Prim.Native.Nat.{ℕ, _+_, _*_, _≤_, _<_}
 use native.Mathlib.Nat.{zero-mul, mul-one, mul-le-mul-right}
@@ -10,12 +10,12 @@ use native.Mathlib.Decide.{decLt}
 use native.Mathlib.Omega.{arith}
 use lib.Dec.{ltb}
 use borrow.Author.Tests.{ltb-true, ltb-false}
-use Rattle.finite.specs.Range.{δ, sumTo, lowest}
+use Rattle.finite.specs.Range.{δ, sumTo}
 use Rattle.finite.proofs.Delta.{δ-sym}
 use Rattle.finite.proofs.Sum.{sumTo-term, sumTo-mono, sumTo-cong, sumTo-scale, sumTo-swap, sumTo-const, sumTo-at}
-use Rattle.finite.proofs.Lowest.{lowest-ge, lowest-le, lowest-before, lowest-holds}
+use Rattle.finite.proofs.Lowest.{lowest-before, lowest-holds}
 use Rattle.graph.specs.Graph.{jdm, edges, size}
-use Rattle.graph.specs.Target.{Target, Partial, Open}
+use Rattle.graph.specs.Target.{Target, Open}
 use Rattle.graph.specs.Switch.{Joined}
 use Rattle.graph.specs.Tests.{leastDegree, mostDegree, degrees}
 use Rattle.graph.proofs.Necessary.{necessary-always}
@@ -28,7 +28,7 @@ use Rattle.joining.proofs.Bytes.{join-bytes, join-outside}
 use Rattle.completion.specs.Choice.{shortCell, shortL, shortK, openW, openV}
 use Rattle.completion.specs.Complete.{Ran, next, isIncomplete, run, mostEdges}
 use Rattle.completion.specs.Cellwise.{Filling}
-use Rattle.completion.proofs.Cellwise.{Chosen, chosen, Stepped, stepped}
+use Rattle.completion.proofs.Cellwise.{chosen, stepped}
 
 module _ (n : ℕ) (cls : ℕ → ℕ) (T : ℕ → ℕ → ℕ) where
   -- every vertex has one class
@@ -115,7 +115,9 @@ module _ (n : ℕ) (cls : ℕ → ℕ) (T : ℕ → ℕ → ℕ) where
 
   -- the pair that is joined next
   picks : (s : Ran) → Good s → isIncomplete n cls T s ≡ true
-      → (v w : ℕ) × Open n cls T (edge (s .adjacency)) v w × Joined n cls own (edge (s .adjacency)) v w (edge (next n cls T s .adjacency)) × Good (next n cls T s)
+      → (v w : ℕ) × Open n cls T (edge (s .adjacency)) v w
+      × Joined n cls own (edge (s .adjacency)) v w (edge (next n cls T s .adjacency))
+      × Good (next n cls T s)
   picks s good e =
       let g = s .adjacency in
       let h = short-cell g e in

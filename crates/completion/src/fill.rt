@@ -1,12 +1,12 @@
 // Filling cell by cell: each gets the joins that it misses.
 ghost use mathlib.Core.Path.{_≡_};
 ghost use mathlib.Core.Bool.{cond};
-ghost use Prim.Native.Nat.{ℕ, _+_, _-_, _/_, _≤_, _<_};
+ghost use Prim.Native.Nat.{_+_, _-_, _/_, _<_};
 ghost use lib.Dec.{eqb};
 ghost use lib.ListN.{length};
-ghost use Rattle.graph.specs.Tests.{leastDegree, degrees};
+ghost use Rattle.graph.specs.Tests.{degrees};
 ghost use Rattle.table.specs.Cells.{matrixOf};
-ghost use Rattle.adjacency.specs.Adjacency.{adjacencySize, side, edge};
+ghost use Rattle.adjacency.specs.Adjacency.{adjacencySize, edge};
 ghost use Rattle.joining.specs.Work.{classAt, degreesOf};
 ghost use Rattle.joining.specs.Block.{blockSum};
 ghost use Rattle.completion.specs.Cellwise.{fillCell, fillRow, fillAll};

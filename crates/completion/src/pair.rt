@@ -1,7 +1,6 @@
 // The lowest open pair of a cell, searched from where the last search ended.
 ghost use mathlib.Core.Path.{_≡_};
-ghost use mathlib.Core.Bool.{false};
-ghost use Prim.Native.Nat.{ℕ, _+_, _≤_, _<_, max};
+ghost use Prim.Native.Nat.{_+_, _≤_, _<_, max};
 ghost use lib.ListN.{length};
 ghost use Rattle.finite.specs.Range.{lowest};
 ghost use Rattle.adjacency.specs.Adjacency.{adjacencySize, side};

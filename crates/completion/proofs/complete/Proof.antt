@@ -27,7 +27,12 @@ complete-spec =
     (λ c.
     let v = c .before in
     let i = v .before .before .before in
-    rw (sym (i .before .lengths-ok .ensures) ∙ not-false _ (i .if1 .left), sym (v .before .is-valid .ensures) ∙ not-true _ (v .if2 .taken), c .refuse2 .ensures) (refl, refl))  -- returns-2
+    rw (
+      sym (i .before .lengths-ok .ensures) ∙ not-false _ (i .if1 .left),
+      sym (v .before .is-valid .ensures) ∙ not-true _ (v .if2 .taken),
+      c .refuse2 .ensures,
+    )
+    (refl, refl))  -- returns-2
     (λ c κs.
     let i = c .before .before .before in
     let a = i .before .before .before .before .before .args in

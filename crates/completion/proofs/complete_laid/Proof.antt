@@ -1,6 +1,5 @@
 -- `completion::complete_laid` meets its contract.
 -- Assumes nothing.
-use native.Mathlib.Omega.{arith}
 use borrow.Author.Needs.{needs}
 use Rattle.completion.proofs.Whole.{vertices-few, total-few, working-start, working-end}
 use Rattle.state.proofs.Facts.{valid-facts}
@@ -31,14 +30,15 @@ complete-laid-spec =
     let k = d .before .before in
     let f = k .before .before .before in
     let a = f .args in
-    total-few (a .journal .now) (a .adjacency .now) (k .cells-of .result) (f .pre .0) (f .pre .1) (f .pre .2) (k .cells-of .ensures .0) (d .counts .result) (d .counts .ensures))  -- starts-requires
+    total-few (a .journal .now) (a .adjacency .now) (k .cells-of .result) (f .pre .0) (f .pre .1) (f .pre .2) (k .cells-of .ensures .0)
+    (d .counts .result) (d .counts .ensures))  -- starts-requires
     (λ c κs.
     let n = c .before .before .before .before .before .before in
     let k = n .before .before .before .before .before in
     let f = k .before .before .before in
     let a = f .args in (
       valid-facts (a .journal .now) (a .adjacency .now) (f .pre .0) (f .pre .1) .adjacency-length,
-      omega (arith, n .vertex-count .ensures, vertices-few (a .journal .now) (a .adjacency .now) (k .cells-of .result) (f .pre .0) (f .pre .1) (f .pre .2) (k .cells-of .ensures .0)),
+      rw (n .vertex-count .ensures) (vertices-few (a .journal .now) (a .adjacency .now) (k .cells-of .result) (f .pre .0) (f .pre .1) (f .pre .2) (k .cells-of .ensures .0)),
     ))  -- degrees-requires
     (λ c κs.
     let h = c .before .before .before .before .before in
@@ -63,4 +63,5 @@ complete-laid-spec =
     let f = k .before .before .before in
     let a = f .args in
     working-end (a .journal .now) (a .adjacency .now) (k .cells-of .result) (f .pre .0) (f .pre .1) (f .pre .2) (k .cells-of .ensures .0)
-    _ _ _ _ _ (n .vertex-count .ensures) (d .counts .ensures) (l .classes .ensures) (t .starts .ensures) (h .degrees .ensures) _ (r .complete-rows .ensures)))  -- returns
+    _ _ _ _ _ (n .vertex-count .ensures) (d .counts .ensures) (l .classes .ensures) (t .starts .ensures) (h .degrees .ensures)
+    _ (r .complete-rows .ensures)))  -- returns

@@ -14,8 +14,12 @@ fill-step-spec =
     (λ c κs.
     let f = c .before .before in
     (f .pre .sound .filling .sized, step-searchable (f .pre)))  -- open-pair-requires
-    (λ c κs. let f = c .before .before .before .before in omega (arith, f .pre .ranged .rows .within, f .pre .sound .filling .few))  -- advance-requires
-    (λ c κs. let f = c .before .before .before .before .before .before in omega (arith, f .pre .ranged .columns .within, f .pre .sound .filling .few))  -- advance-requires-2
+    (λ c κs.
+    let f = c .before .before .before .before in
+    omega (arith, f .pre .ranged .rows .within, f .pre .sound .filling .few))  -- advance-requires
+    (λ c κs.
+    let f = c .before .before .before .before .before .before in
+    omega (arith, f .pre .ranged .columns .within, f .pre .sound .filling .few))  -- advance-requires-2
     (λ c κs.
     let y = c .before .before in
     let x = y .before .before in
@@ -32,7 +36,8 @@ fill-step-spec =
     (λ c.
     let o = c .before .before .before .before .before .before .before .before .before .before in
     let f = o .before .before .before in
-    omega (arith, step-joinable (f .pre) _ _ (o .open-pair .ensures .0) (o .open-pair .ensures .1) .pair .second, f .pre .sound .filling .few))  -- add-least
+    let joinable = step-joinable (f .pre) _ _ (o .open-pair .ensures .0) (o .open-pair .ensures .1) in
+    omega (arith, joinable .pair .second, f .pre .sound .filling .few))  -- add-least
     (λ c κs. tt)  -- least-requires
     (λ c.
     let f = c .before .before .before .before .before .before .before .before .before .before .before .before .before .before .before in

@@ -23,7 +23,8 @@ complete-cell-spec =
     let f = d .before .before in
     let a = f .args in
     rw (d .cell-at .ensures)
-    (fillable (f .pre .0) (a .k) (a .l) (f .pre .1) (f .pre .2) (m .missing .result) (rw (d .cell-at .ensures) at (m .missing .ensures))))  -- fill-cell-requires
+    (fillable (f .pre .0) (a .k) (a .l) (f .pre .1) (f .pre .2) (m .missing .result)
+    (rw (d .cell-at .ensures) at (m .missing .ensures))))  -- fill-cell-requires
     (λ c. search needs)  -- same-length
     (λ c.
     let t = c .before .before in

@@ -18,9 +18,16 @@ pub missing-spec : {M : Type 1} → statement M
 missing-spec =
     tie.close (tie.spec
     (λ c κs. search needs)  -- cell-requires
-    (λ c. let a = c .before .before .before .args in none _ _ (eqb (a .c .k) (a .c .l)) (sym (c .before .cell .ensures .0) ∙ c .if1 .taken))  -- returns
-    (λ c κs. let p = c .before .before .before .pre .1 in (c .before .before .before .pre .0, p .rows .0, p .rows .1, p .columns .0, p .columns .1))  -- block-sum-requires
-    (λ c. let p = c .before .before .before .before .pre .1 in omega (arith, p .within, c .block-sum .ensures, c .before .before .cell .ensures .0))  -- sub-result
+    (λ c.
+    let a = c .before .before .before .args in
+    none _ _ (eqb (a .c .k) (a .c .l)) (sym (c .before .cell .ensures .0) ∙ c .if1 .taken))  -- returns
+    (λ c κs.
+    let f = c .before .before .before in
+    let p = f .pre .1 in
+    (f .pre .0, p .rows .0, p .rows .1, p .columns .0, p .columns .1))  -- block-sum-requires
+    (λ c.
+    let f = c .before .before .before .before in
+    omega (arith, f .pre .1 .within, c .block-sum .ensures, c .before .before .cell .ensures .0))  -- sub-result
     (λ c κs. tt)  -- unit-requires
     (λ c. omega (arith, c .unit .ensures .1))  -- div-result
     (λ c. rw (c .unit .ensures .0, c .before .block-sum .ensures, c .before .before .before .cell .ensures .0)))  -- returns-2

@@ -3,7 +3,6 @@
 use mathlib.Core.Path.{_≡_, refl, sym, _∙_}
 use Prim.Native.Nat.{_-_}
 use native.Mathlib.Omega.{arith}
-use borrow.Author.Needs.{needs}
 use borrow.Author.Tests.{lt-ltb, le-ltb}
 use Rattle.finite.specs.Range.{lowest}
 use Rattle.finite.proofs.Lowest.{lowest-end, lowest-here, lowest-next}
@@ -14,7 +13,8 @@ use Rattle.completion.proofs.pair.open_pair.Tie as tie
 
 abbrev Inv-loop : tie.InvT-loop
 Inv-loop adjacency cell v w bottom end row₀ from₀ row from =
-    Searchable adjacency cell row from × (lowest v (cell .rows .to) (hasColumn adjacency cell) ≡ lowest row (cell .rows .to) (hasColumn adjacency cell))
+    Searchable adjacency cell row from
+    × (lowest v (cell .rows .to) (hasColumn adjacency cell) ≡ lowest row (cell .rows .to) (hasColumn adjacency cell))
 
 abbrev μ-loop : tie.MeasureT-loop
 μ-loop adjacency cell v w bottom end row₀ from₀ row from = bottom - row
@@ -30,8 +30,7 @@ open-pair-spec =
     let f = c .before in
     let m = f .before in
     let l = m .before .before .before in
-    let x = l .before .before .args in
-    let column = column-resumed (x .adjacency .now) (x .cell) (l .loop .row) (l .loop .from) (l .loop .inv .0) (c .before .before .before .before .loop-test .taken) _ _ _
+    let column = column-resumed (l .loop .inv .0) (c .before .before .before .before .loop-test .taken) _ _ _
     (m .before .first-column .ensures) (m .greatest .ensures) (f .free-column .ensures) in
     (sym (l .loop .inv .1 ∙ lowest-here _ _ _ (omega arith) (rw (← column) (lt-ltb _ _ (c .if1 .taken)))), λ h. column))  -- returns
     (λ c. omega arith)  -- add-row
@@ -40,9 +39,8 @@ open-pair-spec =
     let f = c .before in
     let m = f .before in
     let l = m .before .before .before in
-    let x = l .before .before .args in
     let s = l .loop .inv .0 in
-    let column = column-resumed (x .adjacency .now) (x .cell) (l .loop .row) (l .loop .from) (l .loop .inv .0) (c .before .before .before .before .loop-test .taken) _ _ _
+    let column = column-resumed (l .loop .inv .0) (c .before .before .before .before .loop-test .taken) _ _ _
     (m .before .first-column .ensures) (m .greatest .ensures) (f .free-column .ensures) in (
       record {
         rows = s .rows;
