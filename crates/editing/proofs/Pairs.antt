@@ -64,7 +64,8 @@ module _ (x y : List ℕ) (m : ℕ) (h : length x ≡ 2 * m) where
   over-append : (f : ℕ → ℕ → ℕ) (k : ℕ) → over (m + k) f (x ++ y) ≡ over m f x + over k f y
   over-append f k =
       sumTo-split m k (λ i. f (lower (x ++ y) i) (upper (x ++ y) i))
-      ∙ ap₂ _+_ (sumTo-cong m (λ i. f (lower (x ++ y) i) (upper (x ++ y) i)) (λ i. f (lower x i) (upper x i)) (λ i l. ap₂ f (lower-left i l) (upper-left i l)))
+      ∙ ap₂ _+_ (sumTo-cong m (λ i. f (lower (x ++ y) i) (upper (x ++ y) i)) (λ i. f (lower x i) (upper x i))
+      (λ i l. ap₂ f (lower-left i l) (upper-left i l)))
       (sumTo-cong k (λ i. f (lower (x ++ y) (m + i)) (upper (x ++ y) (m + i))) (λ i. f (lower y i) (upper y i))
       (λ i l. ap₂ f (lower-right (m + i) i refl) (upper-right (m + i) i refl)))
 
