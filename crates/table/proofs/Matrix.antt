@@ -73,6 +73,16 @@ matrix-most m c h k l = go (ltb k degrees && ltb l degrees)
     go true = h (place k l)
     go false = omega arith
 
+-- a cell is the same in either order
+pub matrix-sym : (c : List ℕ) (k l : ℕ) → matrixOf c k l ≡ matrixOf c l k
+matrix-sym c k l = go (ltb k degrees) (ltb l degrees)
+  where
+    go : (s t : Bool) → cond (s && t) (getD c (place k l) 0) 0 ≡ cond (t && s) (getD c (place l k) 0) 0
+    go true true = let e : place k l ≡ place l k = omega arith in rw e
+    go true false = refl
+    go false true = refl
+    go false false = refl
+
 -- two pairs of degrees stand in one place where they are the same pair
 module _ (k l a b : ℕ) (hk : k < degrees) (hl : l < degrees) (ha : a < degrees) (hb : b < degrees) where
   pub same-place : place k l ≡ place a b → samePair k l a b ≡ true

@@ -29,12 +29,23 @@ pub fn place_of(k: usize, l: usize) -> usize
     l * DEGREES + k
 }
 
+// Cell (k, l) where k is not above l: row k of these is one part of the array.
+pub fn upper_cell(cells: &[u32; 1681], k: usize, l: usize) -> usize
+    requires { ⌜ (k ≤ l) × (l < degrees) ⌝ }
+    ensures { λ r. ⌜ (r ≡ matrixOf (now (cells .entry)) k l) × (r < 4294967296) ⌝ }
+{
+    wide32(cells[k * DEGREES + l])
+}
+
 // Cell (k, l), which is also cell (l, k).
 pub fn cell(cells: &[u32; 1681], k: usize, l: usize) -> usize
     requires { ⌜ (k < degrees) × (l < degrees) ⌝ }
     ensures { λ r. ⌜ (r ≡ matrixOf (now (cells .entry)) k l) × (r < 4294967296) ⌝ }
 {
-    wide32(cells[place_of(k, l)])
+    if k <= l {
+        return upper_cell(cells, k, l);
+    }
+    upper_cell(cells, l, k)
 }
 
 pub fn add_record(cells: &mut [u32; 1681], block: &[u8], i: usize)
