@@ -1,5 +1,6 @@
 pub mod Block
 pub mod Matrix
 pub mod Counts
+pub mod Overfull
 pub mod Numbering
 pub mod Verdict

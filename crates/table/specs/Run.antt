@@ -1,15 +1,26 @@
--- What the code of the layout carries from vertex to vertex: a class and the first vertex past it.
+-- What the code of the layout goes by: the counts in an array, the cells of a row from the diagonal on, and from vertex to
+-- vertex a class and the first vertex past it.
 -- Assumes nothing.
 use mathlib.Core.Path.{_≡_}
+use mathlib.Core.Bool.{Bool, _||_}
 use mathlib.Core.List.{List}
 use Prim.Native.Nat.{ℕ, _+_, _≤_, _<_}
+use lib.Dec.{ltb, leb}
 use lib.ListN.{getD}
-use Rattle.finite.specs.Range.{sumTo}
-use Rattle.graph.specs.Tests.{degrees}
+use Rattle.finite.specs.Range.{sumTo, allTo}
+use Rattle.graph.specs.Target.{cellMost}
+use Rattle.graph.specs.Tests.{degrees, count}
 
 -- D(k) as the array of counts has it
 abbrev pub countIn : List ℕ → ℕ → ℕ
 countIn t k = getD t k 0
+
+-- cell (k, l), where l is from k on, is not above its most
+abbrev pub cellFits : (ℕ → ℕ → ℕ) → ℕ → ℕ → Bool
+cellFits T k l = ltb l k || leb (T k l) (cellMost (count T) k l)
+
+abbrev pub rowFits : (ℕ → ℕ → ℕ) → ℕ → Bool
+rowFits T k = allTo degrees (cellFits T k)
 
 -- the vertices below `end` are those of the classes up to `class`, and v is past those of the classes before it
 abbrev pub Reaches : (ℕ → ℕ) → ℕ → ℕ → ℕ → Type 0

@@ -5,10 +5,11 @@ ghost use Rattle.graph.specs.Numbering.{total, classOf};
 ghost use Rattle.graph.specs.Target.{cellMost};
 ghost use Rattle.graph.specs.Tests.{degrees, rowSum, count, odd, uneven, overfull, firstOdd, firstUneven, firstOverfull, firstOverfullIn};
 ghost use Rattle.table.specs.Cells.{matrixOf, AtMost, cellSumMost};
-ghost use Rattle.table.specs.Run.{countIn, Reaches};
+ghost use Rattle.table.specs.Run.{countIn, rowFits, Reaches};
 ghost use Rattle.table.specs.Layout.{vertices, wanted, countsOf, classesOf, layoutVerdict, mostVertices};
 use crate::cells::DEGREES;
 use crate::cells::cell;
+use crate::cells::upper_cell;
 use answer::Cause;
 use answer::Verdict;
 use answer::refuse;
@@ -42,8 +43,11 @@ fn row_sum(cells: &[u32; 1681], k: usize) -> usize
     ensures { λ r. ⌜ (r ≡ rowSum (matrixOf (now (cells .entry))) k) × (r ≤ degrees * cellSumMost) ⌝ }
 {
     let mut sum = 0;
-    for l in 0..DEGREES {
-        sum += cell(cells, k, l);
+    for l in 0..k {
+        sum += upper_cell(cells, l, k);
+    }
+    for l in k..DEGREES {
+        sum += upper_cell(cells, k, l);
     }
     sum
 }
@@ -126,13 +130,27 @@ fn first_overfull_in(cells: &[u32; 1681], counts: &[usize; 41], k: usize) -> usi
     l
 }
 
+// No cell of row k from the diagonal on is above its most. A flag and no early exit: most tables pass.
+fn row_fits(cells: &[u32; 1681], counts: &[usize; 41], k: usize) -> bool
+    requires { ⌜ (k < degrees) × AtMost cellSumMost (now cells) × (now counts ≡ countsOf (matrixOf (now cells))) ⌝ }
+    ensures { λ r. ⌜ r ≡ rowFits (matrixOf (now (cells .entry))) k ⌝ }
+{
+    let d = counts[k];
+    let mut ok = upper_cell(cells, k, k) <= d * d - d;
+    for l in k + 1..DEGREES {
+        ok = ok & (upper_cell(cells, k, l) <= d * counts[l]);
+    }
+    ok
+}
+
+// The cells before the diagonal stand in rows that have passed.
 fn first_overfull(cells: &[u32; 1681], counts: &[usize; 41]) -> usize
     requires { ⌜ AtMost cellSumMost (now cells) × (now counts ≡ countsOf (matrixOf (now cells))) ⌝ }
     ensures { λ r. ⌜ r ≡ firstOverfull (matrixOf (now (cells .entry))) ⌝ }
 {
     let mut k = 1;
     while k < DEGREES {
-        if first_overfull_in(cells, counts, k) < DEGREES {
+        if !row_fits(cells, counts, k) {
             return k;
         }
         k += 1;
