@@ -1,17 +1,19 @@
--- `mirrored`: among the vertices the matrix is that of a simple graph.
+-- `mirrored`: among the vertices the matrix is that of a simple graph, so half of its cells are enough.
 -- Assumes nothing.
-use mathlib.Core.Path.{_≡_, sym}
-use mathlib.Core.Bool.{true, _&&_}
+use mathlib.Core.Path.{_≡_, sym, ap₂}
+use mathlib.Core.Bool.{true, _&&_, _||_}
 use mathlib.Core.List.{List}
 use Prim.Native.Nat.{ℕ, _≤_, _<_}
 use native.Mathlib.Decide.{decLt}
 use native.Mathlib.Omega.{arith}
-use lib.Dec.{eqb, leb}
+use lib.Dec.{eqb, leb, ltb}
 use borrow.Author.Tests.{eqb-true, eq-eqb, leb-true, le-leb}
 use Rattle.finite.specs.Range.{allTo}
-use Rattle.finite.proofs.All.{and-left, and-right, and-both, allTo-at, allTo-holds}
-use Rattle.graph.specs.Graph.{Simple}
-use Rattle.adjacency.specs.Adjacency.{edge, rowMirrored, mirrored}
+use Rattle.finite.proofs.All.{and-left, and-right, and-both, allTo-at, allTo-holds, allTo-upper}
+use Rattle.graph.specs.Graph.{Simple, jdm}
+use Rattle.graph.specs.Tests.{degrees}
+use Rattle.graph.proofs.Necessary.{necessary-always}
+use Rattle.adjacency.specs.Adjacency.{edge, rowMirrored, mirrored, cellsWithin}
 
 module _ (n : ℕ) (g : List ℕ) where
   pub mirrored-simple : mirrored n g ≡ true → Simple n (edge g)
@@ -57,3 +59,11 @@ module _ (n : ℕ) (g : List ℕ) where
       (λ v l. and-both _ _ (eq-eqb (edge g v v) 0 (s .loopless v l))
       (allTo-holds (λ w. leb (edge g v w) 1 && eqb (edge g v w) (edge g w v)) v
       (λ w m. and-both _ _ (le-leb (edge g v w) 1 (s .binary v w l (omega arith))) (eq-eqb (edge g v w) (edge g w v) (s .symmetric v w l (omega arith))))))
+
+  -- against a symmetric table, the cells (k, l) with l from k on are enough
+  pub cellsWithin-upper : mirrored n g ≡ true → (cls : ℕ → ℕ) → ((v : ℕ) → v < n → cls v < degrees)
+      → (T : ℕ → ℕ → ℕ) → ((k l : ℕ) → T k l ≡ T l k)
+      → cellsWithin n cls T g ≡ allTo degrees (λ k. allTo degrees (λ l. ltb l k || leb (jdm n cls (edge g) k l) (T k l)))
+  cellsWithin-upper h cls classed T s =
+      allTo-upper degrees (λ k l. leb (jdm n cls (edge g) k l) (T k l))
+      (λ k l i j. ap₂ leb (necessary-always n degrees cls (edge g) (mirrored-simple h) classed .symmetric k l) (s k l))

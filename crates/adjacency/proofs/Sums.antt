@@ -1,6 +1,7 @@
 -- Laws of sums kept in arrays.
 -- Assumes nothing.
 use mathlib.Core.Path.{_≡_, refl, sym, ap, ap₂, _∙_}
+use mathlib.Core.Bool.{_||_}
 use mathlib.Core.List.{List}
 use mathlib.Core.Logic.{_≢_}
 use Prim.Native.Nat.{ℕ, _+_, _*_, _≤_, _<_}
@@ -9,7 +10,7 @@ use native.Mathlib.Decide.{ℕ-discrete, decLt}
 use native.Mathlib.Omega.{arith}
 use lib.ListN.{length, getD, set, replicate, length-set, length-replicate, getD-replicate, List·getD-eq-default}
 use lib.Seq.{getD-set-same, getD-set-other}
-use lib.Dec.{leb}
+use lib.Dec.{leb, ltb}
 use Rattle.finite.specs.Range.{δ, sumTo, allTo}
 use Rattle.finite.proofs.All.{allTo-cong}
 use Rattle.finite.proofs.Delta.{δ-same, δ-other, δ-times-le}
@@ -103,9 +104,14 @@ classDegrees-jdm n cls E f k l h =
     sumTo-cong n (λ w. δ (cls w) l * f w) (λ w. δ (cls w) l * classDegree n cls E k w) (λ w m. ap (λ (x : ℕ). δ (cls w) l * x) (h w m))
     ∙ sym (jdm-swap n cls E k l)
 
+-- class k counted so, against the cells (k, l) with l from k on
 pub classDegrees-within : (n : ℕ) (cls : ℕ → ℕ) (E : Graph) (f : ℕ → ℕ) (T : ℕ → ℕ → ℕ) (k : ℕ)
     → ((w : ℕ) → w < n → f w ≡ classDegree n cls E k w)
-    → allTo degrees (λ l. leb (sumTo n (λ w. δ (cls w) l * f w)) (T k l)) ≡ allTo degrees (λ l. leb (jdm n cls E k l) (T k l))
+    → allTo degrees (λ l. ltb l k || leb (sumTo n (λ w. δ (cls w) l * f w)) (T k l)) ≡ allTo degrees (λ l. ltb l k || leb (jdm n cls E k l) (T k l))
 classDegrees-within n cls E f T k h =
-    allTo-cong (λ l. leb (sumTo n (λ w. δ (cls w) l * f w)) (T k l)) (λ l. leb (jdm n cls E k l) (T k l)) degrees
-    (λ l m. ap (λ (x : ℕ). leb x (T k l)) (classDegrees-jdm n cls E f k l h))
+    allTo-cong (λ l. ltb l k || leb (sumTo n (λ w. δ (cls w) l * f w)) (T k l)) (λ l. ltb l k || leb (jdm n cls E k l) (T k l)) degrees
+    (λ l m. ap (λ (x : ℕ). ltb l k || leb x (T k l)) (classDegrees-jdm n cls E f k l h))
+
+-- where no vertex below m is of class l, nothing is counted for l
+pub class-none : (m l : ℕ) (cls f : ℕ → ℕ) → ((w : ℕ) → w < m → cls w ≢ l) → sumTo m (λ w. δ (cls w) l * f w) ≡ 0
+class-none m l cls f h = sumTo-zero m (λ w. δ (cls w) l * f w) (λ w i. rw (δ-other (cls w) l (h w i)) (zero-mul (f w)))

@@ -1,8 +1,8 @@
 // The adjacency matrix in lent bytes (document 01: the grid): its check, the count of its edges, the setting of one.
 ghost use mathlib.Core.Path.{_≡_};
-ghost use mathlib.Core.Bool.{true, _&&_};
+ghost use mathlib.Core.Bool.{true, _&&_, _||_};
 ghost use Prim.Native.Nat.{ℕ, _+_, _-_, _*_, _≤_, _<_};
-ghost use lib.Dec.{eqb, leb};
+ghost use lib.Dec.{eqb, leb, ltb};
 ghost use lib.ListN.{length, getD, take, drop};
 ghost use Rattle.finite.specs.Range.{δ, sumTo, allTo};
 ghost use Rattle.graph.specs.Graph.{degree, edges};
@@ -15,7 +15,7 @@ ghost use Rattle.adjacency.specs.Sums.{sumsSize, classIn, Added, classDe
 use slices::all_zero;
 use slices::wide;
 use table::cells::DEGREES;
-use table::cells::cell;
+use table::cells::upper_cell;
 use table::cells::wide32;
 
 pub const SIDE: usize = 200;
@@ -157,38 +157,60 @@ fn sum_classes(adjacency: &[u8], n: usize, classes: &[u8; 200], sums: &mut [u8; 
     }
 }
 
-// For each class l, the sum over its vertices of one row of the sums.
-fn count_class(sums: &[u8; 8200], n: usize, classes: &[u8; 200], k: usize, counts: &mut [u32; 41])
-    requires { ⌜ (n ≤ side) × (k < degrees) × ((v : ℕ) → v < n → classIn (now classes) v < degrees) × (length (now counts) ≡ degrees) × ((p : ℕ) → getD (now counts) p 0 ≡ 0) ⌝ }
-    ensures { λ _. ⌜ ((l : ℕ) → getD (now (counts .exit)) l 0 ≡ sumTo n (λ w. δ (classIn (now (classes .entry)) w) l * getD (now (sums .entry)) (k * side + w) 0)) ⌝ }
+// The first vertex from start on whose class is not below k, or n: no vertex before it counts for class k or above.
+fn skip_below(classes: &[u8; 200], n: usize, k: usize, start: usize) -> usize
+    requires { ⌜ (start ≤ n) × (n ≤ side) × ((w : ℕ) → w < start → classIn (now classes) w < k) ⌝ }
+    ensures { λ r. ⌜ (r ≤ n) × ((w : ℕ) → w < r → classIn (now (classes .entry)) w < k) ⌝ }
 {
-    for w in 0..n {
+    for w in start..n {
+        if k <= wide(classes[w]) {
+            return w;
+        }
+    }
+    n
+}
+
+// For each class l from k on, the sum over its vertices of one row of the sums. None of them is before start.
+fn count_class(
+    sums: &[u8; 8200],
+    n: usize,
+    classes: &[u8; 200],
+    k: usize,
+    start: usize,
+    counts: &mut [u32; 41],
+)
+    requires { ⌜ (n ≤ side) × (k < degrees) × ((v : ℕ) → v < n → classIn (now classes) v < degrees) × (start ≤ n) × ((w : ℕ) → w < start → classIn (now classes) w < k) × (length (now counts) ≡ degrees) × ((p : ℕ) → getD (now counts) p 0 ≡ 0) ⌝ }
+    ensures { λ _. ⌜ ((l : ℕ) → k ≤ l → getD (now (counts .exit)) l 0 ≡ sumTo n (λ w. δ (classIn (now (classes .entry)) w) l * getD (now (sums .entry)) (k * side + w) 0)) ⌝ }
+{
+    for w in start..n {
         let l = wide(classes[w]);
         let sum = wide32(counts[l]) + wide(sums[k * SIDE + w]);
         counts[l] = sum as u32;
     }
 }
 
-// No cell of class k is above the matrix.
+// No cell (k, l) with l from k on is above the matrix.
 fn class_within(
     sums: &[u8; 8200],
     n: usize,
     classes: &[u8; 200],
     cells: &[u32; 1681],
     k: usize,
+    start: usize,
 ) -> bool
-    requires { ⌜ (n ≤ side) × (k < degrees) × ((v : ℕ) → v < n → classIn (now classes) v < degrees) ⌝ }
-    ensures { λ r. ⌜ r ≡ allTo degrees (λ l. leb (sumTo n (λ w. δ (classIn (now (classes .entry)) w) l * getD (now (sums .entry)) (k * side + w) 0)) (matrixOf (now (cells .entry)) k l)) ⌝ }
+    requires { ⌜ (n ≤ side) × (k < degrees) × ((v : ℕ) → v < n → classIn (now classes) v < degrees) × (start ≤ n) × ((w : ℕ) → w < start → classIn (now classes) w < k) ⌝ }
+    ensures { λ r. ⌜ r ≡ allTo degrees (λ l. ltb l k || leb (sumTo n (λ w. δ (classIn (now (classes .entry)) w) l * getD (now (sums .entry)) (k * side + w) 0)) (matrixOf (now (cells .entry)) k l)) ⌝ }
 {
     let mut counts = [0u32; 41];
-    count_class(sums, n, classes, k, &mut counts);
+    count_class(sums, n, classes, k, start, &mut counts);
     let mut ok = true;
-    for l in 0..DEGREES {
-        ok = ok & (wide32(counts[l]) <= cell(cells, k, l));
+    for l in k..DEGREES {
+        ok = ok & (wide32(counts[l]) <= upper_cell(cells, k, l));
     }
     ok
 }
 
+// The matrix and the table are symmetric, so the cells (k, l) with l from k on are enough.
 fn cells_within(adjacency: &[u8], n: usize, classes: &[u8; 200], cells: &[u32; 1681]) -> bool
     requires { ⌜ (length (now adjacency) ≡ adjacencySize) × (n ≤ side) × (mirrored n (now adjacency) ≡ true) × ((v : ℕ) → v < n → classIn (now classes) v < degrees) ⌝ }
     ensures { λ r. ⌜ r ≡ cellsWithin n (classIn (now (classes .entry))) (matrixOf (now (cells .entry))) (now (adjacency .entry)) ⌝ }
@@ -196,8 +218,10 @@ fn cells_within(adjacency: &[u8], n: usize, classes: &[u8; 200], cells: &[u32; 1
     let mut sums = [0u8; 8200];
     sum_classes(adjacency, n, classes, &mut sums);
     let mut ok = true;
+    let mut start = 0;
     for k in 0..DEGREES {
-        ok = ok & class_within(&sums, n, classes, cells, k);
+        start = skip_below(classes, n, k, start);
+        ok = ok & class_within(&sums, n, classes, cells, k, start);
     }
     ok
 }

@@ -1,12 +1,15 @@
 -- Laws of `allTo`.
 -- Assumes nothing.
 use mathlib.Core.Path.{_≡_, refl, sym, ap, _∙_}
-use mathlib.Core.Bool.{Bool, true, false, _&&_}
+use mathlib.Core.Bool.{Bool, true, false, _&&_, _||_, or-true}
 use mathlib.Core.Logic.{⊎-elim}
 use Prim.Native.Nat.{ℕ, zero, suc, _+_, _≤_, _<_}
 use native.Mathlib.Nat.{not-suc-le-zero, eq-or-lt-of-le, le-of-suc-le-suc}
 use native.Mathlib.Numerals.{add-one}
+use native.Mathlib.Decide.{decLt}
 use native.Mathlib.Omega.{arith}
+use lib.Dec.{ltb}
+use borrow.Author.Tests.{le-ltb}
 use Rattle.finite.specs.Range.{allTo}
 
 pub and-left : (a b : Bool) → a && b ≡ true → a ≡ true
@@ -53,3 +56,32 @@ pub allTo-cong : (p q : ℕ → Bool) (n : ℕ) → ((k : ℕ) → k < n → p k
 unfolding allTo
 allTo-cong p q zero h = refl
 allTo-cong p q (suc n) h = rw (allTo-cong p q n (λ k l. h k (omega arith)), h n (omega arith))
+
+-- tests that imply each other are equal
+pub test-same : (a b : Bool) → (a ≡ true → b ≡ true) → (b ≡ true → a ≡ true) → a ≡ b
+test-same true b f g = sym (f refl)
+test-same false true f g = g refl
+test-same false false f g = refl
+
+-- a test of pairs that is the same in either order holds at all pairs where it holds at those in order
+pub allTo-upper : (n : ℕ) (p : ℕ → ℕ → Bool) → ((k l : ℕ) → k < n → l < n → p k l ≡ p l k)
+    → allTo n (λ k. allTo n (p k)) ≡ allTo n (λ k. allTo n (λ l. ltb l k || p k l))
+allTo-upper n p s = test-same _ _ forth back
+  where
+    upper : ℕ → ℕ → Bool
+    upper k l = ltb l k || p k l
+
+    forth : allTo n (λ k. allTo n (p k)) ≡ true → allTo n (λ k. allTo n (upper k)) ≡ true
+    forth h =
+        allTo-holds (λ k. allTo n (upper k)) n
+        (λ k i. allTo-holds (upper k) n (λ l j. rw (allTo-at (p k) n (allTo-at (λ k. allTo n (p k)) n h k i) l j) (or-true (ltb l k))))
+
+    back : allTo n (λ k. allTo n (upper k)) ≡ true → allTo n (λ k. allTo n (p k)) ≡ true
+    back h = allTo-holds (λ k. allTo n (p k)) n (λ k i. allTo-holds (p k) n (λ l j. pair k l i j (decLt l k)))
+      where
+        ordered : (k l : ℕ) → k < n → l < n → k ≤ l → p k l ≡ true
+        ordered k l i j m = rw (le-ltb l k m) at (allTo-at (upper k) n (allTo-at (λ k. allTo n (upper k)) n h k i) l j)
+
+        pair : (k l : ℕ) → k < n → l < n → Dec (l < k) → p k l ≡ true
+        pair k l i j (yes m) = s k l i j ∙ ordered l k j i (omega arith)
+        pair k l i j (no m) = ordered k l i j (omega arith)
