@@ -16,19 +16,18 @@ use answer::Cause;
 use answer::WrittenAnswer;
 use answer::refuse;
 use journal::phase_of;
-use slices::put;
 use state::is_valid;
 use state::lengths_ok;
 
 // The bytes of the edge v – w, if it is one, written at place at. The place behind them.
 fn put_edge(adjacency: &[u8], v: usize, w: usize, output: &mut [u8], at: usize) -> usize
-    requires { ⌜ (length (now adjacency) ≡ adjacencySize) × (v < w) × (w < side) × (at ≤ 80000) ⌝ }
+    requires { ⌜ (length (now adjacency) ≡ adjacencySize) × (v < w) × (w < side) × (at ≤ 80000) × (at + length (edgeBytes (now adjacency) v w) ≤ length (now output)) ⌝ }
     ensures { λ r. ⌜ (r ≡ at + length (edgeBytes (now (adjacency .entry)) v w)) × (r ≤ at + 2) ⌝ }
     ensures { λ _. ⌜ now (output .exit) ≡ sets (now (output .entry)) at (edgeBytes (now (adjacency .entry)) v w) ⌝ }
 {
     if adjacency[v * SIDE + w] == 1 {
-        put(output, at, v as u8);
-        put(output, at + 1, w as u8);
+        output[at] = v as u8;
+        output[at + 1] = w as u8;
         return at + 2;
     }
     at
@@ -36,7 +35,7 @@ fn put_edge(adjacency: &[u8], v: usize, w: usize, output: &mut [u8], at: usize) 
 
 // The edges of v to higher vertices.
 fn put_row(adjacency: &[u8], n: usize, v: usize, output: &mut [u8], at: usize) -> usize
-    requires { ⌜ (length (now adjacency) ≡ adjacencySize) × (n ≤ side) × (v < n) × (at ≤ 79600) ⌝ }
+    requires { ⌜ (length (now adjacency) ≡ adjacencySize) × (n ≤ side) × (v < n) × (at ≤ 79600) × (at + length (catTo n (edgeBytes (now adjacency) v)) ≤ length (now output)) ⌝ }
     ensures { λ r. ⌜ (r ≡ at + length (catTo n (edgeBytes (now (adjacency .entry)) v))) × (r ≤ at + 400) ⌝ }
     ensures { λ _. ⌜ now (output .exit) ≡ sets (now (output .entry)) at (catTo n (edgeBytes (now (adjacency .entry)) v)) ⌝ }
 {
@@ -51,7 +50,7 @@ fn put_row(adjacency: &[u8], n: usize, v: usize, output: &mut [u8], at: usize) -
 
 // All edges.
 fn put_list(adjacency: &[u8], n: usize, output: &mut [u8]) -> usize
-    requires { ⌜ (length (now adjacency) ≡ adjacencySize) × (n ≤ side) ⌝ }
+    requires { ⌜ (length (now adjacency) ≡ adjacencySize) × (n ≤ side) × (length (listBytes n (now adjacency)) ≤ length (now output)) ⌝ }
     ensures { λ r. ⌜ r ≡ length (listBytes n (now (adjacency .entry))) ⌝ }
     ensures { λ _. ⌜ now (output .exit) ≡ sets (now (output .entry)) 0 (listBytes n (now (adjacency .entry))) ⌝ }
 {

@@ -11,6 +11,7 @@ use native.Mathlib.Omega.{arith}
 use lib.ListN.{length, getD, set, length-set, length-append}
 use lib.Seq.{sets, getD-set-same, getD-set-other}
 use Rattle.finite.specs.Range.{sumTo, foldTo, catTo, fillTo, iterate}
+use Rattle.finite.proofs.Sum.{sumTo-more, sumTo-le}
 
 pub foldTo-none : {A : Type 0} (f : ℕ → A → A) (s : A) → foldTo 0 f s ≡ s
 unfolding foldTo
@@ -47,6 +48,11 @@ pub catTo-length : (f : ℕ → List ℕ) (n : ℕ) → length (catTo n f) ≡ s
 unfolding catTo sumTo
 catTo-length f zero = refl
 catTo-length f (suc n) = rw (length-append, catTo-length f n)
+
+-- the lists up to f m are a part of the whole
+pub catTo-part : (f : ℕ → List ℕ) (n m : ℕ) → m < n → length (catTo m f) + length (f m) ≤ length (catTo n f)
+catTo-part f n m h =
+    rw (catTo-length f m, catTo-length f n, ← (sumTo-more (λ i. length (f i)) m)) (sumTo-le (m + 1) n (λ i. length (f i)) (omega arith))
 
 -- what is written after a is written behind it
 pub sets-append : (l : List ℕ) (i : ℕ) (a b : List ℕ) → sets l i (a ++ b) ≡ sets (sets l i a) (i + length a) b

@@ -36,9 +36,15 @@ list-laid-spec =
     let b = list-length _ g (s .pre .4) ∙ ap (λ (x : ℕ). 2 * x) (sym e) in
     rw (lt-leb _ _ (rw (← b) at (i .if1 .taken))) (ap Refused (c .refuse .ensures), refl))  -- returns
     (λ c κs.
-    let l = c .before .before .before in
+    let i = c .before in
+    let m = i .before in
+    let l = m .before in
     let s = l .before .before .before .before in
-    (s .pre .2, rw (l .laid-vertices .ensures) (s .pre .3)))  -- put-list-requires
+    let g = s .args .adjacency .now in
+    let n = l .laid-vertices .ensures in
+    let e = m .edge-count .ensures ∙ ap (λ (n : ℕ). edges n (edge g)) n in
+    let b = ap (λ (n : ℕ). length (listBytes n g)) n ∙ list-length _ g (s .pre .4) in
+    (s .pre .2, rw n (s .pre .3), omega arith))  -- put-list-requires
     (λ c. search needs)  -- same-length
     (λ c.
     let p = c .before .before in

@@ -1,8 +1,10 @@
 -- `editing::listing::put_edge` meets its contract.
+-- Assumes nothing.
 use mathlib.Core.Path.{refl}
 use native.Mathlib.Numerals.{add-one}
 use native.Mathlib.Omega.{arith}
 use borrow.Author.Needs.{needs}
+use lib.ListN.{length-set}
 use Rattle.editing.proofs.List.{edge-there, edge-none}
 use Rattle.editing.proofs.listing.put_edge.Statement.{statement}
 use Rattle.editing.proofs.listing.put_edge.Tie as tie
@@ -13,20 +15,24 @@ put-edge-spec =
     (λ c. omega arith)  -- mul-if1
     (λ c. omega arith)  -- add-if1
     (λ c. omega arith)  -- shared-slice-read-if1
-    (λ c. omega arith)  -- cast-put
-    (λ c κs. tt)  -- put-requires
-    (λ c. omega arith)  -- add-put
-    (λ c. omega arith)  -- cast-put-2
-    (λ c κs. tt)  -- put-requires-2
+    (λ c. omega arith)  -- cast-output
+    (λ c.
+    let s = c .before .before in
+    let e = edge-there (s .args .adjacency .now) (s .args .v) (s .args .w) (s .pre .1) (c .if1 .taken) in
+    omega (arith, rw e at (s .pre .4)))  -- slice-write-output
+    (λ c. omega arith)  -- cast-output-2
+    (λ c. omega arith)  -- add-output
+    (λ c.
+    let s = c .before .before in
+    let e = edge-there (s .args .adjacency .now) (s .args .v) (s .args .w) (s .pre .1) (c .if1 .taken) in
+    let room = rw e at (s .pre .4) in
+    rw length-set (omega arith))  -- slice-write-output-2
     (λ c. omega arith)  -- add-result
     (λ c. search needs)  -- same-length
     (λ c.
-    let q = c .before .before in
-    let p = q .before .before .before .before in
-    let i = p .before .before in
-    let s = i .before .before .before .before in
-    rw (edge-there (s .args .adjacency .now) (s .args .v) (s .args .w) (s .pre .1) (i .if1 .taken), q .put2 .ensures, p .put .ensures, add-one)
+    let s = c .before .before in
+    rw (edge-there (s .args .adjacency .now) (s .args .v) (s .args .w) (s .pre .1) (c .if1 .taken), add-one)
     ((omega arith, omega arith), refl))  -- returns
     (λ c.
-    let s = c .before .before .before .before in
+    let s = c .before .before in
     rw (edge-none (s .args .adjacency .now) (s .args .v) (s .args .w) (c .if1 .left)) ((omega arith, omega arith), refl)))  -- returns-2

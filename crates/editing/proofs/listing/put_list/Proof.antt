@@ -6,7 +6,7 @@ use native.Mathlib.Omega.{arith}
 use lib.ListN.{length, length-append}
 use lib.Seq.{sets, length-sets}
 use Rattle.finite.specs.Range.{catTo}
-use Rattle.finite.proofs.Fold.{catTo-none, catTo-more, sets-append}
+use Rattle.finite.proofs.Fold.{catTo-none, catTo-more, catTo-part, sets-append}
 use Rattle.editing.specs.List.{edgeBytes}
 use Rattle.editing.proofs.listing.put_list.Statement.{statement}
 use Rattle.editing.proofs.listing.put_list.Tie as tie
@@ -23,7 +23,11 @@ pub put-list-spec : {M : Type 1} → statement M
 put-list-spec =
     tie.close (tie.spec Inv-loop μ-loop
     (λ c. rw catTo-none (omega arith, omega arith, omega arith, refl))  -- loop-holds
-    (λ c κs. omega arith)  -- put-row-requires
+    (λ c κs.
+    let l = c .before .before in
+    let a = l .before .before .before .args in
+    let m = catTo-part (λ v. catTo (a .n) (edgeBytes (a .adjacency .now) v)) (a .n) (l .loop .v) (omega arith) in
+    rw (l .loop .inv .3, length-sets) (omega arith))  -- put-row-requires
     (λ c. omega arith)  -- add-v
     (λ c. omega arith)  -- loop-less
     (λ c.

@@ -5,7 +5,7 @@ use native.Mathlib.Omega.{arith}
 use lib.ListN.{length, length-append}
 use lib.Seq.{sets, length-sets}
 use Rattle.finite.specs.Range.{catTo}
-use Rattle.finite.proofs.Fold.{catTo-more, sets-append}
+use Rattle.finite.proofs.Fold.{catTo-more, catTo-part, sets-append}
 use Rattle.editing.specs.List.{edgeBytes}
 use Rattle.editing.proofs.List.{row-starts}
 use Rattle.editing.proofs.listing.put_row.Statement.{statement}
@@ -25,7 +25,11 @@ put-row-spec =
     (λ c.
     let a = c .before .before .args in
     rw (row-starts (a .adjacency .now) (a .v)) (omega arith, omega arith, omega arith, omega arith, refl))  -- loop-holds
-    (λ c κs. omega arith)  -- put-edge-requires
+    (λ c κs.
+    let l = c .before .before in
+    let a = l .before .before .before .args in
+    let m = catTo-part (edgeBytes (a .adjacency .now) (a .v)) (a .n) (l .loop .w) (omega arith) in
+    rw (l .loop .inv .4, length-sets) (omega arith))  -- put-edge-requires
     (λ c. omega arith)  -- add-w-2
     (λ c. omega arith)  -- loop-less
     (λ c.
