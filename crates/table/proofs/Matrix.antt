@@ -4,7 +4,7 @@ use mathlib.Core.Path.{_≡_, refl, sym, _∙_, fun-ext}
 use mathlib.Core.Bool.{Bool, true, false, _&&_, cond}
 use mathlib.Core.List.{List}
 use mathlib.Core.Logic.{_≢_}
-use Prim.Native.Nat.{ℕ, zero, suc, _+_, _*_, _≤_, _<_}
+use Prim.Native.Nat.{ℕ, _+_, _*_, _≤_, _<_}
 use native.Mathlib.Nat.{add-zero, add-assoc}
 use native.Mathlib.Decide.{ℕ-discrete, decLt}
 use native.Mathlib.Omega.{arith}
@@ -17,6 +17,7 @@ use Rattle.finite.proofs.All.{and-false}
 use Rattle.finite.proofs.Fold.{foldTo-keeps}
 use Rattle.finite.proofs.Sum.{sumTo-none, sumTo-more}
 use Rattle.graph.specs.Tests.{degrees}
+use Rattle.slices.proofs.Zero.{getD-zeros}
 use Rattle.table.specs.Block.{records, recordK, recordL, recordCount, firstBad, samePair, recordCell, blockCell}
 use Rattle.table.specs.Cells.{cellsSize, place, matrixOf, noCells, addRecord, addBlock, AtMost, blockSumMost}
 use Rattle.table.proofs.Block.{Good, good-record, all-good, samePair-straight, samePair-crossed, samePair-none, recordCell-sym, recordCell-none}
@@ -27,11 +28,6 @@ length-addRecord b i c = length-set c _ _
 pub length-addBlock : (b c : List ℕ) → length (addBlock b c) ≡ length c
 length-addBlock b c =
     foldTo-keeps (λ i x. length x ≡ length c) (addRecord b) c (records b) refl (λ i x l e. length-addRecord b i x ∙ e)
-
-getD-zeros : (n p : ℕ) → _≡_ {A = ℕ} (getD (replicate n 0) p 0) 0
-getD-zeros zero p = refl
-getD-zeros (suc n) zero = refl
-getD-zeros (suc n) (suc p) = getD-zeros n p
 
 cond-zero : (t : Bool) (n : ℕ) → n ≡ 0 → cond t n 0 ≡ 0
 cond-zero true n e = e

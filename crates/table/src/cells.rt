@@ -6,6 +6,7 @@ ghost use lib.ListN.{length};
 ghost use Rattle.graph.specs.Tests.{degrees};
 ghost use Rattle.table.specs.Block.{recordSize, blockMost, goodRecord, records, firstBad};
 ghost use Rattle.table.specs.Cells.{matrixOf, place, addRecord, addBlock, AtMost, cellSumMost, blockSumMost};
+use slices::wide;
 
 // The degrees are the numbers 1 to DEGREES - 1.
 pub const DEGREES: usize = 41;
@@ -53,8 +54,8 @@ pub fn add_record(cells: &mut [u32; 1681], block: &[u8], i: usize)
     ensures { λ _. ⌜ now (cells .exit) ≡ addRecord (now (block .entry)) i (now (cells .entry)) ⌝ }
 {
     let at = crate::record::RECORD_SIZE * i;
-    let k = crate::record::wide(block[at]);
-    let l = crate::record::wide(block[at + 1]);
+    let k = wide(block[at]);
+    let l = wide(block[at + 1]);
     let p = place_of(k, l);
     let sum = wide32(cells[p]) + crate::record::record_count(block, i);
     cells[p] = sum as u32;

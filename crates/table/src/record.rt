@@ -3,17 +3,11 @@ ghost use mathlib.Core.Path.{_≡_};
 ghost use Prim.Native.Nat.{_+_, _*_, _≤_, _<_};
 ghost use lib.ListN.{length};
 ghost use Rattle.table.specs.Block.{recordSize, blockLength, recordCount, goodRecord, records, firstBad};
+use slices::wide;
 
 pub const RECORD_SIZE: usize = 4;
 
 pub const BLOCK_MOST: usize = 64;
-
-// A byte as a number.
-pub fn wide(x: u8) -> usize
-    ensures { λ r. ⌜ (r ≡ x) × (r < 256) ⌝ }
-{
-    x as usize
-}
 
 // Whether a block may have n bytes.
 pub fn block_length(n: usize) -> bool
