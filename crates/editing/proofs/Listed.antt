@@ -1,70 +1,28 @@
 -- The edge list of a matrix: it is well formed, its edges rise, and they are the edges of the matrix.
 -- Assumes nothing.
-use mathlib.Core.Path.{_≡_, sym, ap, ap₂, _∙_}
+use mathlib.Core.Path.{_≡_, sym, ap, _∙_}
 use mathlib.Core.Bool.{true, _&&_, _||_}
 use mathlib.Core.List.{List}
 use mathlib.Core.Logic.{_⊎_, inl, inr}
-use Prim.Native.Nat.{ℕ, _+_, _-_, _*_, _/_, _%_, _≤_, _<_}
-use native.Mathlib.Nat.{zero-add, zero-mul, mul-zero, mul-comm, mul-assoc, mul-add}
+use Prim.Native.Nat.{ℕ, _+_, _-_, _*_, _/_, _≤_, _<_}
+use native.Mathlib.Nat.{zero-mul, mul-zero}
 use native.Mathlib.Decide.{ℕ-discrete, decLt}
 use native.Mathlib.Omega.{arith}
 use lib.Dec.{eqb, ltb}
 use lib.ListN.{length}
 use borrow.Author.Tests.{ltb-true, lt-ltb, le-ltb, eq-eqb, ne-eqb}
-use Rattle.finite.specs.Range.{bit, δ, sumTo, catTo}
+use Rattle.finite.specs.Range.{bit, sumTo, catTo}
 use Rattle.finite.proofs.All.{and-left, and-both}
-use Rattle.finite.proofs.Delta.{δ-other, δ-sym}
-use Rattle.finite.proofs.Sum.{sumTo-cong, sumTo-add, sumTo-at, sumTo-part, sumTo-zero}
-use Rattle.graph.specs.Graph.{Graph, Simple, degree, jdm, ownJdm, atEdge, SameOn}
-use Rattle.graph.proofs.Edge.{jdm-same, degree-same}
-use Rattle.graph.proofs.Matrix.{jdm-classes}
+use Rattle.finite.proofs.Delta.{δ-other}
+use Rattle.finite.proofs.Sum.{sumTo-cong, sumTo-zero}
+use Rattle.graph.specs.Graph.{Graph, Simple, degree, ownJdm, atEdge, SameOn}
+use Rattle.graph.proofs.Edge.{atEdge-sum, jdm-same, degree-same}
+use Rattle.graph.proofs.Matrix.{jdm-classes, ownJdm-wider}
 use Rattle.table.specs.Layout.{mostVertices}
 use Rattle.adjacency.specs.Adjacency.{edge}
 use Rattle.adjacency.proofs.Facts.{ZeroOutside}
 use Rattle.editing.specs.List.{edgeBytes, listBytes}
 use Rattle.editing.proofs.Pairs.{lower, upper, over, place, Rising, cat-sized, over-cat, rising-cat, one-sized, one-over, one-rising}
-
--- a sum over all pairs that looks only at v – w, either way round
-at-pair : (n : ℕ) (h : ℕ → ℕ → ℕ) (v w : ℕ) → v < n → w < n → sumTo n (λ x. sumTo n (λ y. h x y * atEdge x y v w)) ≡ h v w + h w v
-at-pair n h v w vn wn =
-    sumTo-cong n (λ x. sumTo n (λ y. h x y * atEdge x y v w)) (λ x. δ x v * h x w + δ x w * h x v) row
-    ∙ sumTo-add n (λ x. δ x v * h x w) (λ x. δ x w * h x v)
-    ∙ ap₂ _+_ (sumTo-at n v (λ x. h x w) vn) (sumTo-at n w (λ x. h x v) wn)
-  where
-    term : (x y : ℕ) → h x y * atEdge x y v w ≡ δ y w * (δ x v * h x y) + δ y v * (δ x w * h x y)
-    term x y = rw (δ-sym v x, δ-sym w y, δ-sym v y, δ-sym w x) (swap (h x y) (δ x v) (δ y w) (δ y v) (δ x w))
-      where
-        swap : (b p q r s : ℕ) → b * (p * q + r * s) ≡ q * (p * b) + r * (s * b)
-        swap b p q r s =
-            mul-add b (p * q) (r * s)
-            ∙ ap₂ _+_ (mul-comm b (p * q) ∙ ap (λ (t : ℕ). t * b) (mul-comm p q) ∙ mul-assoc q p b) (mul-comm b (r * s) ∙ mul-assoc r s b)
-
-    row : (x : ℕ) → x < n → sumTo n (λ y. h x y * atEdge x y v w) ≡ δ x v * h x w + δ x w * h x v
-    row x l =
-        sumTo-cong n (λ y. h x y * atEdge x y v w) (λ y. δ y w * (δ x v * h x y) + δ y v * (δ x w * h x y)) (λ y m. term x y)
-        ∙ sumTo-add n (λ y. δ y w * (δ x v * h x y)) (λ y. δ y v * (δ x w * h x y))
-        ∙ ap₂ _+_ (sumTo-at n w (λ y. δ x v * h x y) wn) (sumTo-at n v (λ y. δ x w * h x y) vn)
-
--- terms that are 0 from n on do not count
-sum-cut : (n m : ℕ) (f : ℕ → ℕ) → n ≤ m → ((i : ℕ) → n ≤ i → i < m → f i ≡ 0) → sumTo m f ≡ sumTo n f
-sum-cut n m f h tail =
-    sumTo-part m 0 n f (omega arith) (λ i l. absurd (omega arith)) (λ i l. tail i (omega arith))
-    ∙ sumTo-cong n (λ i. f (0 + i)) f (λ i l. ap f (zero-add i))
-
--- nor do vertices without edges, at a graph's own degrees
-own-wider : (n m : ℕ) (E : Graph) → n ≤ m → ((v w : ℕ) → v < m → w < m → (n ≤ v) ⊎ (n ≤ w) → E v w ≡ 0)
-    → (k l : ℕ) → ownJdm m E k l ≡ ownJdm n E k l
-unfolding jdm
-own-wider n m E h zero k l =
-    sum-cut n m (row m) h
-    (λ v p q. rw (sumTo-zero m (λ w. δ (degree m E w) l * E v w) (λ w r. rw (zero v w q r (inl p)) (mul-zero (δ (degree m E w) l))))
-    (mul-zero (δ (degree m E v) k)))
-    ∙ sumTo-cong n (row m) (row n) (λ v p. ap (λ (s : ℕ). δ (degree m E v) k * s)
-    (sum-cut n m (λ w. δ (degree m E w) l * E v w) h (λ w q r. rw (zero v w (omega arith) r (inr q)) (mul-zero (δ (degree m E w) l)))))
-    ∙ jdm-classes n (degree m E) (degree n E) E (λ v p. sum-cut n m (E v) h (λ w q r. zero v w (omega arith) r (inr q))) k l
-  where
-    row : ℕ → ℕ → ℕ
-    row b v = δ (degree m E v) k * sumTo b (λ w. δ (degree m E w) l * E v w)
 
 -- the graph that has the edges listed and no others
 abbrev pub listGraph : ℕ → List ℕ → Graph
@@ -85,9 +43,6 @@ module _ (n : ℕ) (g : List ℕ) where
   -- how many edges are listed
   listed-length : length (listBytes n g) / 2 ≡ sumTo n (λ v. sumTo n (there v))
   listed-length = omega (arith, cat-sized (λ v. catTo n (edgeBytes g v)) (λ v. sumTo n (there v)) row-sized n)
-
-  pub list-even : length (listBytes n g) % 2 ≡ 0
-  list-even = omega (arith, cat-sized (λ v. catTo n (edgeBytes g v)) (λ v. sumTo n (there v)) row-sized n)
 
   over-list : (f : ℕ → ℕ → ℕ) → over (length (listBytes n g) / 2) f (listBytes n g) ≡ sumTo n (λ v. sumTo n (λ w. there v w * f v w))
   unfolding there
@@ -185,7 +140,7 @@ module _ (n : ℕ) (g : List ℕ) where
           omega (arith, down v w (omega arith), down w v (omega arith), ap (edge g v) q, s .loopless v vn)
 
   list-inside : Simple n (edge g) → (v w : ℕ) → v < n → w < n → listGraph n g v w ≡ edge g v w
-  list-inside s v w vn wn = over-list (λ x y. atEdge x y v w) ∙ at-pair n there v w vn wn ∙ there-once s v w vn wn
+  list-inside s v w vn wn = over-list (λ x y. atEdge x y v w) ∙ atEdge-sum n there v w vn wn ∙ there-once s v w vn wn
 
   list-outside : (v w : ℕ) → (n ≤ v) ⊎ (n ≤ w) → listGraph n g v w ≡ 0
   list-outside v w o =
@@ -213,4 +168,4 @@ module _ (n : ℕ) (g : List ℕ) where
         jdm-classes mostVertices (degree mostVertices (listGraph n g)) (degree mostVertices (edge g)) (listGraph n g)
         (degree-same mostVertices (edge g) (listGraph n g) list-graph) k l
         ∙ jdm-same mostVertices (edge g) (listGraph n g) list-graph (degree mostVertices (edge g)) k l
-        ∙ own-wider n mostVertices (edge g) few (λ v w vm wm o. zero v w vm wm o) k l
+        ∙ ownJdm-wider n mostVertices (edge g) few (λ v w vm wm o. zero v w vm wm o) k l

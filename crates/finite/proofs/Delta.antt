@@ -1,9 +1,9 @@
 -- Laws of Kronecker's delta and of a test as a number.
 -- Assumes nothing.
-use mathlib.Core.Path.{_≡_, refl, sym, ap, _∙_, subst}
+use mathlib.Core.Path.{_≡_, refl, sym, _∙_}
 use mathlib.Core.Bool.{Bool, true, false, _&&_, _||_}
 use mathlib.Core.Logic.{_≢_}
-use Prim.Native.Nat.{ℕ, zero, suc, _+_, _*_, _≤_, _<_}
+use Prim.Native.Nat.{ℕ, _+_, _*_, _≤_, _<_}
 use native.Mathlib.Nat.{one-mul, zero-mul, lt-irrefl}
 use native.Mathlib.Decide.{ℕ-discrete}
 use native.Mathlib.Omega.{arith}
@@ -59,14 +59,6 @@ pub δ-times-le : (a b x : ℕ) → δ a b * x ≤ x
     go : Dec (a ≡ b) → δ a b * x ≤ x
     go (yes e) = rw (δ-same a b e, one-mul x) (omega arith)
     go (no e) = rw (δ-other a b e, zero-mul x) (omega arith)
-
--- what is not 0 is at equal numbers
-pub δ-pos : (a b : ℕ) → 0 < δ a b → a ≡ b
-δ-pos a b h = go (ℕ-discrete a b)
-  where
-    go : Dec (a ≡ b) → a ≡ b
-    go (yes e) = e
-    go (no e) = absurd (omega (arith, δ-other a b e))
 
 -- a factor δ a b lets a stand for b
 pub δ-move : (f : ℕ → ℕ) (a b : ℕ) → δ a b * f a ≡ δ a b * f b

@@ -1,7 +1,7 @@
 -- Laws of `foldTo`, `catTo`, `fillTo` and `iterate`.
 -- Assumes nothing.
 use mathlib.Core.Path.{_≡_, refl, sym, ap, _∙_}
-use mathlib.Core.Bool.{Bool, true, false, cond}
+use mathlib.Core.Bool.{Bool, true, false}
 use mathlib.Core.List.{List, [], _∷_, _++_}
 use mathlib.Core.Logic.{⊎-elim}
 use Prim.Native.Nat.{ℕ, zero, suc, _+_, _-_, _≤_, _<_}
@@ -98,10 +98,6 @@ module _ {A : Type 0} (m i : ℕ) (p : A → Bool) (f : A → A) (s : A) where
       go : (m : ℕ) → iterate m p f s ≡ s
       go zero = refl
       go (suc m) = rw t
-
-  pub iterate-end : m ≤ i → iterate (m - i) p f s ≡ s
-  unfolding iterate
-  iterate-end h = let e : m - i ≡ 0 = omega arith in rw e
 
 -- what holds at first and is kept by each step holds at the end
 pub foldTo-keeps : {A : Type 0} (P : ℕ → A → Type 0) (f : ℕ → A → A) (s : A) (n : ℕ) → P 0 s

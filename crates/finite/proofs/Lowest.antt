@@ -1,7 +1,7 @@
 -- Laws of `lowest`: it is in its range, the test holds there if it is below the end, no number before it passes,
 -- it is the only such number, it is below the end where some number passes, and numbers that fail may be passed over.
 -- Assumes nothing.
-use mathlib.Core.Path.{_≡_, refl, sym, subst, ap, _∙_}
+use mathlib.Core.Path.{_≡_, refl, sym, _∙_}
 use mathlib.Core.Bool.{Bool, true, false, cond, true≢false}
 use mathlib.Core.Logic.{⊎-elim}
 use Prim.Native.Nat.{ℕ, zero, suc, _+_, _-_, _≤_, _<_}

@@ -1,15 +1,14 @@
 -- Completing by any rule that picks an open pair of a short cell: it makes exactly as many joins as edges are missing, and ends with
 -- every cell at its target. S is what the rule works on; the lowest open pair is one rule.
 -- Assumes nothing.
-use mathlib.Core.Path.{_≡_, refl, sym, ap, _∙_}
+use mathlib.Core.Path.{_≡_, refl, sym, _∙_}
 use mathlib.Core.Bool.{Bool, true, false, cond}
 use Prim.Native.Nat.{ℕ, zero, suc, _+_, _*_, _≤_, _<_}
-use native.Mathlib.Nat.{one-mul}
 use native.Mathlib.Omega.{arith}
 use Rattle.finite.specs.Range.{δ, sumTo, iterate}
-use Rattle.finite.proofs.Sum.{sumTo-cong, sumTo-swap, sumTo-scale-right, sumTo-at, sumTo-mono₂}
+use Rattle.finite.proofs.Sum.{sumTo-cong, sumTo-swap, sumTo-at, sumTo-mono₂}
 use Rattle.finite.proofs.Delta.{δ-sym}
-use Rattle.graph.specs.Graph.{Graph, Simple, degree, edges, jdm, atEdge}
+use Rattle.graph.specs.Graph.{Graph, Simple, degree, edges, jdm}
 use Rattle.graph.specs.Target.{Target, Partial, Open}
 use Rattle.graph.specs.Switch.{Joined}
 use Rattle.graph.proofs.Necessary.{necessary-always}

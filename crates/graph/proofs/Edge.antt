@@ -1,15 +1,15 @@
 -- Where one edge stands in the matrix, that the concrete functions add and remove it, and that a graph's figures rest on
 -- its vertices alone.
 -- Assumes nothing.
-use mathlib.Core.Path.{_≡_, refl, sym, ap, _∙_}
+use mathlib.Core.Path.{_≡_, refl, sym, ap, ap₂, _∙_}
 use mathlib.Core.Logic.{_≢_}
 use Prim.Native.Nat.{ℕ, _+_, _-_, _*_, _≤_, _<_}
-use native.Mathlib.Nat.{mul-comm, add-comm, zero-mul, mul-zero}
+use native.Mathlib.Nat.{mul-comm, mul-assoc, mul-add, zero-mul, mul-zero}
 use native.Mathlib.Decide.{ℕ-discrete}
 use native.Mathlib.Omega.{arith}
 use Rattle.finite.specs.Range.{δ, sumTo}
-use Rattle.finite.proofs.Delta.{δ-self, δ-other}
-use Rattle.finite.proofs.Sum.{sumTo-cong}
+use Rattle.finite.proofs.Delta.{δ-self, δ-other, δ-sym}
+use Rattle.finite.proofs.Sum.{sumTo-cong, sumTo-add, sumTo-at}
 use Rattle.graph.specs.Graph.{Graph, Simple, degree, edges, jdm, atEdge, AddsEdge, addEdge, removeEdge, SameOn}
 use Rattle.graph.specs.Target.{Partial}
 use Rattle.graph.proofs.Matrix.{jdm-cong}
@@ -47,9 +47,6 @@ place x y v w = go (ℕ-discrete v x) (ℕ-discrete w y) (ℕ-discrete v y) (ℕ
 pub atEdge-sym : (x y v w : ℕ) → atEdge x y v w ≡ atEdge x y w v
 atEdge-sym x y v w = omega (arith, mul-comm (δ v x) (δ w y), mul-comm (δ v y) (δ w x))
 
-pub atEdge-turn : (x y v w : ℕ) → atEdge x y v w ≡ atEdge y x v w
-atEdge-turn x y v w = add-comm (δ v x * δ w y) (δ v y * δ w x)
-
 pub atEdge-here : (x y : ℕ) → x ≢ y → atEdge x y x y ≡ 1
 atEdge-here x y h = rw (δ-self x, δ-self y, δ-other x y h, zero-mul (δ y x))
 
@@ -64,9 +61,26 @@ atEdge-loop x y v h = go (place x y v v)
     go (back p q) = absurd (h (sym q ∙ p))
     go (elsewhere e) = e
 
--- an edge may be named from either end
-pub adds-turn : (n : ℕ) (E E′ : Graph) (x y : ℕ) → AddsEdge n E x y E′ → AddsEdge n E y x E′
-adds-turn n E E′ x y h v w l m = h v w l m ∙ ap (λ (e : ℕ). E v w + e) (atEdge-turn x y v w)
+-- a sum over all pairs that looks only at v – w, either way round
+pub atEdge-sum : (n : ℕ) (h : ℕ → ℕ → ℕ) (v w : ℕ) → v < n → w < n → sumTo n (λ x. sumTo n (λ y. h x y * atEdge x y v w)) ≡ h v w + h w v
+atEdge-sum n h v w vn wn =
+    sumTo-cong n (λ x. sumTo n (λ y. h x y * atEdge x y v w)) (λ x. δ x v * h x w + δ x w * h x v) row
+    ∙ sumTo-add n (λ x. δ x v * h x w) (λ x. δ x w * h x v)
+    ∙ ap₂ _+_ (sumTo-at n v (λ x. h x w) vn) (sumTo-at n w (λ x. h x v) wn)
+  where
+    term : (x y : ℕ) → h x y * atEdge x y v w ≡ δ y w * (δ x v * h x y) + δ y v * (δ x w * h x y)
+    term x y = rw (δ-sym v x, δ-sym w y, δ-sym v y, δ-sym w x) (swap (h x y) (δ x v) (δ y w) (δ y v) (δ x w))
+      where
+        swap : (b p q r s : ℕ) → b * (p * q + r * s) ≡ q * (p * b) + r * (s * b)
+        swap b p q r s =
+            mul-add b (p * q) (r * s)
+            ∙ ap₂ _+_ (mul-comm b (p * q) ∙ ap (λ (t : ℕ). t * b) (mul-comm p q) ∙ mul-assoc q p b) (mul-comm b (r * s) ∙ mul-assoc r s b)
+
+    row : (x : ℕ) → x < n → sumTo n (λ y. h x y * atEdge x y v w) ≡ δ x v * h x w + δ x w * h x v
+    row x l =
+        sumTo-cong n (λ y. h x y * atEdge x y v w) (λ y. δ y w * (δ x v * h x y) + δ y v * (δ x w * h x y)) (λ y m. term x y)
+        ∙ sumTo-add n (λ y. δ y w * (δ x v * h x y)) (λ y. δ y v * (δ x w * h x y))
+        ∙ ap₂ _+_ (sumTo-at n w (λ y. δ x v * h x y) wn) (sumTo-at n v (λ y. δ x w * h x y) vn)
 
 -- the concrete functions give the relation
 pub addEdge-adds : (n : ℕ) (E : Graph) (x y : ℕ) → AddsEdge n E x y (addEdge E x y)

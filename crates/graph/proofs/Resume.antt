@@ -8,8 +8,8 @@ use Prim.Native.Nat.{ℕ, _+_, _≤_, _<_}
 use native.Mathlib.Decide.{ℕ-discrete, decLt}
 use native.Mathlib.Omega.{arith}
 use Rattle.finite.specs.Range.{δ}
-use Rattle.finite.proofs.Delta.{δ-self, δ-other}
-use Rattle.graph.specs.Graph.{Graph, Simple, degree, atEdge, AddsEdge, SameOn}
+use Rattle.finite.proofs.Delta.{δ-self}
+use Rattle.graph.specs.Graph.{Graph, Simple, degree}
 use Rattle.graph.specs.Target.{Target, Partial, Open}
 use Rattle.graph.specs.Switch.{unsaturated, substitute, transfer, Switched, Relieved, Joined}
 use Rattle.graph.specs.Theorems.{Choices, Kept}
@@ -129,10 +129,6 @@ module _ (n C : ℕ) (cls deg : ℕ → ℕ) (T : ℕ → ℕ → ℕ) (target :
           relief-degree (j .once) w v (one .partial) pair′ (j .twice) (j .relieved-w) x xn,
           degree-adds n (j .twice) E′ v w (j .linked) (pair .first) (pair .second) x xn,
         )
-
-    -- after the first relief no vertex but v has fewer
-    pub once-degree : (x : ℕ) → x < n → x ≢ v → degree n E x ≤ degree n (j .once) x
-    once-degree x xn h = omega (arith, relief-degree E v w partial pair (j .once) (j .relieved-v) x xn, δ-other x v h)
 
     -- v keeps every edge but the one that its own switch cuts
     pub join-row : (x : ℕ) → x < n → E v x ≡ 1

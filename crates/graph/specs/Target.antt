@@ -2,7 +2,7 @@
 -- Assumes nothing.
 use mathlib.Core.Path.{_≡_}
 use mathlib.Core.Bool.{cond}
-use Prim.Native.Nat.{ℕ, _+_, _-_, _*_, _%_, _≤_, _<_}
+use Prim.Native.Nat.{ℕ, _-_, _*_, _%_, _≤_, _<_}
 use lib.Dec.{eqb}
 use Rattle.finite.specs.Range.{sumTo}
 use Rattle.graph.specs.Graph.{Graph, Simple, degree, size, jdm}

@@ -2,13 +2,13 @@
 -- stands in the module of proofs/ that is named beside it.
 -- Assumes nothing.
 use mathlib.Core.Path.{_≡_}
-use mathlib.Core.Bool.{Bool, true, false}
-use mathlib.Core.Logic.{_↔_, _≢_, _⊎_}
+use mathlib.Core.Bool.{true, false}
+use mathlib.Core.Logic.{_↔_, _≢_}
 use Prim.Native.Nat.{ℕ, _+_, _*_, _%_, _≤_, _<_}
 use Rattle.finite.specs.Range.{δ, sumTo}
-use Rattle.graph.specs.Graph.{Graph, Simple, degree, edges, size, jdm, ownJdm, atEdge, AddsEdge, SameOn}
+use Rattle.graph.specs.Graph.{Graph, Simple, degree, edges, size, jdm, ownJdm, atEdge, AddsEdge}
 use Rattle.graph.specs.Target.{cellMost, Target, Partial, Open}
-use Rattle.graph.specs.Switch.{unsaturated, substitute, transfer, Switched, Relieved, Joined}
+use Rattle.graph.specs.Switch.{unsaturated, substitute, transfer, Switched, Joined}
 use Rattle.graph.specs.Tests.{Table, passes}
 
 -- 2. Necessary (proofs/Necessary.antt): what holds of the matrix of every simple graph, at every classification.

@@ -3,8 +3,8 @@
 use mathlib.Core.Path.{_≡_, refl, sym, _∙_}
 use mathlib.Core.Bool.{Bool, true, false, cond}
 use mathlib.Core.List.{List}
-use mathlib.Core.Logic.{_≢_, _⊎_}
-use Prim.Native.Nat.{ℕ, _+_, _≤_, _<_}
+use mathlib.Core.Logic.{_⊎_}
+use Prim.Native.Nat.{ℕ, _≤_, _<_}
 use native.Mathlib.Omega.{arith}
 use lib.ListN.{length}
 use Rattle.graph.specs.Graph.{AddsEdge}
@@ -13,7 +13,7 @@ use Rattle.graph.specs.Switch.{unsaturated, Relieved, Joined}
 use Rattle.graph.specs.Theorems.{Choices}
 use Rattle.graph.specs.Tests.{degrees}
 use Rattle.graph.proofs.Switch.{switch-works}
-use Rattle.graph.proofs.Join.{Ready, relieved, turned, join-works}
+use Rattle.graph.proofs.Join.{Ready, relieved, turned}
 use Rattle.table.specs.Layout.{mostVertices}
 use Rattle.adjacency.specs.Adjacency.{adjacencySize, side, edge, setEdge}
 use Rattle.adjacency.proofs.Set.{set-length, set-other, set-adds, set-removes, set-outside}

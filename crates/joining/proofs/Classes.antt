@@ -1,21 +1,18 @@
 -- Joining rests on the classes of the vertices alone: two classifications that agree below n give the same.
 -- Assumes nothing.
-use mathlib.Core.Path.{_≡_, refl, sym, ap, _∙_}
-use mathlib.Core.Bool.{Bool, _&&_, not, cond}
+use mathlib.Core.Path.{_≡_, ap, _∙_}
+use mathlib.Core.Bool.{Bool, cond}
 use mathlib.Core.List.{List}
-use Prim.Native.Nat.{ℕ, _+_, _*_, _≤_, _<_}
-use lib.Dec.{eqb, ltb}
-use Rattle.finite.specs.Range.{δ, sumTo, lowest}
+use Prim.Native.Nat.{ℕ, _+_, _<_}
+use Rattle.finite.specs.Range.{δ}
 use Rattle.finite.proofs.Sum.{sumTo-cong}
 use Rattle.finite.proofs.Lowest.{lowest-cong}
-use Rattle.graph.specs.Graph.{Graph, degree, size, jdm}
+use Rattle.graph.specs.Graph.{Graph, size}
 use Rattle.graph.specs.Target.{Target, Partial, Open}
 use Rattle.graph.specs.Switch.{unsaturated, canSubstitute, substitute, orElse, transfer}
-use Rattle.graph.specs.Tests.{degrees}
 use Rattle.graph.proofs.Matrix.{jdm-classes, cellMost-cong}
 use Rattle.adjacency.specs.Adjacency.{edge, setEdge}
 use Rattle.joining.specs.Join.{own, substituteAt, transferAt, switchBytes, relieveBytes, relieveCount, joinBytes, joinCount}
-use Rattle.joining.specs.Work.{freed}
 
 module _ (n : ℕ) (cls cls′ : ℕ → ℕ) (same : (v : ℕ) → v < n → cls v ≡ cls′ v) where
   size-classes : (k : ℕ) → size n cls k ≡ size n cls′ k
@@ -58,9 +55,6 @@ module _ (n : ℕ) (cls cls′ : ℕ → ℕ) (same : (v : ℕ) → v < n → cl
       ap (orElse n o)
       (lowest-cong 0 n (canSubstitute n cls own E a o) (canSubstitute n cls′ own E a o) (λ b z q. rw (same b q, same a p)))
 
-  transfer-classes : (g : List ℕ) (a o : ℕ) → a < n → transferAt n cls g a o ≡ transferAt n cls′ g a o
-  transfer-classes g a o p = ap (transfer n (edge g) a) (substitute-classes (edge g) a o p)
-
   relieve-classes : (g : List ℕ) (a o : ℕ) → a < n → relieveBytes n cls g a o ≡ relieveBytes n cls′ g a o
   relieve-classes g a o p =
       ap (λ (u : Bool). cond u g (switchBytes g a (substituteAt n cls g a o) (transferAt n cls g a o))) (unsaturated-classes (edge g) a p)
@@ -83,8 +77,3 @@ module _ (n : ℕ) (cls cls′ : ℕ → ℕ) (same : (v : ℕ) → v < n → cl
         ap (λ (i : ℕ). i + relieveCount n cls (relieveBytes n cls g v w) w) (count-classes g v vn)
         ∙ ap (λ (i : ℕ). relieveCount n cls′ g v + i) (count-classes (relieveBytes n cls g v w) w wn
         ∙ ap (λ (h : List ℕ). relieveCount n cls′ h w) (relieve-classes g v w vn))
-
-    pub freed-classes : freed n cls g v w ≡ freed n cls′ g v w
-    freed-classes =
-        ap (λ (u : Bool). cond u n (transferAt n cls g v w)) (unsaturated-classes (edge g) v vn)
-        ∙ ap (λ (t : ℕ). cond (unsaturated n cls′ own (edge g) v) n t) (transfer-classes g v w vn)

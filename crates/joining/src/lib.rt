@@ -1,8 +1,8 @@
 // Joining two vertices of the adjacency matrix, with at most two neighbour switches. The classes of the vertices and the
 // degrees they have so far stand in arrays beside the matrix.
 ghost use mathlib.Core.Path.{_≡_};
-ghost use mathlib.Core.Bool.{true, false, cond};
-ghost use Prim.Native.Nat.{ℕ, _+_, _-_, _*_, _≤_, _<_};
+ghost use mathlib.Core.Bool.{cond};
+ghost use Prim.Native.Nat.{_+_, _-_, _*_, _≤_, _<_};
 ghost use lib.Dec.{ltb};
 ghost use lib.ListN.{length, getD, set};
 ghost use Rattle.finite.specs.Range.{lowest};

@@ -3,7 +3,6 @@
 use mathlib.Core.Path.{_≡_, refl, sym, ap₂, _∙_}
 use mathlib.Core.Bool.{Bool, true, false, _&&_}
 use Prim.Native.Nat.{ℕ, _+_, _-_, _*_, _≤_, _<_}
-use native.Mathlib.Nat.{mul-comm}
 use native.Mathlib.Decide.{ℕ-discrete, decLt}
 use native.Mathlib.Omega.{arith}
 use lib.Dec.{ltb, leb}
@@ -12,16 +11,10 @@ use Rattle.finite.specs.Range.{allTo}
 use Rattle.finite.proofs.All.{allTo-at, allTo-holds, allTo-more}
 use Rattle.finite.proofs.Lowest.{lowest-before, lowest-none}
 use Rattle.graph.specs.Target.{cellMost}
+use Rattle.graph.proofs.Matrix.{cellMost-sym}
 use Rattle.graph.specs.Tests.{leastDegree, degrees, count, overfull, firstOverfullIn}
 use Rattle.table.specs.Run.{cellFits, rowFits}
 use Rattle.table.proofs.Counts.{square-less}
-
-pub cellMost-sym : (D : ℕ → ℕ) (k l : ℕ) → cellMost D k l ≡ cellMost D l k
-cellMost-sym D k l = go (ℕ-discrete k l)
-  where
-    go : Dec (k ≡ l) → cellMost D k l ≡ cellMost D l k
-    go (yes e) = rw e
-    go (no e) = rw (ne-eqb k l e, ne-eqb l k (λ q. e (sym q))) (mul-comm (D k) (D l))
 
 module _ (T : ℕ → ℕ → ℕ) (k : ℕ) where
   fits-below : (l : ℕ) → l < k → cellFits T k l ≡ true

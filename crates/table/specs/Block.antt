@@ -7,7 +7,6 @@ use lib.Dec.{eqb, ltb, leb}
 use lib.ListN.{length, getD}
 use Rattle.finite.specs.Range.{sumTo, lowest}
 use Rattle.graph.specs.Tests.{leastDegree, mostDegree}
-use Rattle.table.specs.declared.degree.Degree.{Degree}
 use Rattle.table.specs.declared.degree.MadeDegree.{MadeDegree}
 use Rattle.table.specs.declared.degree.MadeDegree.the-variants.{Made, OutOfRange}
 

@@ -1,6 +1,6 @@
 -- A joint degree matrix as the code keeps it: one number for each pair of degrees, in either order, in an array of 41 × 41.
 -- Assumes nothing.
-use mathlib.Core.Bool.{Bool, _&&_, cond}
+use mathlib.Core.Bool.{_&&_, cond}
 use mathlib.Core.List.{List}
 use Prim.Native.Nat.{ℕ, _+_, _*_, _≤_, min, max}
 use lib.Dec.{ltb}

@@ -1,7 +1,5 @@
 -- `joining::choose_substitute` meets its contract.
 -- Assumes nothing.
-use mathlib.Core.Path.{sym, ap, _∙_}
-use native.Mathlib.Omega.{arith}
 use borrow.Author.Tests.{lt-ltb, le-ltb}
 use Rattle.joining.proofs.choose_substitute.Statement.{statement}
 use Rattle.joining.proofs.choose_substitute.Tie as tie
