@@ -59,6 +59,14 @@ module _ (C : ℕ) (D : ℕ → ℕ) where
           at (yes l) = l
           at (no l) = absurd (omega (arith, sumTo-le C k D (omega arith), r .0))
 
+  -- a vertex past the end of class k is in a later one
+  pub class-after : (v k : ℕ) → v < total C D → sumTo (k + 1) D ≤ v → k + 1 < C
+  class-after v k h past = go (decLt (k + 1) C)
+    where
+      go : Dec (k + 1 < C) → k + 1 < C
+      go (yes l) = l
+      go (no l) = absurd (omega (arith, sumTo-le C (k + 1) D (omega arith)))
+
   -- a later vertex has no lower class
   pub classOf-rises : (v w : ℕ) → v ≤ w → classOf C D v ≤ classOf C D w
   classOf-rises v w h = go (decLt (classOf C D w) C)

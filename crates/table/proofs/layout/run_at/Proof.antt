@@ -5,8 +5,8 @@ use Prim.Native.Nat.{_+_, _-_}
 use native.Mathlib.Omega.{arith}
 use Rattle.finite.proofs.Sum.{sumTo-more, sumTo-le}
 use Rattle.graph.specs.Tests.{degrees}
+use Rattle.graph.proofs.Numbering.{classOf-range, class-after}
 use Rattle.table.specs.Run.{countIn, Reaches}
-use Rattle.table.proofs.Numbering.{classOf-at, class-after}
 use Rattle.table.proofs.layout.run_at.Statement.{statement}
 use Rattle.table.proofs.layout.run_at.Tie as tie
 
@@ -47,5 +47,5 @@ run-at-spec =
     let l = c .before in
     let s = l .before in (
       l .loop .inv,
-      sym (classOf-at degrees (countIn (s .args .counts .now)) (s .args .v) (l .loop .class) (l .loop .inv .0) (l .loop .inv .2) (omega arith)),
+      sym (classOf-range degrees (countIn (s .args .counts .now)) (s .args .v) (l .loop .class) (s .pre .1) .1 (l .loop .inv .2, omega arith)),
     )))  -- returns
