@@ -15,7 +15,7 @@ use Rattle.joining.proofs.Classes.{target-classes, partial-classes, join-classe
 use Rattle.completion.specs.Choice.{shortCell, shortL, shortK, openColumn, openW, openV}
 use Rattle.completion.specs.Complete.{Ran, next, isIncomplete, run}
 use Rattle.completion.specs.Cellwise.{Filling}
-use Rattle.completion.proofs.Cellwise.{Chosen, chosen, stepped}
+use Rattle.completion.proofs.Chosen.{Chosen, chosen, stepped}
 use Rattle.completion.proofs.Works.{short-cell}
 
 module _ (n : ℕ) (cls cls′ : ℕ → ℕ) (same : (v : ℕ) → v < n → cls v ≡ cls′ v) (T : ℕ → ℕ → ℕ) where

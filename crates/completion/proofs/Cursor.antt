@@ -25,7 +25,7 @@ use Rattle.joining.proofs.Bytes.{join-bytes}
 use Rattle.completion.specs.Choice.{openColumn, openW, openV}
 use Rattle.completion.specs.Cellwise.{Filling}
 use Rattle.completion.specs.Cursor.{RowsDone, ColumnsDone}
-use Rattle.completion.proofs.Cellwise.{Chosen, column-facts}
+use Rattle.completion.proofs.Chosen.{Chosen, column-facts}
 
 -- a column is not open where its vertex is linked, or is no candidate
 module _ (cls : ℕ → ℕ) (g : List ℕ) (k l v x : ℕ) where

@@ -1,3 +1,4 @@
+pub mod Chosen
 pub mod Cellwise
 pub mod Works
 pub mod Entry

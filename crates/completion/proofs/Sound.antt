@@ -15,7 +15,8 @@ use Rattle.completion.specs.Choice.{openW, openV}
 use Rattle.completion.specs.Complete.{Ran, mostEdges}
 use Rattle.completion.specs.Cellwise.{cellStep, cellMissing, fillCell, fillRow}
 use Rattle.completion.specs.Work.{Sound}
-use Rattle.completion.proofs.Cellwise.{Stepped, chosen, stepped, part-short, room}
+use Rattle.completion.proofs.Chosen.{Stepped, chosen, stepped}
+use Rattle.completion.proofs.Cellwise.{part-short, room}
 use Rattle.completion.proofs.Works.{few-edges}
 
 module _ (n : ℕ) (cls : ℕ → ℕ) where

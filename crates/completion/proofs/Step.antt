@@ -29,7 +29,7 @@ use Rattle.completion.specs.Search.{lowestColumn, hasColumn, Searchable}
 use Rattle.completion.specs.Work.{Saturated, Resumes, Steppable}
 use Rattle.completion.specs.declared.pair.Cell.{Cell}
 use Rattle.completion.specs.declared.cell.Cursor.{Cursor}
-use Rattle.completion.proofs.Cellwise.{Chosen, chosen}
+use Rattle.completion.proofs.Chosen.{Chosen, chosen}
 use Rattle.completion.proofs.Cursor.{rows-after, columns-after}
 use Rattle.completion.proofs.Search.{Found, found, searchable}
 

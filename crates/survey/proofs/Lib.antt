@@ -1,4 +1,5 @@
 pub mod Counting
 pub mod List
 pub mod Records
+pub mod ReadBack
 pub mod Survey

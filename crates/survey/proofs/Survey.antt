@@ -27,7 +27,8 @@ use Rattle.survey.specs.Counting.{HasCells, recordsMost}
 use Rattle.survey.specs.Theorem.{Ascending, SurveyExact}
 use Rattle.survey.proofs.Counting.{degree-low, jdm-most, few-edges}
 use Rattle.survey.proofs.List.{list-simple, edges-to}
-use Rattle.survey.proofs.Records.{records-cong, records-bytes, records-whole, records-good, records-shown, records-rise, records-exact}
+use Rattle.survey.proofs.Records.{records-cong, records-whole, records-shown, records-rise}
+use Rattle.survey.proofs.ReadBack.{records-bytes, records-good, records-exact}
 
 -- which check decides
 module _ (e : List ℕ) (m : ℕ) where
