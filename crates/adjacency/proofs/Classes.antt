@@ -1,18 +1,22 @@
 -- The checks depend on the classes of the vertices alone, and the array of a layout has the class of each vertex.
 -- Assumes nothing.
-use mathlib.Core.Path.{_≡_, ap}
-use mathlib.Core.Bool.{Bool}
+use mathlib.Core.Path.{_≡_, ap, sym, _∙_}
+use mathlib.Core.Bool.{Bool, false, _&&_, true≢false}
 use mathlib.Core.List.{List}
+use mathlib.Core.Logic.{_≢_}
 use Prim.Native.Nat.{ℕ, _≤_, _<_}
-use lib.Dec.{leb}
+use native.Mathlib.Decide.{decLt}
+use native.Mathlib.Omega.{arith}
+use lib.Dec.{eqb, leb, ltb}
+use borrow.Author.Tests.{lt-ltb, eq-eqb}
 use lib.ListN.{replicate, length-replicate}
 use Rattle.finite.specs.Range.{allTo}
-use Rattle.finite.proofs.All.{allTo-cong}
+use Rattle.finite.proofs.All.{and-both, allTo-cong}
 use Rattle.finite.proofs.Fold.{fillTo-at}
 use Rattle.graph.specs.Graph.{degree, jdm}
 use Rattle.graph.specs.Tests.{degrees, count}
 use Rattle.graph.proofs.Matrix.{jdm-classes}
-use Rattle.graph.proofs.Numbering.{classOf-below}
+use Rattle.graph.proofs.Numbering.{classOf-below, classOf-rises}
 use Rattle.table.specs.Layout.{vertices, vertexDegree, classesOf, mostVertices}
 use Rattle.adjacency.specs.Adjacency.{edge, degreesWithin, cellsWithin}
 use Rattle.adjacency.specs.Sums.{classIn}
@@ -41,3 +45,19 @@ module _ (T : ℕ → ℕ → ℕ) (small : vertices T ≤ mostVertices) where
 
   pub class-below : (v : ℕ) → v < vertices T → classIn (classesOf T) v < degrees
   class-below v h = rw (class-at v h) (classOf-below degrees (count T) v h)
+
+  pub class-rises : (v w : ℕ) → v ≤ w → w < vertices T → classIn (classesOf T) v ≤ classIn (classesOf T) w
+  class-rises v w h l = rw (class-at v (omega arith), class-at w l) (classOf-rises degrees (count T) v w h)
+
+-- where classes rise and the first vertex not below class k is not of class k, no vertex is
+pub class-absent : (n k start : ℕ) (cls : ℕ → ℕ) → ((v w : ℕ) → v ≤ w → w < n → cls v ≤ cls w)
+    → ((w : ℕ) → w < start → cls w < k) → (start < n → k ≤ cls start)
+    → ltb start n && eqb (cls start) k ≡ false → (v : ℕ) → v < n → cls v ≢ k
+class-absent n k start cls rises below first t v l e = go (decLt v start)
+  where
+    go : Dec (v < start) → ⊥
+    go (yes h) = omega (arith, below v h)
+    go (no h) =
+        let p : start < n = omega arith in
+        let q : cls start ≡ k = omega (arith, rises start v (omega arith) l, first p) in
+        true≢false (sym (and-both _ _ (lt-ltb start n p) (eq-eqb (cls start) k q)) ∙ t)

@@ -1,7 +1,7 @@
 -- Laws of sums kept in arrays.
 -- Assumes nothing.
 use mathlib.Core.Path.{_≡_, refl, sym, ap, ap₂, _∙_}
-use mathlib.Core.Bool.{_||_}
+use mathlib.Core.Bool.{true, _||_, or-true}
 use mathlib.Core.List.{List}
 use mathlib.Core.Logic.{_≢_}
 use Prim.Native.Nat.{ℕ, _+_, _*_, _≤_, _<_}
@@ -10,16 +10,16 @@ use native.Mathlib.Decide.{ℕ-discrete, decLt}
 use native.Mathlib.Omega.{arith}
 use lib.ListN.{length, getD, set, replicate, length-set, length-replicate, getD-replicate, List·getD-eq-default}
 use lib.Seq.{getD-set-same, getD-set-other}
-use lib.Dec.{leb, ltb}
+use lib.Dec.{leb, ltb, leb·zero}
 use Rattle.finite.specs.Range.{δ, sumTo, allTo}
-use Rattle.finite.proofs.All.{allTo-cong}
+use Rattle.finite.proofs.All.{allTo-cong, allTo-holds}
 use Rattle.finite.proofs.Delta.{δ-same, δ-other, δ-times-le}
 use Rattle.finite.proofs.Sum.{sumTo-none, sumTo-more, sumTo-zero, sumTo-cong, sumTo-scale, sumTo-at, sumTo-mono, sumTo-const}
 use Rattle.adjacency.specs.Sums.{Added, classDegree}
 use Rattle.adjacency.specs.Adjacency.{side}
 use Rattle.graph.specs.Graph.{Graph, jdm}
 use Rattle.graph.specs.Tests.{degrees}
-use Rattle.graph.proofs.Matrix.{jdm-swap}
+use Rattle.graph.proofs.Matrix.{jdm-swap, jdm-none}
 
 -- x more at place p
 pub more-at : (s : List ℕ) (p x : ℕ) → p < length s → (q : ℕ) → getD (set s p (getD s p 0 + x)) q 0 ≡ getD s q 0 + δ p q * x
@@ -111,6 +111,13 @@ pub classDegrees-within : (n : ℕ) (cls : ℕ → ℕ) (E : Graph) (f : ℕ →
 classDegrees-within n cls E f T k h =
     allTo-cong (λ l. ltb l k || leb (sumTo n (λ w. δ (cls w) l * f w)) (T k l)) (λ l. ltb l k || leb (jdm n cls E k l) (T k l)) degrees
     (λ l m. ap (λ (x : ℕ). ltb l k || leb x (T k l)) (classDegrees-jdm n cls E f k l h))
+
+-- a class that no vertex has is within any table
+pub absent-within : (n : ℕ) (cls : ℕ → ℕ) (E : Graph) (T : ℕ → ℕ → ℕ) (k : ℕ) → ((v : ℕ) → v < n → cls v ≢ k)
+    → allTo degrees (λ l. ltb l k || leb (jdm n cls E k l) (T k l)) ≡ true
+absent-within n cls E T k h =
+    allTo-holds (λ l. ltb l k || leb (jdm n cls E k l) (T k l)) degrees
+    (λ l m. rw (jdm-none n cls E k l h, leb·zero (T k l)) (or-true (ltb l k)))
 
 -- where no vertex below m is of class l, nothing is counted for l
 pub class-none : (m l : ℕ) (cls f : ℕ → ℕ) → ((w : ℕ) → w < m → cls w ≢ l) → sumTo m (λ w. δ (cls w) l * f w) ≡ 0

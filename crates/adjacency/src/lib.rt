@@ -160,7 +160,7 @@ fn sum_classes(adjacency: &[u8], n: usize, classes: &[u8; 200], sums: &mut [u8; 
 // The first vertex from start on whose class is not below k, or n: no vertex before it counts for class k or above.
 fn skip_below(classes: &[u8; 200], n: usize, k: usize, start: usize) -> usize
     requires { ⌜ (start ≤ n) × (n ≤ side) × ((w : ℕ) → w < start → classIn (now classes) w < k) ⌝ }
-    ensures { λ r. ⌜ (r ≤ n) × ((w : ℕ) → w < r → classIn (now (classes .entry)) w < k) ⌝ }
+    ensures { λ r. ⌜ (r ≤ n) × ((w : ℕ) → w < r → classIn (now (classes .entry)) w < k) × (r < n → k ≤ classIn (now (classes .entry)) r) ⌝ }
 {
     for w in start..n {
         if k <= wide(classes[w]) {
@@ -168,6 +168,17 @@ fn skip_below(classes: &[u8; 200], n: usize, k: usize, start: usize) -> usize
         }
     }
     n
+}
+
+// Vertex start has class k; n is no vertex. As classes rise, where the one that skip_below found has not, none has.
+fn has_class(classes: &[u8; 200], n: usize, k: usize, start: usize) -> bool
+    requires { ⌜ (start ≤ n) × (n ≤ side) ⌝ }
+    ensures { λ r. ⌜ r ≡ ltb start n && eqb (classIn (now (classes .entry)) start) k ⌝ }
+{
+    if start == n {
+        return false;
+    }
+    wide(classes[start]) == k
 }
 
 // For each class l from k on, the sum over its vertices of one row of the sums. None of them is before start.
@@ -211,8 +222,9 @@ fn class_within(
 }
 
 // The matrix and the table are symmetric, so the cells (k, l) with l from k on are enough.
+// A class without vertices has no edges to count.
 fn cells_within(adjacency: &[u8], n: usize, classes: &[u8; 200], cells: &[u32; 1681]) -> bool
-    requires { ⌜ (length (now adjacency) ≡ adjacencySize) × (n ≤ side) × (mirrored n (now adjacency) ≡ true) × ((v : ℕ) → v < n → classIn (now classes) v < degrees) ⌝ }
+    requires { ⌜ (length (now adjacency) ≡ adjacencySize) × (n ≤ side) × (mirrored n (now adjacency) ≡ true) × ((v : ℕ) → v < n → classIn (now classes) v < degrees) × ((v w : ℕ) → v ≤ w → w < n → classIn (now classes) v ≤ classIn (now classes) w) ⌝ }
     ensures { λ r. ⌜ r ≡ cellsWithin n (classIn (now (classes .entry))) (matrixOf (now (cells .entry))) (now (adjacency .entry)) ⌝ }
 {
     let mut sums = [0u8; 8200];
@@ -221,7 +233,9 @@ fn cells_within(adjacency: &[u8], n: usize, classes: &[u8; 200], cells: &[u32; 1
     let mut start = 0;
     for k in 0..DEGREES {
         start = skip_below(classes, n, k, start);
-        ok = ok & class_within(&sums, n, classes, cells, k, start);
+        if has_class(classes, n, k, start) {
+            ok = ok & class_within(&sums, n, classes, cells, k, start);
+        }
     }
     ok
 }

@@ -7,7 +7,7 @@ use borrow.Author.Tests.{not-true, not-false}
 use Rattle.table.specs.Cells.{matrixOf}
 use Rattle.table.specs.Layout.{vertexDegree}
 use Rattle.adjacency.specs.Sums.{classIn}
-use Rattle.adjacency.proofs.Classes.{degreesWithin-same, cellsWithin-same, class-at, class-below}
+use Rattle.adjacency.proofs.Classes.{degreesWithin-same, cellsWithin-same, class-at, class-below, class-rises}
 use Rattle.adjacency.proofs.adjacency_ok.Statement.{statement}
 use Rattle.adjacency.proofs.adjacency_ok.Tie as tie
 
@@ -30,6 +30,7 @@ adjacency-ok-spec =
       s .pre .2,
       sym (m .is-mirrored .ensures) ∙ not-false _ (i .if1 .left),
       rw (s .pre .3, s .pre .1) (class-below T (omega arith)),
+      rw (s .pre .3, s .pre .1) (class-rises T (omega arith)),
     ))  -- cells-within-requires
     (λ c.
     let d = c .before in

@@ -1,7 +1,8 @@
 -- `adjacency::cells_within` meets its contract: the flag is the test of the classes passed.
 -- Assumes nothing.
-use mathlib.Core.Path.{_≡_}
-use mathlib.Core.Bool.{_||_}
+use mathlib.Core.Path.{_≡_, sym, _∙_}
+use mathlib.Core.Bool.{_||_, and-true}
+use mathlib.Core.Logic.{⊎-elim}
 use Prim.Native.Nat.{ℕ, _≤_, _<_, _-_}
 use native.Mathlib.Omega.{arith}
 use borrow.Author.Count.{below-none}
@@ -16,7 +17,8 @@ use Rattle.table.proofs.Matrix.{matrix-sym}
 use Rattle.adjacency.specs.Adjacency.{edge}
 use Rattle.adjacency.specs.Sums.{sumsSize, classIn}
 use Rattle.adjacency.proofs.Mirrored.{cellsWithin-upper}
-use Rattle.adjacency.proofs.Sums.{zeros-at, classDegrees-within}
+use Rattle.adjacency.proofs.Classes.{class-absent}
+use Rattle.adjacency.proofs.Sums.{zeros-at, classDegrees-within, absent-within}
 use Rattle.adjacency.proofs.cells_within.Statement.{statement}
 use Rattle.adjacency.proofs.cells_within.Tie as tie
 
@@ -36,24 +38,34 @@ cells-within-spec =
     (s .pre .0, s .pre .1, s .pre .2, s .pre .3, length-replicate {A = ℕ} sumsSize 0, zeros-at sumsSize))  -- sum-classes-requires
     (λ c. (omega arith, omega arith, below-none _, rw allTo-none))  -- loop-holds
     (λ c κs. (omega arith, omega arith, c .before .loop .inv .2))  -- skip-below-requires
+    (λ c κs. omega arith)  -- has-class-requires
     (λ c κs.
-    let b = c .before .skip-below .ensures in
-    let s = c .before .before .before .before .before .before .before in
-    (omega arith, omega arith, s .pre .3, b .0, b .1))  -- class-within-requires
+    let b = c .before .before .before in
+    let s = b .before .before .before .before .before .before in
+    (omega arith, omega arith, s .pre .3, b .skip-below .ensures .0, b .skip-below .ensures .1))  -- class-within-requires
     (λ c. omega arith)  -- add-k
     (λ c. omega arith)  -- loop-less
     (λ c.
-    let b = c .before .before in
+    let h = c .before in
+    let b = h .before in
     let l = b .before .before in
     let m = l .before in
-    let a = m .before .before .before .args in
+    let s = m .before .before .before in
+    let a = s .args in
     let k = l .loop .k in
-    let e =
-    classDegrees-within (a .n) (classIn (a .classes .now)) (edge (a .adjacency .now)) _ (matrixOf (a .cells .now)) k (m .sum-classes .ensures k) in (
+    let cls = classIn (a .classes .now) in
+    let E = edge (a .adjacency .now) in
+    let T = matrixOf (a .cells .now) in (
       omega arith,
       b .skip-below .ensures .0,
-      λ w h. omega (arith, b .skip-below .ensures .1 w h),
-      rw (allTo-more, l .loop .inv .3, c .class-within .ensures, e),
+      λ w i. omega (arith, b .skip-below .ensures .1 w i),
+      ⊎-elim
+          (λ w. rw (allTo-more, w .3, l .loop .inv .3, w .2 .ensures, classDegrees-within (a .n) cls E _ T k (m .sum-classes .ensures k)))
+          (λ w.
+          let r = b .skip-below .ensures in
+          let none = class-absent (a .n) k (b .skip-below .result) cls (s .pre .4) (r .1) (r .2) (sym (h .has-class .ensures) ∙ w .0 .left) in
+          rw (allTo-more, w .1, l .loop .inv .3, absent-within (a .n) cls E T k none) (sym (and-true _)))
+          (c .if1 .came),
     ))  -- loop-again
     (λ c.
     let l = c .before in

@@ -20,11 +20,16 @@ skip-below-spec =
     (λ c. (omega arith, c .pre .2))  -- loop-holds
     (λ c. omega arith)  -- element-copy-out-wide
     (λ c κs. tt)  -- wide-requires
-    (λ c. c .before .before .before .before .loop .inv)  -- returns
+    (λ c.
+    let l = c .before .before .before .before in
+    (l .loop .inv .0, l .loop .inv .1, λ h. omega arith))  -- returns
     (λ c. omega arith)  -- add-w
     (λ c. omega arith)  -- loop-less
     (λ c.
     let l = c .before .before .before .before in
     let a = l .before .args in
     (omega arith, below-more (λ v. classIn (a .classes .now) v < a .k) (l .loop .w) (l .loop .inv .1) (omega arith)))  -- loop-again
-    (λ c. let e : c .before .loop .w ≡ c .before .before .args .n = omega arith in (omega arith, rw e at (c .before .loop .inv .1))))  -- returns-2
+    (λ c.
+    let l = c .before in
+    let e : l .loop .w ≡ l .before .args .n = omega arith in
+    (omega arith, rw e at (l .loop .inv .1), λ h. absurd (omega arith))))  -- returns-2
