@@ -3,7 +3,6 @@
 use mathlib.Core.Path.{_≡_, sym, _∙_}
 use mathlib.Core.Bool.{true}
 use mathlib.Core.List.{List}
-use mathlib.Core.Logic.{_↔_}
 use Prim.Native.Nat.{ℕ, _+_, _*_, _≤_}
 use native.Mathlib.Omega.{arith}
 use lib.ListN.{length, getD}
@@ -11,13 +10,8 @@ use Rattle.finite.specs.Range.{sumTo}
 use Rattle.finite.proofs.Sum.{sumTo-zero}
 use Rattle.graph.specs.Graph.{edges, empty}
 use Rattle.graph.proofs.Matrix.{jdm-cong, jdm-empty}
-use Rattle.slices.specs.Slices.{allZero}
-use Rattle.slices.proofs.Zero.{all-zero-at, zeros-all-zero}
 use Rattle.adjacency.specs.Adjacency.{side, adjacencySize, edge, adjacencyOk}
 use Rattle.adjacency.proofs.Facts.{facts-adjacency}
-
-pub all-zero-iff : (g : List ℕ) → allZero g ≡ true ↔ ((i : ℕ) → getD g i 0 ≡ 0)
-all-zero-iff g = (all-zero-at g, λ f. zeros-all-zero g (λ i l. f i))
 
 module _ (g : List ℕ) (zero : (i : ℕ) → getD g i 0 ≡ 0) where
   pub no-edge : (v w : ℕ) → edge g v w ≡ 0

@@ -6,9 +6,9 @@ use mathlib.Core.List.{List}
 use mathlib.Core.Logic.{_≢_}
 use Prim.Native.Nat.{ℕ, _+_, _*_, _≤_, _<_}
 use native.Mathlib.Nat.{add-zero, add-assoc, zero-mul, one-mul, mul-zero, mul-assoc}
-use native.Mathlib.Decide.{ℕ-discrete, decLt}
+use native.Mathlib.Decide.{ℕ-discrete}
 use native.Mathlib.Omega.{arith}
-use lib.ListN.{length, getD, set, replicate, length-set, length-replicate, getD-replicate, List·getD-eq-default}
+use lib.ListN.{length, getD, set, length-set}
 use lib.Seq.{getD-set-same, getD-set-other}
 use lib.Dec.{leb, ltb, leb·zero}
 use Rattle.finite.specs.Range.{δ, sumTo, allTo}
@@ -50,13 +50,6 @@ module _ (at x : ℕ → ℕ) (s : List ℕ) where
       a .sums p
       ∙ ap (λ (c : ℕ). getD s p 0 + c) (sumTo-zero n (λ i. δ (at i) p * x i) (λ i l. rw (δ-other (at i) p (h i l)) (zero-mul (x i))))
       ∙ add-zero (getD s p 0)
-
-pub zeros-at : (n p : ℕ) → getD {A = ℕ} (replicate n 0) p 0 ≡ 0
-zeros-at n p = go (decLt p n)
-  where
-    go : Dec (p < n) → getD {A = ℕ} (replicate n 0) p 0 ≡ 0
-    go (yes h) = getD-replicate n p 0 0 h
-    go (no h) = List·getD-eq-default (replicate n 0) 0 (rw length-replicate (omega arith))
 
 -- the place of row a and column i of a matrix with 200 columns
 δ-place : (a i k w : ℕ) → i < side → w < side → δ (a * side + i) (k * side + w) ≡ δ a k * δ i w

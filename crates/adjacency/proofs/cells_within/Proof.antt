@@ -14,11 +14,12 @@ use Rattle.graph.specs.Graph.{jdm}
 use Rattle.graph.specs.Tests.{degrees}
 use Rattle.table.specs.Cells.{matrixOf}
 use Rattle.table.proofs.Matrix.{matrix-sym}
+use Rattle.slices.proofs.Zero.{getD-zeros}
 use Rattle.adjacency.specs.Adjacency.{edge}
 use Rattle.adjacency.specs.Sums.{sumsSize, classIn}
 use Rattle.adjacency.proofs.Mirrored.{cellsWithin-upper}
 use Rattle.adjacency.proofs.Classes.{class-absent}
-use Rattle.adjacency.proofs.Sums.{zeros-at, classDegrees-within, absent-within}
+use Rattle.adjacency.proofs.Sums.{classDegrees-within, absent-within}
 use Rattle.adjacency.proofs.cells_within.Statement.{statement}
 use Rattle.adjacency.proofs.cells_within.Tie as tie
 
@@ -35,7 +36,7 @@ cells-within-spec =
     tie.close (tie.spec Inv-loop μ-loop
     (λ c κs.
     let s = c .before .before in
-    (s .pre .0, s .pre .1, s .pre .2, s .pre .3, length-replicate {A = ℕ} sumsSize 0, zeros-at sumsSize))  -- sum-classes-requires
+    (s .pre .0, s .pre .1, s .pre .2, s .pre .3, length-replicate {A = ℕ} sumsSize 0, getD-zeros sumsSize))  -- sum-classes-requires
     (λ c. (omega arith, omega arith, below-none _, rw allTo-none))  -- loop-holds
     (λ c κs. (omega arith, omega arith, c .before .loop .inv .2))  -- skip-below-requires
     (λ c κs. omega arith)  -- has-class-requires

@@ -11,9 +11,9 @@ use Rattle.finite.specs.Range.{δ, sumTo, allTo}
 use Rattle.finite.proofs.All.{allTo-more, allTo-holds}
 use Rattle.graph.specs.Tests.{degrees}
 use Rattle.table.specs.Cells.{matrixOf}
+use Rattle.slices.proofs.Zero.{getD-zeros}
 use Rattle.adjacency.specs.Adjacency.{side}
 use Rattle.adjacency.specs.Sums.{classIn}
-use Rattle.adjacency.proofs.Sums.{zeros-at}
 use Rattle.adjacency.proofs.class_within.Statement.{statement}
 use Rattle.adjacency.proofs.class_within.Tie as tie
 
@@ -29,7 +29,7 @@ class-within-spec =
     tie.close (tie.spec Inv-loop μ-loop
     (λ c κs.
     let s = c .before in
-    (omega arith, omega arith, s .pre .2, omega arith, s .pre .4, length-replicate {A = ℕ} degrees 0, zeros-at degrees))  -- count-class-requires
+    (omega arith, omega arith, s .pre .2, omega arith, s .pre .4, length-replicate {A = ℕ} degrees 0, getD-zeros degrees))  -- count-class-requires
     (λ c. (omega arith, omega arith, sym (allTo-holds _ _ (λ l h. rw (lt-ltb l _ h)))))  -- loop-holds
     (λ c. omega arith)  -- mul-wide32
     (λ c. omega arith)  -- array-read-wide32
