@@ -18,8 +18,8 @@ use Rattle.graph.specs.Tests.{degrees, count}
 use Rattle.graph.proofs.Matrix.{jdm-classes}
 use Rattle.graph.proofs.Numbering.{classOf-below, classOf-rises}
 use Rattle.table.specs.Layout.{vertices, vertexDegree, classesOf, mostVertices}
+use Rattle.table.specs.Run.{classIn}
 use Rattle.adjacency.specs.Adjacency.{edge, degreesWithin, cellsWithin}
-use Rattle.adjacency.specs.Sums.{classIn}
 
 module _ (n : ℕ) (cls cls′ : ℕ → ℕ) (same : (v : ℕ) → v < n → cls v ≡ cls′ v) (g : List ℕ) where
   pub degreesWithin-same : degreesWithin n cls g ≡ degreesWithin n cls′ g

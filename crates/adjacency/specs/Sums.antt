@@ -11,10 +11,6 @@ use Rattle.graph.specs.Graph.{Graph}
 abbrev pub sumsSize : ℕ
 sumsSize = 8200
 
--- the class of each vertex, as an array has it
-abbrev pub classIn : List ℕ → ℕ → ℕ
-classIn c v = getD c v 0
-
 -- s′ is s with x i added at place at i, for each i below n
 pub record Added (n : ℕ) (at x : ℕ → ℕ) (s s′ : List ℕ) : Type 0 where
   pub long : length s′ ≡ length s

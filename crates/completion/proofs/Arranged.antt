@@ -15,11 +15,11 @@ use Rattle.graph.proofs.Matrix.{jdm-classes}
 use Rattle.graph.proofs.Numbering.{classOf-range}
 use Rattle.table.specs.Cells.{matrixOf}
 use Rattle.table.specs.Layout.{vertexDegree, countsOf}
-use Rattle.table.specs.Run.{countIn}
+use Rattle.table.specs.Run.{countIn, classIn}
 use Rattle.table.proofs.Counts.{counted}
 use Rattle.adjacency.specs.Adjacency.{edge}
 use Rattle.adjacency.proofs.Classes.{class-at}
-use Rattle.joining.specs.Work.{classAt, degreesOf}
+use Rattle.joining.specs.Work.{degreesOf}
 use Rattle.joining.specs.Block.{blockSum}
 use Rattle.joining.proofs.Blocks.{start-at, start-rises, start-most, cell-block}
 use Rattle.completion.specs.Complete.{Ran}
@@ -44,10 +44,10 @@ module _ (n : ℕ) (cells classes starts : List ℕ) (a : Arranged n cells class
   same-total = ap (λ (d : ℕ → ℕ). total degrees d) (counted cells (countsOf (matrixOf cells)) refl) ∙ sym (a .count)
 
   -- the classes of the array are those of the layout
-  pub class-same : (v : ℕ) → v < n → classAt classes v ≡ vertexDegree (matrixOf cells) v
+  pub class-same : (v : ℕ) → v < n → classIn classes v ≡ vertexDegree (matrixOf cells) v
   class-same v h = rw (a .classed) (class-at (matrixOf cells) (rw (← (a .count)) (a .few)) v (rw (← (a .count)) h))
 
-  class-counted : (v : ℕ) → v < n → classAt classes v ≡ classOf degrees D v
+  class-counted : (v : ℕ) → v < n → classIn classes v ≡ classOf degrees D v
   unfolding T counts D
   class-counted v h = class-same v h ∙ ap (λ (d : ℕ → ℕ). classOf degrees d v) (sym (counted cells (countsOf (matrixOf cells)) refl))
 
@@ -56,7 +56,7 @@ module _ (n : ℕ) (cells classes starts : List ℕ) (a : Arranged n cells class
   start k h = rw (a .started) (start-at (countsOf (matrixOf cells)) k h)
 
   -- the vertices of class k
-  range : (k : ℕ) → k < degrees → ClassRange n (classAt classes) k (getD starts k 0) (getD starts (k + 1) 0)
+  range : (k : ℕ) → k < degrees → ClassRange n (classIn classes) k (getD starts k 0) (getD starts (k + 1) 0)
   unfolding T counts D
   range k h =
       record {
@@ -75,17 +75,17 @@ module _ (n : ℕ) (cells classes starts : List ℕ) (a : Arranged n cells class
       to-n : getD starts (k + 1) 0 ≤ n
       to-n = rw (a .started) (omega (arith, start-most counts (k + 1) (omega arith), same-total))
 
-  pub ranged : (k l : ℕ) → k < degrees → l < degrees → Ranged n (classAt classes) (cellIn starts k l)
+  pub ranged : (k l : ℕ) → k < degrees → l < degrees → Ranged n (classIn classes) (cellIn starts k l)
   ranged k l kC lC = record { first = kC; second = lC; rows = range k kC; columns = range l lC }
 
   -- the ones in its block are the cell's count
   pub block-count : (g : List ℕ) (k l : ℕ) → k < degrees → l < degrees
-      → blockSum (edge g) (getD starts k 0) (getD starts (k + 1) 0) (getD starts l 0) (getD starts (l + 1) 0) ≡ jdm n (classAt classes) (edge g) k l
+      → blockSum (edge g) (getD starts k 0) (getD starts (k + 1) 0) (getD starts l 0) (getD starts (l + 1) 0) ≡ jdm n (classIn classes) (edge g) k l
   unfolding T counts D
   block-count g k l kC lC =
       rw (a .started) (cell-block counts (edge g) k l kC lC)
       ∙ ap (λ (m : ℕ). jdm m (classOf degrees D) (edge g) k l) same-total
-      ∙ sym (jdm-classes n (classAt classes) (classOf degrees D) (edge g) class-counted k l)
+      ∙ sym (jdm-classes n (classIn classes) (classOf degrees D) (edge g) class-counted k l)
 
 -- a state of the work, and a cell of it
 module _ {n : ℕ} {cells classes starts held : List ℕ} {s : Ran} (p : Working n cells classes starts held s)
@@ -106,10 +106,10 @@ module _ {n : ℕ} {cells classes starts held : List ℕ} {s : Ran} (p : Working
   module _ (m : ℕ)
       (e : m ≡ (matrixOf cells k l - blockSum (edge (s .adjacency)) (getD starts k 0) (getD starts (k + 1) 0) (getD starts l 0) (getD starts (l + 1) 0))
       / cond (eqb k l) 2 1) where
-    missing-count : m ≡ cellMissing n (classAt classes) (matrixOf cells) (s .adjacency) k l
+    missing-count : m ≡ cellMissing n (classIn classes) (matrixOf cells) (s .adjacency) k l
     missing-count = rw (← (block-count n cells classes starts (p .arranged) (s .adjacency) k l kC lC)) e
 
-    pub fillable : Fillable n (classAt classes) (cellIn starts k l) m s held
+    pub fillable : Fillable n (classIn classes) (cellIn starts k l) m s held
     fillable =
         record {
           table = matrixOf cells;
@@ -119,24 +119,24 @@ module _ {n : ℕ} {cells classes starts held : List ℕ} {s : Ran} (p : Working
           degrees-held = p .degrees-held;
         }
 
-    pub cell-filled : (r : Ran) → r ≡ foldTo m (λ i. cellStep n (classAt classes) k l) s → r ≡ fillCell n (classAt classes) (matrixOf cells) k l s
-    cell-filled r er = er ∙ ap (λ (i : ℕ). foldTo i (λ i. cellStep n (classAt classes) k l) s) missing-count
+    pub cell-filled : (r : Ran) → r ≡ foldTo m (λ i. cellStep n (classIn classes) k l) s → r ≡ fillCell n (classIn classes) (matrixOf cells) k l s
+    cell-filled r er = er ∙ ap (λ (i : ℕ). foldTo i (λ i. cellStep n (classIn classes) k l) s) missing-count
 
 -- the work goes on from any state that is sound
 module _ {n : ℕ} {cells classes starts held : List ℕ} {s : Ran} (p : Working n cells classes starts held s) where
-  pub working : (x : Ran) → Sound n (classAt classes) (matrixOf cells) x → (h : List ℕ) → h ≡ degreesOf n (x .adjacency)
+  pub working : (x : Ran) → Sound n (classIn classes) (matrixOf cells) x → (h : List ℕ) → h ≡ degreesOf n (x .adjacency)
       → Working n cells classes starts h x
   working x sound h e = record { arranged = p .arranged; sound = sound; degrees-held = e }
 
-  pub working-sized : (x : Ran) → Sound n (classAt classes) (matrixOf cells) x → length (x .adjacency) ≡ length (s .adjacency)
+  pub working-sized : (x : Ran) → Sound n (classIn classes) (matrixOf cells) x → length (x .adjacency) ≡ length (s .adjacency)
   working-sized x sound = sound .filling .sized ∙ sym (p .sound .filling .sized)
 
   -- x: the state after the first i cells of row k, and after the first i rows
   module _ (i : ℕ) (x : Ran) where
-    pub cells-sound : (k : ℕ) → k + i ≤ degrees → x ≡ foldTo i (λ i. fillCell n (classAt classes) (matrixOf cells) k (k + i)) s
-        → Sound n (classAt classes) (matrixOf cells) x
-    cells-sound k h e = rw e (row-sound n (classAt classes) (matrixOf cells) s (p .sound) k i h)
+    pub cells-sound : (k : ℕ) → k + i ≤ degrees → x ≡ foldTo i (λ i. fillCell n (classIn classes) (matrixOf cells) k (k + i)) s
+        → Sound n (classIn classes) (matrixOf cells) x
+    cells-sound k h e = rw e (row-sound n (classIn classes) (matrixOf cells) s (p .sound) k i h)
 
-    pub all-sound : i ≤ mostDegree → x ≡ foldTo i (λ i. fillRow n (classAt classes) (matrixOf cells) (leastDegree + i)) s
-        → Sound n (classAt classes) (matrixOf cells) x
-    all-sound h e = rw e (rows-sound n (classAt classes) (matrixOf cells) s (p .sound) i h)
+    pub all-sound : i ≤ mostDegree → x ≡ foldTo i (λ i. fillRow n (classIn classes) (matrixOf cells) (leastDegree + i)) s
+        → Sound n (classIn classes) (matrixOf cells) x
+    all-sound h e = rw e (rows-sound n (classIn classes) (matrixOf cells) s (p .sound) i h)

@@ -9,12 +9,12 @@ use Rattle.graph.specs.Numbering.{total}
 use Rattle.graph.specs.Tests.{degrees}
 use Rattle.table.specs.Cells.{matrixOf}
 use Rattle.table.specs.Layout.{mostVertices, vertices, vertexDegree, countsOf, classesOf}
-use Rattle.table.specs.Run.{countIn}
+use Rattle.table.specs.Run.{countIn, classIn}
 use Rattle.table.proofs.Counts.{counted}
 use Rattle.journal.specs.Journal.{phase, jdmOf}
 use Rattle.state.specs.Valid.{lengthsOk, valid}
 use Rattle.state.proofs.Facts.{StateFacts, Laid, valid-facts}
-use Rattle.joining.specs.Work.{classAt, degreesOf}
+use Rattle.joining.specs.Work.{degreesOf}
 use Rattle.joining.specs.Block.{startsOf}
 use Rattle.completion.specs.Complete.{Ran, run, mostEdges, completed}
 use Rattle.completion.specs.Cellwise.{Filling, fillAll}
@@ -52,14 +52,14 @@ module _ (j g cells : List ℕ) (lengths : lengthsOk j g ≡ true) (sound : vali
     arranged : Arranged n cells classes starts
     arranged = record { count = en; few = omega (arith, vertices-few); classed = ec; started = es ∙ ap startsOf ed }
 
-    same : (v : ℕ) → v < n → vertexDegree (matrixOf cells) v ≡ classAt classes v
+    same : (v : ℕ) → v < n → vertexDegree (matrixOf cells) v ≡ classIn classes v
     same v h = sym (class-same n cells classes starts arranged v h)
 
     filling-n : Filling n (vertexDegree (matrixOf cells)) (matrixOf cells) g
     filling-n = rw en filling
 
-    classed-filling : Filling n (classAt classes) (matrixOf cells) g
-    classed-filling = filling-classes n (vertexDegree (matrixOf cells)) (classAt classes) same (matrixOf cells) g filling-n
+    classed-filling : Filling n (classIn classes) (matrixOf cells) g
+    classed-filling = filling-classes n (vertexDegree (matrixOf cells)) (classIn classes) same (matrixOf cells) g filling-n
 
     pub working-start : Working n cells classes starts held (fresh g)
     working-start =
@@ -69,11 +69,11 @@ module _ (j g cells : List ℕ) (lengths : lengthsOk j g ≡ true) (sound : vali
           degrees-held = eh;
         }
 
-    pub working-end : (r : Ran) → r ≡ fillAll n (classAt classes) (matrixOf cells) (fresh g) → r ≡ completed j g
+    pub working-end : (r : Ran) → r ≡ fillAll n (classIn classes) (matrixOf cells) (fresh g) → r ≡ completed j g
     working-end r e =
         e
-        ∙ sym (fill-all n (classAt classes) (matrixOf cells) mostEdges (fresh g) refl
-        (few-edges n (classAt classes) (matrixOf cells) (classed-filling .target) (classed-filling .few)) classed-filling)
-        ∙ sym (run-classes n (vertexDegree (matrixOf cells)) (classAt classes) same (matrixOf cells) mostEdges (fresh g) filling-n)
+        ∙ sym (fill-all n (classIn classes) (matrixOf cells) mostEdges (fresh g) refl
+        (few-edges n (classIn classes) (matrixOf cells) (classed-filling .target) (classed-filling .few)) classed-filling)
+        ∙ sym (run-classes n (vertexDegree (matrixOf cells)) (classIn classes) same (matrixOf cells) mostEdges (fresh g) filling-n)
         ∙ ap (λ (m : ℕ). run mostEdges m (vertexDegree (matrixOf cells)) (matrixOf cells) (fresh g)) en
         ∙ ap (λ (T : ℕ → ℕ → ℕ). run mostEdges (vertices T) (vertexDegree T) T (fresh g)) same-cells

@@ -11,8 +11,9 @@ use Rattle.graph.specs.Tests.{degrees}
 use Rattle.adjacency.specs.Adjacency.{side, edge}
 use Rattle.table.specs.Cells.{matrixOf}
 use Rattle.table.specs.Layout.{mostVertices, vertices, countsOf, classesOf}
+use Rattle.table.specs.Run.{classIn}
 use Rattle.joining.specs.Join.{own}
-use Rattle.joining.specs.Work.{classAt, degreesOf}
+use Rattle.joining.specs.Work.{degreesOf}
 use Rattle.joining.specs.Block.{startsOf, blockSum}
 use Rattle.completion.specs.Complete.{Ran}
 use Rattle.completion.specs.Cellwise.{cellMissing, Filling}
@@ -84,7 +85,7 @@ pub record Arranged (n : ℕ) (cells classes starts : List ℕ) : Type 0 where
 -- these, and beside them a partial graph of the table with its degrees
 pub record Working (n : ℕ) (cells classes starts held : List ℕ) (s : Ran) : Type 0 where
   pub arranged : Arranged n cells classes starts
-  pub sound : Sound n (classAt classes) (matrixOf cells) s
+  pub sound : Sound n (classIn classes) (matrixOf cells) s
   pub degrees-held : held ≡ degreesOf n (s .adjacency)
 
 -- what a cell misses can be counted: its ranges are ranges of vertices, and it does not hold more than the table

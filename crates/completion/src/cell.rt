@@ -4,8 +4,9 @@ ghost use Prim.Native.Nat.{_+_, _≤_, _<_, min};
 ghost use lib.Dec.{ltb};
 ghost use lib.ListN.{getD};
 ghost use Rattle.finite.specs.Range.{lowest, foldTo};
+ghost use Rattle.table.specs.Run.{classIn};
 ghost use Rattle.adjacency.specs.Adjacency.{side};
-ghost use Rattle.joining.specs.Work.{classAt, degreesOf};
+ghost use Rattle.joining.specs.Work.{degreesOf};
 ghost use Rattle.completion.specs.Cellwise.{cellStep};
 ghost use Rattle.completion.specs.Work.{ran, Resumes, Steppable, Fillable};
 use crate::pair::Cell;
@@ -63,8 +64,8 @@ fn fill_step(
     cursor: Cursor,
     totals: Totals,
 ) -> Step
-    requires { ⌜ Steppable n (classAt (now classes)) cell cursor (ran (now adjacency) totals) (now held) ⌝ }
-    ensures { λ r. ⌜ (ran (now (adjacency .exit)) (r .totals) ≡ cellStep n (classAt (now (classes .entry))) (cell .k) (cell .l) (ran (now (adjacency .entry)) totals)) × Resumes n (classAt (now (classes .entry))) (now (adjacency .exit)) cell (r .cursor) ⌝ }
+    requires { ⌜ Steppable n (classIn (now classes)) cell cursor (ran (now adjacency) totals) (now held) ⌝ }
+    ensures { λ r. ⌜ (ran (now (adjacency .exit)) (r .totals) ≡ cellStep n (classIn (now (classes .entry))) (cell .k) (cell .l) (ran (now (adjacency .entry)) totals)) × Resumes n (classIn (now (classes .entry))) (now (adjacency .exit)) cell (r .cursor) ⌝ }
     ensures { λ _. ⌜ now (held .exit) ≡ degreesOf n (now (adjacency .exit)) ⌝ }
 {
     let pair = open_pair(adjacency, cell, cursor.at.v, cursor.at.w);
@@ -96,8 +97,8 @@ pub fn fill_cell(
     m: usize,
     totals: Totals,
 ) -> Totals
-    requires { ⌜ Fillable n (classAt (now classes)) cell m (ran (now adjacency) totals) (now held) ⌝ }
-    ensures { λ r. ⌜ ran (now (adjacency .exit)) r ≡ foldTo m (λ i. cellStep n (classAt (now (classes .entry))) (cell .k) (cell .l)) (ran (now (adjacency .entry)) totals) ⌝ }
+    requires { ⌜ Fillable n (classIn (now classes)) cell m (ran (now adjacency) totals) (now held) ⌝ }
+    ensures { λ r. ⌜ ran (now (adjacency .exit)) r ≡ foldTo m (λ i. cellStep n (classIn (now (classes .entry))) (cell .k) (cell .l)) (ran (now (adjacency .entry)) totals) ⌝ }
     ensures { λ _. ⌜ now (held .exit) ≡ degreesOf n (now (adjacency .exit)) ⌝ }
 {
     let mut cursor = Cursor {

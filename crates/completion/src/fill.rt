@@ -6,8 +6,9 @@ ghost use lib.Dec.{eqb};
 ghost use lib.ListN.{length};
 ghost use Rattle.graph.specs.Tests.{degrees};
 ghost use Rattle.table.specs.Cells.{matrixOf};
+ghost use Rattle.table.specs.Run.{classIn};
 ghost use Rattle.adjacency.specs.Adjacency.{adjacencySize, edge};
-ghost use Rattle.joining.specs.Work.{classAt, degreesOf};
+ghost use Rattle.joining.specs.Work.{degreesOf};
 ghost use Rattle.joining.specs.Block.{blockSum};
 ghost use Rattle.completion.specs.Cellwise.{fillCell, fillRow, fillAll};
 ghost use Rattle.completion.specs.Work.{ran, cellIn, Countable, Working};
@@ -80,7 +81,7 @@ fn complete_cell(
     totals: Totals,
 ) -> Totals
     requires { ⌜ Working n (now cells) (now classes) (now starts) (now held) (ran (now adjacency) totals) × (k < degrees) × (l < degrees) ⌝ }
-    ensures { λ r. ⌜ ran (now (adjacency .exit)) r ≡ fillCell n (classAt (now (classes .entry))) (matrixOf (now (cells .entry))) k l (ran (now (adjacency .entry)) totals) ⌝ }
+    ensures { λ r. ⌜ ran (now (adjacency .exit)) r ≡ fillCell n (classIn (now (classes .entry))) (matrixOf (now (cells .entry))) k l (ran (now (adjacency .entry)) totals) ⌝ }
     ensures { λ _. ⌜ now (held .exit) ≡ degreesOf n (now (adjacency .exit)) ⌝ }
 {
     let c = cell_at(starts, k, l);
@@ -100,7 +101,7 @@ fn complete_row(
     totals: Totals,
 ) -> Totals
     requires { ⌜ Working n (now cells) (now classes) (now starts) (now held) (ran (now adjacency) totals) × (k < degrees) ⌝ }
-    ensures { λ r. ⌜ ran (now (adjacency .exit)) r ≡ fillRow n (classAt (now (classes .entry))) (matrixOf (now (cells .entry))) k (ran (now (adjacency .entry)) totals) ⌝ }
+    ensures { λ r. ⌜ ran (now (adjacency .exit)) r ≡ fillRow n (classIn (now (classes .entry))) (matrixOf (now (cells .entry))) k (ran (now (adjacency .entry)) totals) ⌝ }
     ensures { λ _. ⌜ now (held .exit) ≡ degreesOf n (now (adjacency .exit)) ⌝ }
 {
     let mut sum = totals;
@@ -121,7 +122,7 @@ pub fn complete_rows(
     totals: Totals,
 ) -> Totals
     requires { ⌜ Working n (now cells) (now classes) (now starts) (now held) (ran (now adjacency) totals) ⌝ }
-    ensures { λ r. ⌜ ran (now (adjacency .exit)) r ≡ fillAll n (classAt (now (classes .entry))) (matrixOf (now (cells .entry))) (ran (now (adjacency .entry)) totals) ⌝ }
+    ensures { λ r. ⌜ ran (now (adjacency .exit)) r ≡ fillAll n (classIn (now (classes .entry))) (matrixOf (now (cells .entry))) (ran (now (adjacency .entry)) totals) ⌝ }
 {
     let mut sum = totals;
     for i in 0..DEGREES - 1 {

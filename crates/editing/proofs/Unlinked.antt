@@ -14,14 +14,14 @@ use Rattle.graph.specs.Numbering.{total, classOf}
 use Rattle.graph.specs.Tests.{degrees}
 use Rattle.table.specs.Cells.{matrixOf}
 use Rattle.table.specs.Layout.{vertices, vertexDegree, countsOf, classesOf, mostVertices}
-use Rattle.table.specs.Run.{countIn}
+use Rattle.table.specs.Run.{countIn, classIn}
 use Rattle.table.proofs.Counts.{counted}
 use Rattle.journal.specs.Journal.{jdmOf}
 use Rattle.adjacency.specs.Adjacency.{edge}
 use Rattle.adjacency.proofs.Classes.{class-at}
 use Rattle.joining.specs.Block.{startsOf, blockSum}
 use Rattle.joining.specs.Join.{own, joinBytes, joinCount}
-use Rattle.joining.specs.Work.{classAt, Joinable}
+use Rattle.joining.specs.Work.{Joinable}
 use Rattle.joining.proofs.Blocks.{start-most, cell-block}
 use Rattle.joining.proofs.Classes.{target-classes, partial-classes, open-classes, join-classes, joinCount-classes}
 use Rattle.editing.specs.Add.{addAdjacency}
@@ -42,7 +42,7 @@ module _ (c t : List ℕ) (e : t ≡ countsOf (matrixOf c)) where
 
 module _ (T : ℕ → ℕ → ℕ) (g : List ℕ) (v w : ℕ) (u : Unlinked T g v w) where
   -- the array of classes agrees with the layout
-  same : (x : ℕ) → x < vertices T → classAt (classesOf T) x ≡ vertexDegree T x
+  same : (x : ℕ) → x < vertices T → classIn (classesOf T) x ≡ vertexDegree T x
   same = class-at T (u .few)
 
   -- a class read from it
@@ -56,33 +56,33 @@ module _ (T : ℕ → ℕ → ℕ) (g : List ℕ) (v w : ℕ) (u : Unlinked T g 
   short-read k l b ke le e = sym (e ∙ ap₂ (λ (i j : ℕ). ltb (jdm (vertices T) (vertexDegree T) (edge g) i j) (T i j)) ke le)
 
   pub joinable : jdm (vertices T) (vertexDegree T) (edge g) (vertexDegree T v) (vertexDegree T w) < T (vertexDegree T v) (vertexDegree T w)
-      → Joinable (vertices T) (classAt (classesOf T)) g v w
+      → Joinable (vertices T) (classIn (classesOf T)) g v w
   joinable s =
       record {
         table = T;
         sized = u .sized;
         few = u .few;
-        target = target-classes (vertices T) (vertexDegree T) (classAt (classesOf T)) back degrees own T (u .target);
-        partial = partial-classes (vertices T) (vertexDegree T) (classAt (classesOf T)) back degrees own T (edge g) (u .partial);
+        target = target-classes (vertices T) (vertexDegree T) (classIn (classesOf T)) back degrees own T (u .target);
+        partial = partial-classes (vertices T) (vertexDegree T) (classIn (classesOf T)) back degrees own T (edge g) (u .partial);
         pair =
-            open-classes (vertices T) (vertexDegree T) (classAt (classesOf T)) back T (edge g) v w
+            open-classes (vertices T) (vertexDegree T) (classIn (classesOf T)) back T (edge g) v w
             (record { first = u .first; second = u .second; distinct = u .distinct; unlinked = u .unlinked; short = s });
       }
     where
-      back : (x : ℕ) → x < vertices T → vertexDegree T x ≡ classAt (classesOf T) x
+      back : (x : ℕ) → x < vertices T → vertexDegree T x ≡ classIn (classesOf T) x
       back x l = sym (same x l)
 
   -- joining by the array is joining by the layout
   module _ (n : ℕ) (t : List ℕ) (ne : n ≡ vertices T) (te : t ≡ classesOf T) where
-    pub join-read : joinBytes n (classAt t) g v w ≡ joinBytes (vertices T) (vertexDegree T) g v w
+    pub join-read : joinBytes n (classIn t) g v w ≡ joinBytes (vertices T) (vertexDegree T) g v w
     join-read =
-        ap₂ (λ (m : ℕ) (s : List ℕ). joinBytes m (classAt s) g v w) ne te
-        ∙ join-classes (vertices T) (classAt (classesOf T)) (vertexDegree T) same g v w (u .first) (u .second)
+        ap₂ (λ (m : ℕ) (s : List ℕ). joinBytes m (classIn s) g v w) ne te
+        ∙ join-classes (vertices T) (classIn (classesOf T)) (vertexDegree T) same g v w (u .first) (u .second)
 
-    pub count-read : joinCount n (classAt t) g v w ≡ joinCount (vertices T) (vertexDegree T) g v w
+    pub count-read : joinCount n (classIn t) g v w ≡ joinCount (vertices T) (vertexDegree T) g v w
     count-read =
-        ap₂ (λ (m : ℕ) (s : List ℕ). joinCount m (classAt s) g v w) ne te
-        ∙ joinCount-classes (vertices T) (classAt (classesOf T)) (vertexDegree T) same g v w (u .first) (u .second)
+        ap₂ (λ (m : ℕ) (s : List ℕ). joinCount m (classIn s) g v w) ne te
+        ∙ joinCount-classes (vertices T) (classIn (classesOf T)) (vertexDegree T) same g v w (u .first) (u .second)
 
 -- on the table of a journal
 pub adjacency-of : (a : AddAnswer) (j g : List ℕ) (v w : ℕ) → addedAdjacency a (jdmOf j) g v w ≡ addAdjacency a j g v w

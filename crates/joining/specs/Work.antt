@@ -15,10 +15,6 @@ use Rattle.table.specs.Layout.{mostVertices}
 use Rattle.adjacency.specs.Adjacency.{adjacencySize, edge}
 use Rattle.joining.specs.Join.{own, transferAt}
 
--- the class of each vertex, as an array has it
-abbrev pub classAt : List ℕ → ℕ → ℕ
-classAt classes v = getD classes v 0
-
 -- the degrees of the n vertices, in an array of 200 with zeros behind them
 abbrev pub degreesOf : ℕ → List ℕ → List ℕ
 degreesOf n g = fillTo n (degree n (edge g)) (replicate mostVertices 0)

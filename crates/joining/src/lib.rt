@@ -8,9 +8,10 @@ ghost use lib.ListN.{length, getD, set};
 ghost use Rattle.finite.specs.Range.{lowest};
 ghost use Rattle.graph.specs.Tests.{degrees};
 ghost use Rattle.graph.specs.Switch.{canTransfer, transfer, orElse};
+ghost use Rattle.table.specs.Run.{classIn};
 ghost use Rattle.adjacency.specs.Adjacency.{adjacencySize, side, edge, setEdge};
 ghost use Rattle.joining.specs.Join.{switchBytes, relieveBytes, joinBytes, joinCount};
-ghost use Rattle.joining.specs.Work.{classAt, degreesOf, Joinable, SaturatedBelow, SaturatedBut, canSubstituteIn, freed};
+ghost use Rattle.joining.specs.Work.{degreesOf, Joinable, SaturatedBelow, SaturatedBut, canSubstituteIn, freed};
 
 pub mod cell;
 
@@ -137,10 +138,10 @@ fn relieve(
     other: usize,
     from: usize,
 ) -> usize
-    requires { ⌜ Joinable n (classAt (now classes)) (now adjacency) a other × (now held ≡ degreesOf n (now adjacency)) × (from ≤ n) × SaturatedBut n (classAt (now classes)) (now adjacency) a other from ⌝ }
-    ensures { λ r. ⌜ r ≡ freed n (classAt (now (classes .entry))) (now (adjacency .entry)) a other ⌝ }
-    ensures { λ _. ⌜ now (adjacency .exit) ≡ relieveBytes n (classAt (now (classes .entry))) (now (adjacency .entry)) a other ⌝ }
-    ensures { λ _. ⌜ now (held .exit) ≡ degreesOf n (relieveBytes n (classAt (now (classes .entry))) (now (adjacency .entry)) a other) ⌝ }
+    requires { ⌜ Joinable n (classIn (now classes)) (now adjacency) a other × (now held ≡ degreesOf n (now adjacency)) × (from ≤ n) × SaturatedBut n (classIn (now classes)) (now adjacency) a other from ⌝ }
+    ensures { λ r. ⌜ r ≡ freed n (classIn (now (classes .entry))) (now (adjacency .entry)) a other ⌝ }
+    ensures { λ _. ⌜ now (adjacency .exit) ≡ relieveBytes n (classIn (now (classes .entry))) (now (adjacency .entry)) a other ⌝ }
+    ensures { λ _. ⌜ now (held .exit) ≡ degreesOf n (relieveBytes n (classIn (now (classes .entry))) (now (adjacency .entry)) a other) ⌝ }
 {
     let k = wide(classes[a]);
     if held[a] < k {
@@ -186,10 +187,10 @@ pub fn join(
     from_v: usize,
     from_w: usize,
 ) -> JoinDone
-    requires { ⌜ Joinable n (classAt (now classes)) (now adjacency) v w × (now held ≡ degreesOf n (now adjacency)) × («from_v» ≤ n) × («from_w» ≤ n) × SaturatedBelow n (classAt (now classes)) (now adjacency) v «from_v» × SaturatedBelow n (classAt (now classes)) (now adjacency) w «from_w» ⌝ }
-    ensures { λ r. ⌜ (r .switches ≡ joinCount n (classAt (now (classes .entry))) (now (adjacency .entry)) v w) × (r .freed ≡ freed n (classAt (now (classes .entry))) (now (adjacency .entry)) v w) ⌝ }
-    ensures { λ _. ⌜ now (adjacency .exit) ≡ joinBytes n (classAt (now (classes .entry))) (now (adjacency .entry)) v w ⌝ }
-    ensures { λ _. ⌜ now (held .exit) ≡ degreesOf n (joinBytes n (classAt (now (classes .entry))) (now (adjacency .entry)) v w) ⌝ }
+    requires { ⌜ Joinable n (classIn (now classes)) (now adjacency) v w × (now held ≡ degreesOf n (now adjacency)) × («from_v» ≤ n) × («from_w» ≤ n) × SaturatedBelow n (classIn (now classes)) (now adjacency) v «from_v» × SaturatedBelow n (classIn (now classes)) (now adjacency) w «from_w» ⌝ }
+    ensures { λ r. ⌜ (r .switches ≡ joinCount n (classIn (now (classes .entry))) (now (adjacency .entry)) v w) × (r .freed ≡ freed n (classIn (now (classes .entry))) (now (adjacency .entry)) v w) ⌝ }
+    ensures { λ _. ⌜ now (adjacency .exit) ≡ joinBytes n (classIn (now (classes .entry))) (now (adjacency .entry)) v w ⌝ }
+    ensures { λ _. ⌜ now (held .exit) ≡ degreesOf n (joinBytes n (classIn (now (classes .entry))) (now (adjacency .entry)) v w) ⌝ }
 {
     let x = relieve(adjacency, held, classes, n, v, w, from_v);
     let y = relieve(adjacency, held, classes, n, w, v, from_w);

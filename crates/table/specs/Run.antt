@@ -1,4 +1,4 @@
--- What the code of the layout goes by: the counts in an array, the cells of a row from the diagonal on, and from vertex to
+-- What the code goes by: counts and classes in arrays, the cells of a row from the diagonal on, and from vertex to
 -- vertex a class and the first vertex past it.
 -- Assumes nothing.
 use mathlib.Core.Path.{_≡_}
@@ -14,6 +14,10 @@ use Rattle.graph.specs.Tests.{degrees, count}
 -- D(k) as the array of counts has it
 abbrev pub countIn : List ℕ → ℕ → ℕ
 countIn t k = getD t k 0
+
+-- the class of vertex v as the array of classes has it
+abbrev pub classIn : List ℕ → ℕ → ℕ
+classIn c v = getD c v 0
 
 -- cell (k, l), where l is from k on, is not above its most
 abbrev pub cellFits : (ℕ → ℕ → ℕ) → ℕ → ℕ → Bool

@@ -6,7 +6,7 @@ use native.Mathlib.Omega.{arith}
 use borrow.Author.Tests.{not-true, not-false}
 use Rattle.table.specs.Cells.{matrixOf}
 use Rattle.table.specs.Layout.{vertexDegree}
-use Rattle.adjacency.specs.Sums.{classIn}
+use Rattle.table.specs.Run.{classIn}
 use Rattle.adjacency.proofs.Classes.{degreesWithin-same, cellsWithin-same, class-at, class-below, class-rises}
 use Rattle.adjacency.proofs.adjacency_ok.Statement.{statement}
 use Rattle.adjacency.proofs.adjacency_ok.Tie as tie

@@ -5,7 +5,8 @@ use Prim.Native.Nat.{_≤_, _-_}
 use native.Mathlib.Omega.{arith}
 use Rattle.finite.specs.Range.{foldTo}
 use Rattle.finite.proofs.Fold.{foldTo-none, foldTo-after}
-use Rattle.joining.specs.Work.{classAt, degreesOf}
+use Rattle.table.specs.Run.{classIn}
+use Rattle.joining.specs.Work.{degreesOf}
 use Rattle.completion.specs.Cellwise.{cellStep}
 use Rattle.completion.specs.Work.{ran, Resumes}
 use Rattle.completion.proofs.Joins.{start-resumes, fill-sized, fill-steppable}
@@ -15,9 +16,9 @@ use Rattle.completion.proofs.cell.fill_cell.Tie as tie
 abbrev Inv-loop : tie.InvT-loop
 Inv-loop adjacency₀ held₀ classes n cell m cursor₀ sum₀ counter₀ adjacency held cursor sum counter =
     (counter ≤ m)
-    × (ran adjacency sum ≡ foldTo counter (λ i. cellStep n (classAt classes) (cell .k) (cell .l)) (ran adjacency₀ sum₀))
+    × (ran adjacency sum ≡ foldTo counter (λ i. cellStep n (classIn classes) (cell .k) (cell .l)) (ran adjacency₀ sum₀))
     × (held ≡ degreesOf n adjacency)
-    × Resumes n (classAt classes) adjacency cell cursor
+    × Resumes n (classIn classes) adjacency cell cursor
 
 abbrev μ-loop : tie.MeasureT-loop
 μ-loop adjacency₀ held₀ classes n cell m cursor₀ sum₀ counter₀ adjacency held cursor sum counter = m - counter
@@ -28,7 +29,7 @@ fill-cell-spec =
     (λ c.
     let f = c .before in
     let a = f .args in
-    let start = start-resumes (a .n) (classAt (a .classes .now)) (a .adjacency .now) (a .cell) (f .pre .ranged) in
+    let start = start-resumes (a .n) (classIn (a .classes .now)) (a .adjacency .now) (a .cell) (f .pre .ranged) in
     (omega arith, sym (foldTo-none _ _), f .pre .degrees-held, start))  -- loop-holds
     (λ c κs.
     let t = c .before .before in
@@ -42,7 +43,7 @@ fill-cell-spec =
     let l = t .before .before .before .before in
     let a = l .before .before .args in (
       omega (arith, l .loop .inv .0),
-      foldTo-after (λ i. cellStep (a .n) (classAt (a .classes .now)) (a .cell .k) (a .cell .l))
+      foldTo-after (λ i. cellStep (a .n) (classIn (a .classes .now)) (a .cell .k) (a .cell .l))
           _ (l .loop .counter) _ _ (l .loop .inv .1) (t .fill-step .ensures .0 .0),
       t .fill-step .ensures .1,
       t .fill-step .ensures .0 .1,

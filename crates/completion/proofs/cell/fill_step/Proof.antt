@@ -2,7 +2,7 @@
 -- Assumes nothing.
 use native.Mathlib.Omega.{arith}
 use borrow.Author.Needs.{needs}
-use Rattle.joining.specs.Work.{classAt}
+use Rattle.table.specs.Run.{classIn}
 use Rattle.completion.proofs.Sound.{count-le, joins-most}
 use Rattle.completion.proofs.Step.{step-searchable, step-joinable, step-ran, low-row-most, low-column-most, below-v, below-w, step-resumes}
 use Rattle.completion.proofs.cell.fill_step.Statement.{statement}
@@ -47,7 +47,7 @@ fill-step-spec =
     let o = j .before .before .before .before .before .before .before in
     let f = o .before .before .before in
     let a = f .args in
-    let two = count-le (a .n) (classAt (a .classes .now)) (a .adjacency .now) (o .open-pair .result .v) (o .open-pair .result .w) in
+    let two = count-le (a .n) (classIn (a .classes .now)) (a .adjacency .now) (o .open-pair .result .v) (o .open-pair .result .w) in
     omega (arith, joins-most (f .pre .sound), f .pre .sound .switches-le, j .join .ensures .0 .0, two))  -- add-t25
     (λ c. search needs)  -- same-length
     (λ c.

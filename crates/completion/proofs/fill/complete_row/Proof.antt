@@ -7,7 +7,8 @@ use Rattle.finite.specs.Range.{foldTo}
 use Rattle.finite.proofs.Fold.{foldTo-none, foldTo-after}
 use Rattle.graph.specs.Tests.{degrees}
 use Rattle.table.specs.Cells.{matrixOf}
-use Rattle.joining.specs.Work.{classAt, degreesOf}
+use Rattle.table.specs.Run.{classIn}
+use Rattle.joining.specs.Work.{degreesOf}
 use Rattle.completion.specs.Cellwise.{fillCell}
 use Rattle.completion.specs.Work.{ran}
 use Rattle.completion.proofs.Arranged.{working, working-sized, cells-sound}
@@ -17,7 +18,7 @@ use Rattle.completion.proofs.fill.complete_row.Tie as tie
 abbrev Inv-loop : tie.InvT-loop
 Inv-loop adjacency₀ held₀ classes cells starts n k sum₀ i₀ i-end adjacency held sum i =
     (k + i ≤ degrees)
-    × (ran adjacency sum ≡ foldTo i (λ i. fillCell n (classAt classes) (matrixOf cells) k (k + i)) (ran adjacency₀ sum₀))
+    × (ran adjacency sum ≡ foldTo i (λ i. fillCell n (classIn classes) (matrixOf cells) k (k + i)) (ran adjacency₀ sum₀))
     × (held ≡ degreesOf n adjacency)
 
 abbrev μ-loop : tie.MeasureT-loop
@@ -46,7 +47,7 @@ complete-row-spec =
     let l = t .before in
     let a = l .before .before .args in (
       omega (arith, t .loop-test .taken),
-      foldTo-after (λ i. fillCell (a .n) (classAt (a .classes .now)) (matrixOf (a .cells .now)) (a .k) (a .k + i))
+      foldTo-after (λ i. fillCell (a .n) (classIn (a .classes .now)) (matrixOf (a .cells .now)) (a .k) (a .k + i))
           _ (l .loop .i) _ _ (l .loop .inv .1) (d .complete-cell .ensures .0),
       d .complete-cell .ensures .1,
     ))  -- loop-again
