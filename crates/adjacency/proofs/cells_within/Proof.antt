@@ -1,6 +1,6 @@
 -- `adjacency::cells_within` meets its contract: the flag is the test of the classes passed.
 -- Assumes nothing.
-use mathlib.Core.Path.{_≡_, sym, _∙_}
+use mathlib.Core.Path.{_≡_, sym}
 use mathlib.Core.Bool.{_||_, and-true}
 use mathlib.Core.Logic.{⊎-elim}
 use Prim.Native.Nat.{ℕ, _≤_, _<_, _-_}
@@ -65,7 +65,7 @@ cells-within-spec =
           (λ w. rw (allTo-more, w .3, l .loop .inv .3, w .2 .ensures, classDegrees-within (a .n) cls E _ T k (m .sum-classes .ensures k)))
           (λ w.
           let r = b .skip-below .ensures in
-          let none = class-absent (a .n) k (b .skip-below .result) cls (s .pre .4) (r .1) (r .2) (sym (h .has-class .ensures) ∙ w .0 .left) in
+          let none = class-absent (a .n) k (b .skip-below .result) cls (s .pre .4) (r .1) (r .2) (rw (h .has-class .ensures) at (w .0 .left)) in
           rw (allTo-more, w .1, l .loop .inv .3, absent-within (a .n) cls E T k none) (sym (and-true _)))
           (c .if1 .came),
     ))  -- loop-again
