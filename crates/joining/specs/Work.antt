@@ -15,6 +15,10 @@ use Rattle.table.specs.Layout.{mostVertices}
 use Rattle.adjacency.specs.Adjacency.{adjacencySize, edge}
 use Rattle.joining.specs.Join.{own, transferAt}
 
+-- how many bytes of a row are tested at once
+abbrev pub lanes : ℕ
+lanes = 16
+
 -- the degrees of the n vertices, in an array of 200 with zeros behind them
 abbrev pub degreesOf : ℕ → List ℕ → List ℕ
 degreesOf n g = fillTo n (degree n (edge g)) (replicate mostVertices 0)

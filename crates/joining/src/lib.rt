@@ -1,23 +1,26 @@
 // Joining two vertices of the adjacency matrix, with at most two neighbour switches. The classes of the vertices and the
 // degrees they have so far stand in arrays beside the matrix.
 ghost use mathlib.Core.Path.{_≡_};
-ghost use mathlib.Core.Bool.{cond};
-ghost use Prim.Native.Nat.{_+_, _-_, _*_, _≤_, _<_};
-ghost use lib.Dec.{ltb};
+ghost use mathlib.Core.Bool.{false, cond};
+ghost use Prim.Native.Nat.{ℕ, _+_, _-_, _*_, _≤_, _<_};
+ghost use lib.Dec.{ltb, leb};
 ghost use lib.ListN.{length, getD, set};
-ghost use Rattle.finite.specs.Range.{lowest};
+ghost use Rattle.finite.specs.Range.{allTo, lowest};
 ghost use Rattle.graph.specs.Tests.{degrees};
 ghost use Rattle.graph.specs.Switch.{canTransfer, transfer, orElse};
 ghost use Rattle.table.specs.Run.{classIn};
 ghost use Rattle.adjacency.specs.Adjacency.{adjacencySize, side, edge, setEdge};
 ghost use Rattle.joining.specs.Join.{switchBytes, relieveBytes, joinBytes, joinCount};
-ghost use Rattle.joining.specs.Work.{degreesOf, Joinable, SaturatedBelow, SaturatedBut, canSubstituteIn, freed};
+ghost use Rattle.joining.specs.Work.{lanes, degreesOf, Joinable, SaturatedBelow, SaturatedBut, canSubstituteIn, freed};
 
 pub mod cell;
 
 use adjacency::SIDE;
 use adjacency::set_edge;
 use slices::wide;
+
+// How many bytes of a row are tested at once.
+const LANES: usize = 16;
 
 // What joining did: the switches, and the vertex that the switch of v cut off from v (n where there was none).
 pub struct JoinDone {
@@ -99,12 +102,41 @@ fn can_transfer(adjacency: &[u8], a: usize, b: usize, t: usize) -> bool
     (t != b) & (adjacency[a * SIDE + t] == 1) & (adjacency[b * SIDE + t] == 0)
 }
 
+// None of the next vertices from t on is linked to a and not to b. A flag and no early exit: one test of vectors.
+fn none_transfers(adjacency: &[u8], a: usize, b: usize, t: usize) -> bool
+    requires { ⌜ (length (now adjacency) ≡ adjacencySize) × (a < side) × (b < side) × (t + lanes ≤ side) ⌝ }
+    ensures { λ r. ⌜ r ≡ allTo lanes (λ i. leb (edge (now (adjacency .entry)) a (t + i)) (edge (now (adjacency .entry)) b (t + i))) ⌝ }
+{
+    let x = a * SIDE + t;
+    let y = b * SIDE + t;
+    let mut none = true;
+    for i in 0..LANES {
+        none = none & (adjacency[x + i] <= adjacency[y + i]);
+    }
+    none
+}
+
+// A vertex before which none can be t.
+fn skip_transfers(adjacency: &[u8], n: usize, a: usize, b: usize) -> usize
+    requires { ⌜ (length (now adjacency) ≡ adjacencySize) × (n ≤ side) × (a < side) × (b < side) ⌝ }
+    ensures { λ r. ⌜ (r ≤ n) × ((i : ℕ) → i < r → canTransfer (edge (now (adjacency .entry))) a b i ≡ false) ⌝ }
+{
+    let mut t = 0;
+    while t + LANES <= n {
+        if !none_transfers(adjacency, a, b, t) {
+            return t;
+        }
+        t += LANES;
+    }
+    t
+}
+
 // Document 01's t: the lowest vertex, not b, linked to a and not to b.
 fn choose_transfer(adjacency: &[u8], n: usize, a: usize, b: usize) -> usize
     requires { ⌜ (length (now adjacency) ≡ adjacencySize) × (n ≤ side) × (a < side) × (b < side) ⌝ }
     ensures { λ r. ⌜ r ≡ transfer n (edge (now (adjacency .entry))) a b ⌝ }
 {
-    let mut t = 0;
+    let mut t = skip_transfers(adjacency, n, a, b);
     while t < n {
         if can_transfer(adjacency, a, b, t) {
             return t;

@@ -1,10 +1,10 @@
 -- `joining::choose_transfer` meets its contract: what is left to search has the answer of the whole.
 -- Assumes nothing.
-use mathlib.Core.Path.{_≡_, refl, sym, _∙_}
+use mathlib.Core.Path.{_≡_, sym, _∙_}
 use Prim.Native.Nat.{_≤_, _-_}
 use native.Mathlib.Omega.{arith}
 use Rattle.finite.specs.Range.{lowest}
-use Rattle.finite.proofs.Lowest.{lowest-end, lowest-here, lowest-next}
+use Rattle.finite.proofs.Lowest.{lowest-end, lowest-here, lowest-next, lowest-skip}
 use Rattle.graph.specs.Switch.{canTransfer}
 use Rattle.adjacency.specs.Adjacency.{edge}
 use Rattle.joining.proofs.choose_transfer.Statement.{statement}
@@ -19,7 +19,10 @@ abbrev μ-loop : tie.MeasureT-loop
 pub choose-transfer-spec : {M : Type 1} → statement M
 choose-transfer-spec =
     tie.close (tie.spec Inv-loop μ-loop
-    (λ c. (omega arith, refl))  -- loop-holds
+    (λ c κs. omega arith)  -- skip-transfers-requires
+    (λ c.
+    let s = c .skip-transfers .ensures in
+    (s .0, lowest-skip _ _ _ _ (omega arith) (s .0) (λ i _ l. s .1 i l)))  -- loop-holds
     (λ c κs. omega arith)  -- can-transfer-requires
     (λ c.
     let l = c .before .before .before in
