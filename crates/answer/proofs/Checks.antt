@@ -2,7 +2,7 @@
 -- Assumes nothing.
 use mathlib.Core.Path.{_≡_, refl}
 use mathlib.Core.Bool.{Bool, true, false}
-use Rattle.answer.specs.Refusals.{unless}
+use Rattle.answer.specs.Refusals.{unless, unlessStopped}
 use Rattle.answer.specs.declared.Refusal.{Refusal}
 use Rattle.answer.specs.declared.Verdict.{Verdict}
 use Rattle.answer.specs.declared.Verdict.the-variants.{Go, Stop}
@@ -16,3 +16,9 @@ pub unless-passed : {A : Type 0} (t : Bool) (refused rest outcome : A) → (refu
     → (t ≡ true) × (rest ≡ outcome)
 unless-passed true refused rest outcome other e = (refl, e)
 unless-passed false refused rest outcome other e = absurd (other e)
+
+-- and behind a verdict: only one that goes lets it through
+pub unless-stopped-passed : {A : Type 0} (v : Verdict) (refused : Refusal → A) (rest outcome : A) → ((r : Refusal) → refused r ≡ outcome → ⊥)
+    → unlessStopped v refused rest ≡ outcome → (v ≡ Go) × (rest ≡ outcome)
+unless-stopped-passed Go refused rest outcome other e = (refl, e)
+unless-stopped-passed (Stop r) refused rest outcome other e = absurd (other r e)

@@ -18,3 +18,8 @@ module _ {A : Type 0} where
   abbrev pub unless : Bool → A → A → A
   unless true refused rest = rest
   unless false refused rest = refused
+
+  -- What a verdict lets through: its refusal, or the rest.
+  abbrev pub unlessStopped : Verdict → (Refusal → A) → A → A
+  unlessStopped Go refused rest = rest
+  unlessStopped (Stop r) refused rest = refused r
