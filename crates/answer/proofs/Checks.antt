@@ -11,6 +11,10 @@ pub unless-go : (t : Bool) (r : Refusal) (rest : Verdict) → unless t (Stop r) 
 unless-go true r rest e = (refl, e)
 unless-go false r rest e = (cc, cc)
 
+pub unless-stopped-go : (v rest : Verdict) → unlessStopped v Stop rest ≡ Go → (v ≡ Go) × (rest ≡ Go)
+unless-stopped-go Go rest e = (refl, e)
+unless-stopped-go (Stop r) rest e = (e, cc)
+
 -- the same at any answer: an outcome other than the refusal comes only behind a check that passes
 pub unless-passed : {A : Type 0} (t : Bool) (refused rest outcome : A) → (refused ≡ outcome → ⊥) → unless t refused rest ≡ outcome
     → (t ≡ true) × (rest ≡ outcome)

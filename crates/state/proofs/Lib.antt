@@ -1,3 +1,4 @@
 pub mod Laid
 pub mod Facts
+pub mod Checks
 pub mod Graph

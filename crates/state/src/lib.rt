@@ -1,4 +1,4 @@
-// The state: journal and adjacency together, and the check of both that every entry but clear begins with.
+// The state: journal and adjacency together, and the checks of both with which every entry but clear begins.
 ghost use mathlib.Core.Path.{_≡_};
 ghost use mathlib.Core.Bool.{true};
 ghost use Prim.Native.Nat.{_+_, _≤_, _<_};
@@ -6,9 +6,12 @@ ghost use lib.ListN.{length};
 ghost use Rattle.journal.specs.Journal.{journalSize, journalOk, jdmOf};
 ghost use Rattle.adjacency.specs.Adjacency.{adjacencySize};
 ghost use Rattle.state.specs.Valid.{lengthsOk, laidOk, valid};
+ghost use Rattle.state.specs.Checks.{stateVerdict, phaseVerdict};
 use adjacency::ADJACENCY_SIZE;
 use adjacency::adjacency_ok;
+use answer::Cause;
 use answer::Verdict;
+use answer::stopped;
 use journal::JOURNAL_SIZE;
 use journal::cells_of;
 use journal::journal_ok;
@@ -54,4 +57,33 @@ pub fn is_valid(journal: &[u8], adjacency: &[u8]) -> bool
         return slices::all_zero(adjacency);
     }
     is_laid_ok(journal, adjacency)
+}
+
+// The checks 1 and 2.
+pub fn state_check(journal: &[u8], adjacency: &[u8]) -> Verdict
+    ensures { λ r. ⌜ r ≡ stateVerdict (now (journal .entry)) (now (adjacency .entry)) ⌝ }
+{
+    if !lengths_ok(journal, adjacency) {
+        return stopped(Cause::Length);
+    }
+    if !is_valid(journal, adjacency) {
+        return stopped(Cause::Invalid);
+    }
+    Verdict::Go
+}
+
+// And 3, for a call that needs this phase.
+pub fn phase_check(journal: &[u8], adjacency: &[u8], phase: usize) -> Verdict
+    ensures { λ r. ⌜ r ≡ phaseVerdict phase (now (journal .entry)) (now (adjacency .entry)) ⌝ }
+{
+    let verdict = state_check(journal, adjacency);
+    match verdict {
+        Verdict::Stop(r) => Verdict::Stop(r),
+        Verdict::Go => {
+            if phase_of(journal) != phase {
+                return stopped(Cause::Phase);
+            }
+            Verdict::Go
+        }
+    }
 }
