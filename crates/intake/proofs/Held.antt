@@ -9,9 +9,11 @@ use borrow.Author.Tests.{ltb-true}
 use Rattle.answer.specs.declared.Refusal.{Refusal}
 use Rattle.answer.specs.declared.LengthAnswer.{LengthAnswer}
 use Rattle.answer.specs.declared.LengthAnswer.the-variants.{Length, Refused}
-use Rattle.answer.proofs.Checks.{unless-passed}
+use Rattle.answer.proofs.Checks.{unless-passed, unless-stopped-passed}
 use Rattle.journal.specs.Journal.{blocks}
+use Rattle.state.specs.Checks.{stateVerdict}
 use Rattle.state.specs.Valid.{lengthsOk, valid}
+use Rattle.state.proofs.Checks.{state-passed}
 use Rattle.intake.specs.Held.{lengthAnswer}
 
 abbrev IsLength : LengthAnswer → Type 0
@@ -28,7 +30,7 @@ pub record LengthFacts (j g : List ℕ) (number : ℕ) : Type 0 where
 
 pub length-facts : (j g : List ℕ) (number n : ℕ) → lengthAnswer j g number ≡ Length n → LengthFacts j g number
 length-facts j g number n e =
-    let l = unless-passed (lengthsOk j g) _ _ (Length n) (refused-no-length _ n) e in
-    let v = unless-passed (valid j g) _ _ (Length n) (refused-no-length _ n) (l .1) in
-    let k = unless-passed (ltb number (blocks j)) _ _ (Length n) (refused-no-length _ n) (v .1) in
-    record { lengths = l .0; sound = v .0; low = ltb-true number (blocks j) (k .0) }
+    let s = unless-stopped-passed (stateVerdict j g) Refused _ (Length n) (λ r. refused-no-length r n) e in
+    let k = unless-passed (ltb number (blocks j)) _ _ (Length n) (refused-no-length _ n) (s .1) in
+    let p = state-passed j g (s .0) in
+    record { lengths = p .0; sound = p .1; low = ltb-true number (blocks j) (k .0) }

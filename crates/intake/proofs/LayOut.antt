@@ -17,10 +17,10 @@ use Rattle.answer.specs.Refusals.{stop}
 use Rattle.answer.specs.declared.Cause.the-variants.{TooManyVertices}
 use Rattle.answer.specs.declared.Refusal.{Refusal}
 use Rattle.answer.specs.declared.Verdict.{Verdict}
-use Rattle.answer.specs.declared.Verdict.the-variants.{Go, Stop}
+use Rattle.answer.specs.declared.Verdict.the-variants.{Go}
 use Rattle.answer.specs.declared.LayOutAnswer.{LayOutAnswer}
 use Rattle.answer.specs.declared.LayOutAnswer.the-variants.{LaidOut, Refused}
-use Rattle.answer.proofs.Checks.{unless-passed}
+use Rattle.answer.proofs.Checks.{unless-stopped-passed}
 use Rattle.table.specs.Layout.{mostVertices, vertices, layoutVerdict}
 use Rattle.table.proofs.Verdict.{layout-go, go-layout, layout-passed, layout-refused}
 use Rattle.journal.specs.Journal.{phase, jdmOf, laid}
@@ -28,8 +28,10 @@ use Rattle.journal.proofs.Facts.{journal-facts}
 use Rattle.journal.proofs.Laid.{length-laid, jdm-laid, phase-laid, valid-laid}
 use Rattle.journal.proofs.Table.{jdm-table}
 use Rattle.adjacency.proofs.Empty.{empty-ok}
+use Rattle.state.specs.Checks.{phaseVerdict}
 use Rattle.state.specs.Laid.{vertexCount, degreeAt}
 use Rattle.state.specs.Valid.{lengthsOk, valid}
+use Rattle.state.proofs.Checks.{phase-passed, phase-go}
 use Rattle.state.proofs.Facts.{valid-facts, lengths-journal, lengths-adjacency, lengths-both, valid-journal, facts-valid-1}
 use Rattle.intake.specs.LayOut.{laidOut, layOutAnswer, layOutJournal}
 
@@ -48,10 +50,6 @@ pub record LaidOutFacts (j g : List ℕ) : Type 0 where
   pub passed : passes (jdmOf j) ≡ true
   pub small : vertices (jdmOf j) ≤ mostVertices
 
-laid-out-go : (v : Verdict) (m n : ℕ) → laidOut v m ≡ LaidOut n → v ≡ Go
-laid-out-go Go m n e = refl
-laid-out-go (Stop r) m n e = absurd (refused-not-laid-out r n e)
-
 -- the state is in phase 0, the table passes 9 to 11, and N is at most 200
 abbrev pub laysOut : List ℕ → Bool
 laysOut j = eqb (phase j) 0 && passes (jdmOf j) && leb (vertices (jdmOf j)) mostVertices
@@ -63,16 +61,16 @@ isLaidOut (Refused r) = false
 module _ (j g : List ℕ) where
   pub lay-out-facts : (n : ℕ) → layOutAnswer j g ≡ LaidOut n → LaidOutFacts j g
   lay-out-facts n e =
-      let l = unless-passed (lengthsOk j g) _ _ (LaidOut n) (refused-not-laid-out _ n) e in
-      let v = unless-passed (valid j g) _ _ (LaidOut n) (refused-not-laid-out _ n) (l .1) in
-      let p = unless-passed (eqb (phase j) 0) _ _ (LaidOut n) (refused-not-laid-out _ n) (v .1) in
-      let t = layout-go (jdmOf j) (laid-out-go (layoutVerdict (jdmOf j)) (vertices (jdmOf j)) n (p .1)) in
-      record { lengths = l .0; sound = v .0; taking = eqb-true (phase j) 0 (p .0); passed = t .0; small = t .1 }
+      let s = unless-stopped-passed (phaseVerdict 0 j g) Refused _ (LaidOut n) (λ r. refused-not-laid-out r n) e in
+      let v = unless-stopped-passed (layoutVerdict (jdmOf j)) Refused _ (LaidOut n) (λ r. refused-not-laid-out r n) (s .1) in
+      let p = phase-passed 0 j g (s .0) in
+      let t = layout-go (jdmOf j) (v .0) in
+      record { lengths = p .0; sound = p .1; taking = p .2; passed = t .0; small = t .1 }
 
   -- on a valid state in phase 0 the tests 9 to 12 decide
   lay-out-verdict : lengthsOk j g ≡ true → valid j g ≡ true → phase j ≡ 0
       → layOutAnswer j g ≡ laidOut (layoutVerdict (jdmOf j)) (vertices (jdmOf j))
-  lay-out-verdict l v p = rw (l, v, eq-eqb (phase j) 0 p)
+  lay-out-verdict l v p = rw (phase-go 0 j g l v p)
 
   pub facts-lay-out : LaidOutFacts j g → layOutAnswer j g ≡ LaidOut (vertices (jdmOf j))
   facts-lay-out f =

@@ -14,14 +14,16 @@ use Rattle.answer.specs.declared.Cause.the-variants.{Conflict}
 use Rattle.answer.specs.declared.Refusal.{Refusal}
 use Rattle.answer.specs.declared.TakeAnswer.{TakeAnswer}
 use Rattle.answer.specs.declared.TakeAnswer.the-variants.{Taken, Held, Refused}
-use Rattle.answer.proofs.Checks.{unless-passed}
+use Rattle.answer.proofs.Checks.{unless-passed, unless-stopped-passed}
 use Rattle.slices.proofs.Same.{same-bytes-eq, eq-same-bytes}
 use Rattle.table.specs.Block.{blockLength, records, firstBad, wellFormed, blockCell}
 use Rattle.journal.specs.Journal.{journalSize, mostBlocks, phase, blocks, blockAt, sameBlock, journalOk, jdmOf, stored, laid}
 use Rattle.journal.proofs.Facts.{journal-facts, used-well-formed}
 use Rattle.journal.proofs.Laid.{blocks-laid, blockAt-laid}
 use Rattle.journal.proofs.Store.{length-stored, phase-stored, blocks-stored, blockAt-new, valid-stored, jdm-stored}
+use Rattle.state.specs.Checks.{stateVerdict}
 use Rattle.state.specs.Valid.{lengthsOk, valid}
+use Rattle.state.proofs.Checks.{state-passed, state-go}
 use Rattle.state.proofs.Facts.{valid-facts, lengths-journal, lengths-adjacency, lengths-both, valid-journal, facts-valid-0}
 use Rattle.intake.specs.Take.{takeHeld, takeNew, takeNumbered, takeAnswer, takeJournal}
 
@@ -72,14 +74,14 @@ module _ (j g : List ℕ) (number : ℕ) (b : List ℕ) where
 
   passed : (a : TakeAnswer) → ((r : Refusal) → Refused r ≡ a → ⊥) → takeAnswer j g number b ≡ a → Passed a
   passed a other e =
-      let l = unless-passed (lengthsOk j g) _ _ a (other _) e in
-      let v = unless-passed (valid j g) _ _ a (other _) (l .1) in
-      let n = unless-passed (blockLength (length b)) _ _ a (other _) (v .1) in
+      let s = unless-stopped-passed (stateVerdict j g) Refused _ a other e in
+      let p = state-passed j g (s .0) in
+      let n = unless-passed (blockLength (length b)) _ _ a (other _) (s .1) in
       let r = unless-passed (eqb (firstBad b) (records b)) _ _ a (other _) (n .1) in
       let k = unless-passed (leb number (blocks j)) _ _ a (other _) (r .1) in
       record {
-        lengths = l .0;
-        sound = v .0;
+        lengths = p .0;
+        sound = p .1;
         good = and-both (blockLength (length b)) (eqb (firstBad b) (records b)) (n .0) (r .0);
         low = leb-true number (blocks j) (k .0);
         rest = k .1;
@@ -89,8 +91,7 @@ module _ (j g : List ℕ) (number : ℕ) (b : List ℕ) where
   pub take-numbered : lengthsOk j g ≡ true → valid j g ≡ true → wellFormed b ≡ true → takeAnswer j g number b ≡ takeNumbered j number b
   take-numbered l v h =
       rw (
-        l,
-        v,
+        state-go j g l v,
         and-left (blockLength (length b)) (eqb (firstBad b) (records b)) h,
         and-right (blockLength (length b)) (eqb (firstBad b) (records b)) h,
       )

@@ -4,8 +4,7 @@ use mathlib.Core.Bool.{Bool, true, false}
 use mathlib.Core.List.{List}
 use Prim.Native.Nat.{ℕ}
 use lib.Dec.{eqb}
-use Rattle.answer.specs.Refusals.{refusal, unless}
-use Rattle.answer.specs.declared.Cause.the-variants.{Length, Invalid}
+use Rattle.answer.specs.Refusals.{unlessStopped}
 use Rattle.answer.specs.declared.Figures.{Figures}
 use Rattle.answer.specs.declared.FiguresAnswer.{FiguresAnswer}
 use Rattle.answer.specs.declared.FiguresAnswer.the-variants.{Reported, Refused}
@@ -13,7 +12,7 @@ use Rattle.graph.specs.Graph.{edges}
 use Rattle.table.specs.Layout.{vertices, wanted}
 use Rattle.journal.specs.Journal.{phase, blocks, jdmOf}
 use Rattle.adjacency.specs.Adjacency.{edge}
-use Rattle.state.specs.Valid.{lengthsOk, valid}
+use Rattle.state.specs.Checks.{stateVerdict}
 
 -- the figures of a state: the Bool tells whether its phase is 0
 abbrev pub figuresOf : Bool → List ℕ → List ℕ → Figures
@@ -29,7 +28,4 @@ figuresOf false j g =
 
 -- the checks 1, 2
 abbrev pub figuresAnswer : List ℕ → List ℕ → FiguresAnswer
-figuresAnswer j g =
-    unless (lengthsOk j g) (Refused (refusal Length 0 0))
-    (unless (valid j g) (Refused (refusal Invalid 0 0))
-    (Reported (figuresOf (eqb (phase j) 0) j g)))
+figuresAnswer j g = unlessStopped (stateVerdict j g) Refused (Reported (figuresOf (eqb (phase j) 0) j g))

@@ -1,23 +1,21 @@
 -- Reading a held block back, and its length (document 01, "The bench in lent bytes").
 -- Assumes nothing.
-use mathlib.Core.Bool.{Bool, _&&_, cond}
 use mathlib.Core.List.{List, []}
 use Prim.Native.Nat.{ℕ}
 use lib.Dec.{ltb}
-use Rattle.answer.specs.Refusals.{refusal, unless}
-use Rattle.answer.specs.declared.Cause.the-variants.{Length as LengthCause, Invalid, BlockNumber}
+use Rattle.answer.specs.Refusals.{refusal, unless, unlessStopped}
+use Rattle.answer.specs.declared.Cause.the-variants.{BlockNumber}
 use Rattle.answer.specs.declared.LengthAnswer.{LengthAnswer}
 use Rattle.answer.specs.declared.LengthAnswer.the-variants.{Length, Refused}
 use Rattle.journal.specs.Journal.{blocks, slotLength, blockAt}
-use Rattle.state.specs.Valid.{lengthsOk, valid}
+use Rattle.state.specs.Checks.{stateVerdict}
 
 -- the checks 1, 2, 6, then the length
 abbrev pub lengthAnswer : List ℕ → List ℕ → ℕ → LengthAnswer
 lengthAnswer j g number =
-    unless (lengthsOk j g) (Refused (refusal LengthCause 0 0))
-    (unless (valid j g) (Refused (refusal Invalid 0 0))
+    unlessStopped (stateVerdict j g) Refused
     (unless (ltb number (blocks j)) (Refused (refusal BlockNumber 0 0))
-    (Length (slotLength j number))))
+    (Length (slotLength j number)))
 
 -- the part of the journal that is the block; refused, an empty part
 abbrev pub heldPart : LengthAnswer → List ℕ → ℕ → List ℕ

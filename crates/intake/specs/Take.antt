@@ -5,13 +5,13 @@ use mathlib.Core.List.{List}
 use Prim.Native.Nat.{ℕ, _+_}
 use lib.Dec.{eqb, ltb, leb}
 use lib.ListN.{length}
-use Rattle.answer.specs.Refusals.{refusal, unless}
-use Rattle.answer.specs.declared.Cause.the-variants.{Length, Invalid, Phase, BlockLength, Record, BlockNumber, Conflict, JournalFull}
+use Rattle.answer.specs.Refusals.{refusal, unless, unlessStopped}
+use Rattle.answer.specs.declared.Cause.the-variants.{Phase, BlockLength, Record, BlockNumber, Conflict, JournalFull}
 use Rattle.answer.specs.declared.TakeAnswer.{TakeAnswer}
 use Rattle.answer.specs.declared.TakeAnswer.the-variants.{Taken, Held, Refused}
 use Rattle.table.specs.Block.{blockLength, records, firstBad}
 use Rattle.journal.specs.Journal.{mostBlocks, phase, blocks, sameBlock, stored}
-use Rattle.state.specs.Valid.{lengthsOk, valid}
+use Rattle.state.specs.Checks.{stateVerdict}
 
 -- a low number: the block held under it, or a conflict
 abbrev pub takeHeld : List ℕ → ℕ → List ℕ → TakeAnswer
@@ -30,14 +30,16 @@ takeNumbered j number b =
     unless (leb number (blocks j)) (Refused (refusal BlockNumber 0 0))
     (cond (ltb number (blocks j)) (takeHeld j number b) (takeNew j))
 
--- the checks 1, 2, 4, 5, 6, then for a low number 7 or held, then 3, 8, taken
-abbrev pub takeAnswer : List ℕ → List ℕ → ℕ → List ℕ → TakeAnswer
-takeAnswer j g number b =
-    unless (lengthsOk j g) (Refused (refusal Length 0 0))
-    (unless (valid j g) (Refused (refusal Invalid 0 0))
-    (unless (blockLength (length b)) (Refused (refusal BlockLength 0 0))
+-- any block on a valid state: the checks 4, 5, 6, then for a low number 7 or held, then 3, 8, taken
+abbrev pub takeOnValid : List ℕ → ℕ → List ℕ → TakeAnswer
+takeOnValid j number b =
+    unless (blockLength (length b)) (Refused (refusal BlockLength 0 0))
     (unless (eqb (firstBad b) (records b)) (Refused (refusal Record (firstBad b) 0))
-    (takeNumbered j number b))))
+    (takeNumbered j number b))
+
+-- the checks 1, 2, then as above
+abbrev pub takeAnswer : List ℕ → List ℕ → ℕ → List ℕ → TakeAnswer
+takeAnswer j g number b = unlessStopped (stateVerdict j g) Refused (takeOnValid j number b)
 
 -- the journal afterwards
 abbrev pub takeJournal : TakeAnswer → List ℕ → List ℕ → List ℕ

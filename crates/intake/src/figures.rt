@@ -7,14 +7,12 @@ ghost use Rattle.table.specs.Layout.{vertices, mostVertices};
 ghost use Rattle.journal.specs.Journal.{journalSize, journalOk, jdmOf};
 ghost use Rattle.adjacency.specs.Adjacency.{adjacencySize};
 ghost use Rattle.intake.specs.Figures.{figuresAnswer, figuresOf};
-use answer::Cause;
 use answer::Figures;
 use answer::FiguresAnswer;
-use answer::refuse;
+use answer::Verdict;
 use journal::block_count;
 use journal::phase_of;
-use state::is_valid;
-use state::lengths_ok;
+use state::state_check;
 
 // The figures of a laid state.
 fn figures_laid(journal: &[u8], adjacency: &[u8]) -> Figures
@@ -39,20 +37,20 @@ fn figures_laid(journal: &[u8], adjacency: &[u8]) -> Figures
 pub fn figures(journal: &[u8], adjacency: &[u8]) -> FiguresAnswer
     ensures { λ r. ⌜ r ≡ figuresAnswer (now (journal .entry)) (now (adjacency .entry)) ⌝ }
 {
-    if !lengths_ok(journal, adjacency) {
-        return FiguresAnswer::Refused(refuse(Cause::Length, 0, 0));
+    let verdict = state_check(journal, adjacency);
+    match verdict {
+        Verdict::Stop(r) => FiguresAnswer::Refused(r),
+        Verdict::Go => {
+            if phase_of(journal) == 0 {
+                return FiguresAnswer::Reported(Figures {
+                    phase: 0,
+                    blocks: block_count(journal),
+                    vertices: 0,
+                    wanted: 0,
+                    laid: 0,
+                });
+            }
+            FiguresAnswer::Reported(figures_laid(journal, adjacency))
+        }
     }
-    if !is_valid(journal, adjacency) {
-        return FiguresAnswer::Refused(refuse(Cause::Invalid, 0, 0));
-    }
-    if phase_of(journal) == 0 {
-        return FiguresAnswer::Reported(Figures {
-            phase: 0,
-            blocks: block_count(journal),
-            vertices: 0,
-            wanted: 0,
-            laid: 0,
-        });
-    }
-    FiguresAnswer::Reported(figures_laid(journal, adjacency))
 }

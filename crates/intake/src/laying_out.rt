@@ -5,13 +5,9 @@ ghost use lib.ListN.{length};
 ghost use Rattle.table.specs.Layout.{vertices, layoutVerdict};
 ghost use Rattle.journal.specs.Journal.{journalSize, journalOk, jdmOf};
 ghost use Rattle.intake.specs.LayOut.{laidOut, layOutAnswer, layOutJournal};
-use answer::Cause;
 use answer::LayOutAnswer;
 use answer::Verdict;
-use answer::refuse;
-use journal::phase_of;
-use state::is_valid;
-use state::lengths_ok;
+use state::phase_check;
 
 // The tests 9 to 12 on the summed table: N, or the refusal.
 fn lay_out_table(journal: &[u8]) -> LayOutAnswer
@@ -30,16 +26,11 @@ fn lay_out_table(journal: &[u8]) -> LayOutAnswer
 fn lay_out_check(journal: &[u8], adjacency: &[u8]) -> LayOutAnswer
     ensures { λ r. ⌜ r ≡ layOutAnswer (now (journal .entry)) (now (adjacency .entry)) ⌝ }
 {
-    if !lengths_ok(journal, adjacency) {
-        return LayOutAnswer::Refused(refuse(Cause::Length, 0, 0));
+    let verdict = phase_check(journal, adjacency, 0);
+    match verdict {
+        Verdict::Stop(r) => LayOutAnswer::Refused(r),
+        Verdict::Go => lay_out_table(journal),
     }
-    if !is_valid(journal, adjacency) {
-        return LayOutAnswer::Refused(refuse(Cause::Invalid, 0, 0));
-    }
-    if phase_of(journal) != 0 {
-        return LayOutAnswer::Refused(refuse(Cause::Phase, 0, 0));
-    }
-    lay_out_table(journal)
 }
 
 pub fn lay_out(journal: &mut [u8], adjacency: &[u8]) -> LayOutAnswer

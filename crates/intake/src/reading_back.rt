@@ -3,27 +3,27 @@ ghost use mathlib.Core.Path.{_≡_};
 ghost use Rattle.intake.specs.Held.{lengthAnswer, heldPart};
 use answer::Cause;
 use answer::LengthAnswer;
+use answer::Verdict;
 use answer::refuse;
 use journal::block_count;
 use journal::block_part;
 use journal::slot_length;
-use state::is_valid;
-use state::lengths_ok;
+use state::state_check;
 
 // The length of held block `number`, or why there is none.
 pub fn held_block_length(journal: &[u8], adjacency: &[u8], number: usize) -> LengthAnswer
     ensures { λ r. ⌜ r ≡ lengthAnswer (now (journal .entry)) (now (adjacency .entry)) number ⌝ }
 {
-    if !lengths_ok(journal, adjacency) {
-        return LengthAnswer::Refused(refuse(Cause::Length, 0, 0));
+    let verdict = state_check(journal, adjacency);
+    match verdict {
+        Verdict::Stop(r) => LengthAnswer::Refused(r),
+        Verdict::Go => {
+            if block_count(journal) <= number {
+                return LengthAnswer::Refused(refuse(Cause::BlockNumber, 0, 0));
+            }
+            LengthAnswer::Length(slot_length(journal, number))
+        }
     }
-    if !is_valid(journal, adjacency) {
-        return LengthAnswer::Refused(refuse(Cause::Invalid, 0, 0));
-    }
-    if block_count(journal) <= number {
-        return LengthAnswer::Refused(refuse(Cause::BlockNumber, 0, 0));
-    }
-    LengthAnswer::Length(slot_length(journal, number))
 }
 
 // Held block `number`, the part of the journal itself; an empty part where there is none.

@@ -4,16 +4,16 @@ ghost use mathlib.Core.Bool.{true};
 ghost use Prim.Native.Nat.{_<_};
 ghost use lib.ListN.{length};
 ghost use Rattle.journal.specs.Journal.{journalSize, blocks, journalOk};
-ghost use Rattle.intake.specs.Take.{takeHeld, takeNew, takeNumbered, takeAnswer, takeJournal};
+ghost use Rattle.intake.specs.Take.{takeHeld, takeNew, takeNumbered, takeOnValid, takeAnswer, takeJournal};
 use answer::Cause;
 use answer::TakeAnswer;
+use answer::Verdict;
 use answer::refuse;
 use journal::MOST_BLOCKS;
 use journal::block_count;
 use journal::is_block;
 use journal::phase_of;
-use state::is_valid;
-use state::lengths_ok;
+use state::state_check;
 
 // A low number: held, or a conflict.
 fn take_held(journal: &[u8], number: usize, block: &[u8]) -> TakeAnswer
@@ -56,16 +56,11 @@ fn take_numbered(journal: &[u8], number: usize, block: &[u8]) -> TakeAnswer
     take_new(journal)
 }
 
-// What taking answers; nothing is written yet.
-fn take_check(journal: &[u8], adjacency: &[u8], number: usize, block: &[u8]) -> TakeAnswer
-    ensures { λ r. ⌜ r ≡ takeAnswer (now (journal .entry)) (now (adjacency .entry)) number (now (block .entry)) ⌝ }
+// Any block on a valid state.
+fn take_on_valid(journal: &[u8], number: usize, block: &[u8]) -> TakeAnswer
+    requires { ⌜ (length (now journal) ≡ journalSize) × (journalOk (now journal) ≡ true) ⌝ }
+    ensures { λ r. ⌜ r ≡ takeOnValid (now (journal .entry)) number (now (block .entry)) ⌝ }
 {
-    if !lengths_ok(journal, adjacency) {
-        return TakeAnswer::Refused(refuse(Cause::Length, 0, 0));
-    }
-    if !is_valid(journal, adjacency) {
-        return TakeAnswer::Refused(refuse(Cause::Invalid, 0, 0));
-    }
     if !table::record::block_length(block.len()) {
         return TakeAnswer::Refused(refuse(Cause::BlockLength, 0, 0));
     }
@@ -74,6 +69,17 @@ fn take_check(journal: &[u8], adjacency: &[u8], number: usize, block: &[u8]) -> 
         return TakeAnswer::Refused(refuse(Cause::Record, bad, 0));
     }
     take_numbered(journal, number, block)
+}
+
+// What taking answers; nothing is written yet.
+fn take_check(journal: &[u8], adjacency: &[u8], number: usize, block: &[u8]) -> TakeAnswer
+    ensures { λ r. ⌜ r ≡ takeAnswer (now (journal .entry)) (now (adjacency .entry)) number (now (block .entry)) ⌝ }
+{
+    let verdict = state_check(journal, adjacency);
+    match verdict {
+        Verdict::Stop(r) => TakeAnswer::Refused(r),
+        Verdict::Go => take_on_valid(journal, number, block),
+    }
 }
 
 pub fn take_block(journal: &mut [u8], adjacency: &[u8], number: usize, block: &[u8]) -> TakeAnswer

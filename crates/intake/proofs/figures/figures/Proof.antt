@@ -3,65 +3,54 @@
 use mathlib.Core.Path.{_≡_, sym, ap, _∙_}
 use Prim.Native.Nat.{ℕ}
 use native.Mathlib.Omega.{arith}
-use borrow.Author.Tests.{not-true, not-false, eq-eqb, ne-eqb}
-use Rattle.answer.specs.declared.FiguresAnswer.the-variants.{Reported, Refused}
+use borrow.Author.Needs.{needs}
+use borrow.Author.Tests.{eq-eqb, ne-eqb}
+use Rattle.answer.specs.declared.FiguresAnswer.the-variants.{Reported}
 use Rattle.journal.specs.Journal.{phase}
 use Rattle.journal.proofs.Facts.{journal-facts}
-use Rattle.state.proofs.Facts.{lengths-journal, lengths-adjacency, valid-facts}
+use Rattle.state.proofs.Checks.{state-facts}
 use Rattle.intake.proofs.figures.figures.Statement.{statement}
 use Rattle.intake.proofs.figures.figures.Tie as tie
 
 pub figures-spec : {M : Type 1} → statement M
 figures-spec =
     tie.close (tie.spec
-    (λ c κs. tt)  -- lengths-ok-requires
-    (λ c κs. tt)  -- refuse-requires
-    (λ c. let i = c .before in rw (sym (i .before .lengths-ok .ensures) ∙ not-true _ (i .if1 .taken)) (ap Refused (c .refuse .ensures)))  -- returns
+    (λ c κs. tt)  -- state-check-requires
+    (λ c. search needs)  -- enum-known-verdict
+    (λ c. search needs)  -- enum-told
     (λ c κs.
-    let a = c .before .before .before .before .args in
-    let e = sym (c .before .lengths-ok .ensures) ∙ not-false _ (c .if1 .left) in
-    (lengths-journal (a .journal .now) (a .adjacency .now) e, lengths-adjacency (a .journal .now) (a .adjacency .now) e))  -- is-valid-requires
-    (λ c κs. tt)  -- refuse-requires-2
-    (λ c.
-    let v = c .before in
-    let i = v .before .before in
-    rw (sym (i .before .lengths-ok .ensures) ∙ not-false _ (i .if1 .left), sym (v .before .is-valid .ensures) ∙ not-true _ (v .if2 .taken))
-    (ap Refused (c .refuse2 .ensures)))  -- returns-2
+    let s = c .before .before in
+    let a = s .before .before .before .args in
+    state-facts (a .journal .now) (a .adjacency .now) (sym (s .state-check .ensures) ∙ c .enum-told .given .1) .journal-length)  -- phase-of-requires
     (λ c κs.
-    let i = c .before .before in
-    let a = i .before .before .before .before .args in
-    lengths-journal (a .journal .now) (a .adjacency .now) (sym (i .before .lengths-ok .ensures) ∙ not-false _ (i .if1 .left)))  -- phase-of-requires
-    (λ c κs.
-    let i = c .before .before .before .before in
-    let a = i .before .before .before .before .args in
-    lengths-journal (a .journal .now) (a .adjacency .now) (sym (i .before .lengths-ok .ensures) ∙ not-false _ (i .if1 .left)))  -- block-count-requires
+    let m = c .before .before in
+    let s = m .before .before in
+    let a = s .before .before .before .args in
+    state-facts (a .journal .now) (a .adjacency .now) (sym (s .state-check .ensures) ∙ m .enum-told .given .1) .journal-length)  -- block-count-requires
     (λ c.
     let p = c .before in
-    let v = p .before .before in
-    let i = v .before .before in
+    let m = p .before .before in
     rw (
-      sym (i .before .lengths-ok .ensures) ∙ not-false _ (i .if1 .left),
-      sym (v .before .is-valid .ensures) ∙ not-false _ (v .if2 .left),
-      eq-eqb _ _ (rw (p .before .phase-of .ensures .0) at (p .if3 .taken)),
+      ← (m .before .before .state-check .ensures),
+      m .enum-told .given .1,
+      eq-eqb _ _ (rw (p .before .phase-of .ensures .0) at (p .if1 .taken)),
     )
-    (ap (λ (n : ℕ). Reported (record { phase = 0; blocks = n; vertices = 0; wanted = 0; laid = 0 })) (c .block-count .ensures .0)))  -- returns-3
+    (ap (λ (n : ℕ). Reported (record { phase = 0; blocks = n; vertices = 0; wanted = 0; laid = 0 })) (c .block-count .ensures .0)))  -- returns
     (λ c κs.
-    let p = c .before in
-    let v = p .before in
-    let i = v .before .before in
-    let a = i .before .before .before .before .args in
+    let m = c .before .before in
+    let s = m .before .before in
+    let a = s .before .before .before .args in
     let j = a .journal .now in
-    let e = sym (i .before .lengths-ok .ensures) ∙ not-false _ (i .if1 .left) in
-    let f = valid-facts j (a .adjacency .now) e (sym (v .before .is-valid .ensures) ∙ not-false _ (v .if2 .left)) in
-    let one : phase j ≡ 1 = omega (arith, p .phase-of .ensures .0, c .if3 .left, journal-facts j (f .journal-ok) .phase-le) in
+    let f = state-facts j (a .adjacency .now) (sym (s .state-check .ensures) ∙ m .enum-told .given .1) in
+    let one : phase j ≡ 1 = omega (arith, c .before .phase-of .ensures .0, c .if1 .left, journal-facts j (f .journal-ok) .phase-le) in
     (f .journal-length, f .adjacency-length, f .journal-ok, f .laid one .vertices-le))  -- figures-laid-requires
+    (λ c. let v = c .before in rw (← (v .before .before .state-check .ensures), v .verdict .given .1))  -- returns-2
     (λ c.
     let p = c .before in
-    let v = p .before .before in
-    let i = v .before .before in
+    let m = p .before .before in
     rw (
-      sym (i .before .lengths-ok .ensures) ∙ not-false _ (i .if1 .left),
-      sym (v .before .is-valid .ensures) ∙ not-false _ (v .if2 .left),
-      ne-eqb _ _ (rw (p .before .phase-of .ensures .0) at (p .if3 .left)),
+      ← (m .before .before .state-check .ensures),
+      m .enum-told .given .1,
+      ne-eqb _ _ (rw (p .before .phase-of .ensures .0) at (p .if1 .left)),
     )
-    (ap Reported (c .figures-laid .ensures))))  -- returns-4
+    (ap Reported (c .figures-laid .ensures))))  -- returns-3

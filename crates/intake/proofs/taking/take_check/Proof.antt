@@ -1,72 +1,23 @@
 -- `intake::taking::take_check` meets its contract.
 -- Assumes nothing.
-use mathlib.Core.Path.{sym, ap, _∙_}
-use borrow.Author.Tests.{not-true, not-false, eq-eqb, ne-eqb}
-use Rattle.answer.specs.declared.TakeAnswer.the-variants.{Refused}
-use Rattle.state.proofs.Facts.{lengths-journal, lengths-adjacency, valid-journal}
+use mathlib.Core.Path.{sym, _∙_}
+use borrow.Author.Needs.{needs}
+use Rattle.state.proofs.Checks.{state-facts}
 use Rattle.intake.proofs.taking.take_check.Statement.{statement}
 use Rattle.intake.proofs.taking.take_check.Tie as tie
 
 pub take-check-spec : {M : Type 1} → statement M
 take-check-spec =
     tie.close (tie.spec
-    (λ c κs. tt)  -- lengths-ok-requires
-    (λ c κs. tt)  -- refuse-requires
-    (λ c. let i = c .before in rw (sym (i .before .lengths-ok .ensures) ∙ not-true _ (i .if1 .taken)) (ap Refused (c .refuse .ensures)))  -- returns
+    (λ c κs. tt)  -- state-check-requires
+    (λ c. search needs)  -- enum-known-verdict
+    (λ c. search needs)  -- enum-told
     (λ c κs.
-    let a = c .before .before .before .before .before .args in
-    let e = sym (c .before .lengths-ok .ensures) ∙ not-false _ (c .if1 .left) in
-    (lengths-journal (a .journal .now) (a .adjacency .now) e, lengths-adjacency (a .journal .now) (a .adjacency .now) e))  -- is-valid-requires
-    (λ c κs. tt)  -- refuse-requires-2
+    let s = c .before .before in
+    let a = s .before .before .before .before .args in
+    let f = state-facts (a .journal .now) (a .adjacency .now) (sym (s .state-check .ensures) ∙ c .enum-told .given .1) in
+    (f .journal-length, f .journal-ok))  -- take-on-valid-requires
+    (λ c. let v = c .before in rw (← (v .before .before .state-check .ensures), v .verdict .given .1))  -- returns
     (λ c.
-    let v = c .before in
-    let i = v .before .before in
-    rw (sym (i .before .lengths-ok .ensures) ∙ not-false _ (i .if1 .left), sym (v .before .is-valid .ensures) ∙ not-true _ (v .if2 .taken))
-    (ap Refused (c .refuse2 .ensures)))  -- returns-2
-    (λ c κs. tt)  -- block-length-requires
-    (λ c κs. tt)  -- refuse-requires-3
-    (λ c.
-    let l = c .before in
-    let v = l .before .before in
-    let i = v .before .before in
-    rw (
-      sym (i .before .lengths-ok .ensures) ∙ not-false _ (i .if1 .left),
-      sym (v .before .is-valid .ensures) ∙ not-false _ (v .if2 .left),
-      sym (l .before .block-length .ensures) ∙ not-true _ (l .if3 .taken),
-    )
-    (ap Refused (c .refuse3 .ensures)))  -- returns-3
-    (λ c κs. tt)  -- first-bad-requires
-    (λ c κs. tt)  -- refuse-requires-4
-    (λ c.
-    let b = c .before in
-    let l = b .before .before in
-    let v = l .before .before in
-    let i = v .before .before in
-    rw (
-      sym (i .before .lengths-ok .ensures) ∙ not-false _ (i .if1 .left),
-      sym (v .before .is-valid .ensures) ∙ not-false _ (v .if2 .left),
-      sym (l .before .block-length .ensures) ∙ not-false _ (l .if3 .left),
-      ← (b .before .first-bad .ensures),
-      ne-eqb _ _ (b .if4 .taken),
-    )
-    (ap Refused (c .refuse4 .ensures)))  -- returns-4
-    (λ c κs.
-    let v = c .before .before .before .before in
-    let i = v .before .before in
-    let a = i .before .before .before .before .before .args in
-    let e = sym (i .before .lengths-ok .ensures) ∙ not-false _ (i .if1 .left) in
-    let f = sym (v .before .is-valid .ensures) ∙ not-false _ (v .if2 .left) in
-    (lengths-journal (a .journal .now) (a .adjacency .now) e, valid-journal (a .journal .now) (a .adjacency .now) f))  -- take-numbered-requires
-    (λ c.
-    let b = c .before in
-    let l = b .before .before in
-    let v = l .before .before in
-    let i = v .before .before in
-    rw (
-      sym (i .before .lengths-ok .ensures) ∙ not-false _ (i .if1 .left),
-      sym (v .before .is-valid .ensures) ∙ not-false _ (v .if2 .left),
-      sym (l .before .block-length .ensures) ∙ not-false _ (l .if3 .left),
-      ← (b .before .first-bad .ensures),
-      eq-eqb _ _ (b .if4 .left),
-    )
-    (c .take-numbered .ensures)))  -- returns-5
+    let m = c .before in
+    rw (← (m .before .before .state-check .ensures), m .enum-told .given .1) (c .take-on-valid .ensures)))  -- returns-2
