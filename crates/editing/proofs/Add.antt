@@ -1,16 +1,16 @@
 -- Adding an edge, on the definitions: what an answer Added rests on, and that an open pair of a valid laid state is always added.
 -- Assumes nothing.
-use mathlib.Core.Path.{_≡_, refl, subst, _∙_}
-use mathlib.Core.Bool.{Bool, true, false, not}
+use mathlib.Core.Path.{_≡_, sym, ap, subst, _∙_}
+use mathlib.Core.Bool.{true, not}
 use mathlib.Core.List.{List}
-use Prim.Native.Nat.{ℕ, _+_, min, max}
+use Prim.Native.Nat.{ℕ, _+_}
 use lib.Dec.{eqb, ltb}
 use lib.ListN.{length}
 use borrow.Author.Tests.{lt-ltb, eq-eqb, ne-eqb, ltb-true, eqb-true, eqb-false, not-true}
-use Rattle.answer.specs.Refusals.{refusal, unless}
-use Rattle.answer.specs.declared.Cause.the-variants.{Length, Invalid, Phase, VertexNumber, SameVertex, Linked, CellFull}
+use Rattle.answer.specs.declared.Refusal.{Refusal}
 use Rattle.answer.specs.declared.AddAnswer.{AddAnswer}
 use Rattle.answer.specs.declared.AddAnswer.the-variants.{Added, Refused}
+use Rattle.answer.proofs.Checks.{unless-passed, unless-stopped-passed}
 use Rattle.graph.specs.Graph.{atEdge}
 use Rattle.graph.specs.Target.{Open}
 use Rattle.graph.specs.Tests.{degrees}
@@ -19,8 +19,10 @@ use Rattle.graph.specs.Theorems.{AfterJoin}
 use Rattle.graph.proofs.Join.{join-works}
 use Rattle.journal.specs.Journal.{phase, jdmOf}
 use Rattle.adjacency.specs.Adjacency.{adjacencySize, edge}
+use Rattle.state.specs.Checks.{phaseVerdict}
 use Rattle.state.specs.Valid.{lengthsOk, valid}
 use Rattle.state.specs.Laid.{vertexCount, degreeAt, cellAt, isShort, edgeTotal}
+use Rattle.state.proofs.Checks.{phase-passed, phase-go}
 use Rattle.state.proofs.Facts.{StateFacts, Laid, valid-facts}
 use Rattle.state.proofs.Graph.{laid-valid}
 use Rattle.joining.specs.Join.{own, joinBytes, joinCount}
@@ -34,70 +36,48 @@ pub record AddFacts (j g : List ℕ) (v w : ℕ) : Type 0 where
   pub phased : phase j ≡ 1
   pub pair : Open (vertexCount j) (degreeAt j) (jdmOf j) (edge g) v w
 
--- the chain of checks, test by test
-abbrev Passed : Bool → Bool → Bool → Bool → Bool → Bool → Bool → Bool → ℕ → AddAnswer → Type 0
-Passed a b c d e f g h s (Added s′) =
-    (a ≡ true) × (b ≡ true) × (c ≡ true) × (d ≡ true) × (e ≡ true) × (f ≡ true) × (g ≡ true) × (h ≡ true) × (s′ ≡ s)
-Passed a b c d e f g h s (Refused r) = Unit {0}
+abbrev IsAdded : AddAnswer → Type 0
+IsAdded (Added s) = Unit {0}
+IsAdded (Refused r) = ⊥
 
-chain : (a b c d e f g h : Bool) (k l s : ℕ)
-    → Passed a b c d e f g h s
-    (unless a (Refused (refusal Length 0 0))
-    (unless b (Refused (refusal Invalid 0 0))
-    (unless c (Refused (refusal Phase 0 0))
-    (unless d (Refused (refusal VertexNumber 0 0))
-    (unless e (Refused (refusal VertexNumber 0 0))
-    (unless f (Refused (refusal SameVertex 0 0))
-    (unless g (Refused (refusal Linked 0 0))
-    (unless h (Refused (refusal CellFull k l))
-    (Added s)))))))))
-chain false b c d e f g h k l s = tt
-chain true false c d e f g h k l s = tt
-chain true true false d e f g h k l s = tt
-chain true true true false e f g h k l s = tt
-chain true true true true false f g h k l s = tt
-chain true true true true true false g h k l s = tt
-chain true true true true true true false h k l s = tt
-chain true true true true true true true false k l s = tt
-chain true true true true true true true true k l s = (refl, refl, refl, refl, refl, refl, refl, refl, refl)
+refused-not-added : (s : ℕ) (r : Refusal) → Refused r ≡ Added s → ⊥
+refused-not-added s r e = subst IsAdded (sym e) tt
 
 module _ (j g : List ℕ) (v w : ℕ) where
   pub added-facts : (s : ℕ) → addAnswer j g v w ≡ Added s → AddFacts j g v w × (s ≡ joinCount (vertexCount j) (degreeAt j) g v w)
-  added-facts s e = (
-    record {
-      lengths = p .0;
-      sound = p .1;
-      phased = eqb-true (phase j) 1 (p .2);
-      pair =
-          record {
-            first = ltb-true v (vertexCount j) (p .3);
-            second = ltb-true w (vertexCount j) (p .4);
-            distinct = eqb-false v w (not-true (eqb v w) (p .5));
-            unlinked = eqb-true (edge g v w) 0 (p .6);
-            short = ltb-true (cellAt j g (degreeAt j v) (degreeAt j w)) (jdmOf j (degreeAt j v) (degreeAt j w)) (p .7);
-          };
-    },
-    p .8,
-  )
+  added-facts s e =
+      let no = refused-not-added s in
+      let p = unless-stopped-passed (phaseVerdict 1 j g) Refused _ (Added s) no e in
+      let q = phase-passed 1 j g (p .0) in
+      let a = unless-passed (ltb v (vertexCount j)) _ _ (Added s) (no _) (p .1) in
+      let b = unless-passed (ltb w (vertexCount j)) _ _ (Added s) (no _) (a .1) in
+      let d = unless-passed (not (eqb v w)) _ _ (Added s) (no _) (b .1) in
+      let u = unless-passed (eqb (edge g v w) 0) _ _ (Added s) (no _) (d .1) in
+      let h = unless-passed (isShort j g (degreeAt j v) (degreeAt j w)) _ _ (Added s) (no _) (u .1) in (
+        record {
+          lengths = q .0;
+          sound = q .1;
+          phased = q .2;
+          pair =
+              record {
+                first = ltb-true v (vertexCount j) (a .0);
+                second = ltb-true w (vertexCount j) (b .0);
+                distinct = eqb-false v w (not-true (eqb v w) (d .0));
+                unlinked = eqb-true (edge g v w) 0 (u .0);
+                short = ltb-true (cellAt j g (degreeAt j v) (degreeAt j w)) (jdmOf j (degreeAt j v) (degreeAt j w)) (h .0);
+              };
+        },
+        ap count (sym (h .1)),
+      )
     where
-      n : ℕ
-      n = vertexCount j
-
-      p : Passed (lengthsOk j g) (valid j g) (eqb (phase j) 1) (ltb v (vertexCount j)) (ltb w (vertexCount j)) (not (eqb v w)) (eqb (edge g v w) 0)
-          (isShort j g (degreeAt j v) (degreeAt j w)) (joinCount (vertexCount j) (degreeAt j) g v w) (Added s)
-      p =
-          subst (Passed (lengthsOk j g) (valid j g) (eqb (phase j) 1) (ltb v (vertexCount j)) (ltb w (vertexCount j)) (not (eqb v w)) (eqb (edge g v w) 0)
-          (isShort j g (degreeAt j v) (degreeAt j w)) (joinCount (vertexCount j) (degreeAt j) g v w)) e
-          (chain (lengthsOk j g) (valid j g) (eqb (phase j) 1) (ltb v (vertexCount j)) (ltb w (vertexCount j)) (not (eqb v w)) (eqb (edge g v w) 0)
-          (isShort j g (degreeAt j v) (degreeAt j w)) (min (degreeAt j v) (degreeAt j w)) (max (degreeAt j v) (degreeAt j w))
-          (joinCount (vertexCount j) (degreeAt j) g v w))
+      count : AddAnswer → ℕ
+      count (Added n) = n
+      count (Refused r) = 0
 
   pub facts-added : AddFacts j g v w → addAnswer j g v w ≡ Added (joinCount (vertexCount j) (degreeAt j) g v w)
   facts-added f =
       rw (
-        f .lengths,
-        f .sound,
-        eq-eqb (phase j) 1 (f .phased),
+        phase-go 1 j g (f .lengths) (f .sound) (f .phased),
         lt-ltb v (vertexCount j) (f .pair .first),
         lt-ltb w (vertexCount j) (f .pair .second),
         ne-eqb v w (f .pair .distinct),

@@ -1,7 +1,7 @@
 -- Removing an edge, on the definitions: what an answer Removed rests on, and that it leaves the state valid with exactly one edge less.
 -- Assumes nothing.
-use mathlib.Core.Path.{_≡_, refl, subst, _∙_}
-use mathlib.Core.Bool.{Bool, true, false, not}
+use mathlib.Core.Path.{_≡_, sym, subst, _∙_}
+use mathlib.Core.Bool.{true, not}
 use mathlib.Core.List.{List}
 use mathlib.Core.Logic.{_≢_}
 use Prim.Native.Nat.{ℕ, _+_, _≤_, _<_}
@@ -9,10 +9,10 @@ use native.Mathlib.Omega.{arith}
 use lib.Dec.{eqb, ltb}
 use lib.ListN.{length}
 use borrow.Author.Tests.{lt-ltb, eq-eqb, ne-eqb, ltb-true, eqb-true, eqb-false, not-true}
-use Rattle.answer.specs.Refusals.{refusal, unless}
-use Rattle.answer.specs.declared.Cause.the-variants.{Length, Invalid, Phase, VertexNumber, SameVertex, NotLinked}
+use Rattle.answer.specs.declared.Refusal.{Refusal}
 use Rattle.answer.specs.declared.RemoveAnswer.{RemoveAnswer}
 use Rattle.answer.specs.declared.RemoveAnswer.the-variants.{Removed, Refused}
+use Rattle.answer.proofs.Checks.{unless-passed, unless-stopped-passed}
 use Rattle.graph.specs.Graph.{Simple, AddsEdge}
 use Rattle.graph.specs.Target.{Partial}
 use Rattle.graph.specs.Tests.{degrees}
@@ -22,8 +22,10 @@ use Rattle.journal.specs.Journal.{phase, jdmOf}
 use Rattle.adjacency.specs.Adjacency.{adjacencySize, edge, setEdge}
 use Rattle.adjacency.proofs.Facts.{ZeroOutside}
 use Rattle.adjacency.proofs.Set.{set-length, set-removes, set-outside}
+use Rattle.state.specs.Checks.{phaseVerdict}
 use Rattle.state.specs.Valid.{lengthsOk, valid}
 use Rattle.state.specs.Laid.{vertexCount, degreeAt, edgeTotal}
+use Rattle.state.proofs.Checks.{phase-passed, phase-go}
 use Rattle.state.proofs.Facts.{StateFacts, Laid, valid-facts, lengths-both}
 use Rattle.state.proofs.Graph.{laid-valid}
 use Rattle.editing.specs.Remove.{removeAnswer}
@@ -38,54 +40,37 @@ pub record RemoveFacts (j g : List ℕ) (v w : ℕ) : Type 0 where
   pub distinct : v ≢ w
   pub linked : edge g v w ≡ 1
 
--- the chain of checks, test by test
-abbrev Passed : Bool → Bool → Bool → Bool → Bool → Bool → Bool → RemoveAnswer → Type 0
-Passed a b c d e f g Removed = (a ≡ true) × (b ≡ true) × (c ≡ true) × (d ≡ true) × (e ≡ true) × (f ≡ true) × (g ≡ true)
-Passed a b c d e f g (Refused r) = Unit {0}
+abbrev IsRemoved : RemoveAnswer → Type 0
+IsRemoved Removed = Unit {0}
+IsRemoved (Refused r) = ⊥
 
-chain : (a b c d e f g : Bool)
-    → Passed a b c d e f g
-    (unless a (Refused (refusal Length 0 0))
-    (unless b (Refused (refusal Invalid 0 0))
-    (unless c (Refused (refusal Phase 0 0))
-    (unless d (Refused (refusal VertexNumber 0 0))
-    (unless e (Refused (refusal VertexNumber 0 0))
-    (unless f (Refused (refusal SameVertex 0 0))
-    (unless g (Refused (refusal NotLinked 0 0))
-    Removed)))))))
-chain false b c d e f g = tt
-chain true false c d e f g = tt
-chain true true false d e f g = tt
-chain true true true false e f g = tt
-chain true true true true false f g = tt
-chain true true true true true false g = tt
-chain true true true true true true false = tt
-chain true true true true true true true = (refl, refl, refl, refl, refl, refl, refl)
+refused-not-removed : (r : Refusal) → Refused r ≡ Removed → ⊥
+refused-not-removed r e = subst IsRemoved (sym e) tt
 
 module _ (j g : List ℕ) (v w : ℕ) where
   pub removed-facts : removeAnswer j g v w ≡ Removed → RemoveFacts j g v w
   removed-facts e =
+      let no = refused-not-removed in
+      let p = unless-stopped-passed (phaseVerdict 1 j g) Refused _ Removed no e in
+      let q = phase-passed 1 j g (p .0) in
+      let a = unless-passed (ltb v (vertexCount j)) _ _ Removed (no _) (p .1) in
+      let b = unless-passed (ltb w (vertexCount j)) _ _ Removed (no _) (a .1) in
+      let d = unless-passed (not (eqb v w)) _ _ Removed (no _) (b .1) in
+      let u = unless-passed (eqb (edge g v w) 1) _ _ Removed (no _) (d .1) in
       record {
-        lengths = p .0;
-        sound = p .1;
-        phased = eqb-true (phase j) 1 (p .2);
-        first = ltb-true v (vertexCount j) (p .3);
-        second = ltb-true w (vertexCount j) (p .4);
-        distinct = eqb-false v w (not-true (eqb v w) (p .5));
-        linked = eqb-true (edge g v w) 1 (p .6);
+        lengths = q .0;
+        sound = q .1;
+        phased = q .2;
+        first = ltb-true v (vertexCount j) (a .0);
+        second = ltb-true w (vertexCount j) (b .0);
+        distinct = eqb-false v w (not-true (eqb v w) (d .0));
+        linked = eqb-true (edge g v w) 1 (u .0);
       }
-    where
-      p : Passed (lengthsOk j g) (valid j g) (eqb (phase j) 1) (ltb v (vertexCount j)) (ltb w (vertexCount j)) (not (eqb v w)) (eqb (edge g v w) 1) Removed
-      p =
-          subst (Passed (lengthsOk j g) (valid j g) (eqb (phase j) 1) (ltb v (vertexCount j)) (ltb w (vertexCount j)) (not (eqb v w)) (eqb (edge g v w) 1)) e
-          (chain (lengthsOk j g) (valid j g) (eqb (phase j) 1) (ltb v (vertexCount j)) (ltb w (vertexCount j)) (not (eqb v w)) (eqb (edge g v w) 1))
 
   pub facts-removed : RemoveFacts j g v w → removeAnswer j g v w ≡ Removed
   facts-removed f =
       rw (
-        f .lengths,
-        f .sound,
-        eq-eqb (phase j) 1 (f .phased),
+        phase-go 1 j g (f .lengths) (f .sound) (f .phased),
         lt-ltb v (vertexCount j) (f .first),
         lt-ltb w (vertexCount j) (f .second),
         ne-eqb v w (f .distinct),

@@ -4,13 +4,12 @@ use mathlib.Core.Bool.{not}
 use mathlib.Core.List.{List}
 use Prim.Native.Nat.{ℕ, min, max}
 use lib.Dec.{eqb, ltb}
-use Rattle.answer.specs.Refusals.{refusal, unless}
-use Rattle.answer.specs.declared.Cause.the-variants.{Length, Invalid, Phase, VertexNumber, SameVertex, Linked, CellFull}
+use Rattle.answer.specs.Refusals.{refusal, unless, unlessStopped}
+use Rattle.answer.specs.declared.Cause.the-variants.{VertexNumber, SameVertex, Linked, CellFull}
 use Rattle.answer.specs.declared.AddAnswer.{AddAnswer}
 use Rattle.answer.specs.declared.AddAnswer.the-variants.{Added, Refused}
-use Rattle.journal.specs.Journal.{phase}
 use Rattle.adjacency.specs.Adjacency.{edge}
-use Rattle.state.specs.Valid.{lengthsOk, valid}
+use Rattle.state.specs.Checks.{phaseVerdict}
 use Rattle.state.specs.Laid.{vertexCount, degreeAt, isShort}
 use Rattle.joining.specs.Join.{joinBytes, joinCount}
 
@@ -25,13 +24,9 @@ addLaid j g v w =
     (Refused (refusal CellFull (min (degreeAt j v) (degreeAt j w)) (max (degreeAt j v) (degreeAt j w))))
     (Added (joinCount (vertexCount j) (degreeAt j) g v w))))))
 
--- the checks 1, 2, 3, 13, 14, 15, 16
+-- the checks 1, 2, 3, then 13, 14, 15, 16
 abbrev pub addAnswer : List ℕ → List ℕ → ℕ → ℕ → AddAnswer
-addAnswer j g v w =
-    unless (lengthsOk j g) (Refused (refusal Length 0 0))
-    (unless (valid j g) (Refused (refusal Invalid 0 0))
-    (unless (eqb (phase j) 1) (Refused (refusal Phase 0 0))
-    (addLaid j g v w)))
+addAnswer j g v w = unlessStopped (phaseVerdict 1 j g) Refused (addLaid j g v w)
 
 -- the matrix afterwards
 abbrev pub addAdjacency : AddAnswer → List ℕ → List ℕ → ℕ → ℕ → List ℕ

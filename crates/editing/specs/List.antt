@@ -7,13 +7,12 @@ use lib.Dec.{eqb, ltb, leb}
 use lib.ListN.{length}
 use lib.Seq.{sets}
 use Rattle.finite.specs.Range.{catTo}
-use Rattle.answer.specs.Refusals.{refusal, unless}
-use Rattle.answer.specs.declared.Cause.the-variants.{Length, Invalid, Phase, OutputLength}
+use Rattle.answer.specs.Refusals.{refusal, unless, unlessStopped}
+use Rattle.answer.specs.declared.Cause.the-variants.{OutputLength}
 use Rattle.answer.specs.declared.WrittenAnswer.{WrittenAnswer}
 use Rattle.answer.specs.declared.WrittenAnswer.the-variants.{Written, Refused}
-use Rattle.journal.specs.Journal.{phase}
 use Rattle.adjacency.specs.Adjacency.{edge}
-use Rattle.state.specs.Valid.{lengthsOk, valid}
+use Rattle.state.specs.Checks.{phaseVerdict}
 use Rattle.state.specs.Laid.{vertexCount}
 
 -- the bytes of the edge v – w, where it is one and v < w
@@ -30,13 +29,9 @@ listLaid j g m =
     unless (leb (length (listBytes (vertexCount j) g)) m) (Refused (refusal OutputLength 0 0))
     (Written (length (listBytes (vertexCount j) g)))
 
--- the checks 1, 2, 3, 18
+-- the checks 1, 2, 3, then 18
 abbrev pub listAnswer : List ℕ → List ℕ → ℕ → WrittenAnswer
-listAnswer j g m =
-    unless (lengthsOk j g) (Refused (refusal Length 0 0))
-    (unless (valid j g) (Refused (refusal Invalid 0 0))
-    (unless (eqb (phase j) 1) (Refused (refusal Phase 0 0))
-    (listLaid j g m)))
+listAnswer j g m = unlessStopped (phaseVerdict 1 j g) Refused (listLaid j g m)
 
 -- the output afterwards: the list, and behind it what was there
 abbrev pub listOutput : WrittenAnswer → List ℕ → List ℕ → List ℕ → List ℕ

@@ -4,13 +4,12 @@ use mathlib.Core.Bool.{not}
 use mathlib.Core.List.{List}
 use Prim.Native.Nat.{ℕ}
 use lib.Dec.{eqb, ltb}
-use Rattle.answer.specs.Refusals.{refusal, unless}
-use Rattle.answer.specs.declared.Cause.the-variants.{Length, Invalid, Phase, VertexNumber, SameVertex, NotLinked}
+use Rattle.answer.specs.Refusals.{refusal, unless, unlessStopped}
+use Rattle.answer.specs.declared.Cause.the-variants.{VertexNumber, SameVertex, NotLinked}
 use Rattle.answer.specs.declared.RemoveAnswer.{RemoveAnswer}
 use Rattle.answer.specs.declared.RemoveAnswer.the-variants.{Removed, Refused}
-use Rattle.journal.specs.Journal.{phase}
 use Rattle.adjacency.specs.Adjacency.{edge, setEdge}
-use Rattle.state.specs.Valid.{lengthsOk, valid}
+use Rattle.state.specs.Checks.{phaseVerdict}
 use Rattle.state.specs.Laid.{vertexCount}
 
 -- on a valid laid state: the checks 13, 14, 17
@@ -22,13 +21,9 @@ removeLaid j g v w =
     (unless (eqb (edge g v w) 1) (Refused (refusal NotLinked 0 0))
     Removed)))
 
--- the checks 1, 2, 3, 13, 14, 17
+-- the checks 1, 2, 3, then 13, 14, 17
 abbrev pub removeAnswer : List ℕ → List ℕ → ℕ → ℕ → RemoveAnswer
-removeAnswer j g v w =
-    unless (lengthsOk j g) (Refused (refusal Length 0 0))
-    (unless (valid j g) (Refused (refusal Invalid 0 0))
-    (unless (eqb (phase j) 1) (Refused (refusal Phase 0 0))
-    (removeLaid j g v w)))
+removeAnswer j g v w = unlessStopped (phaseVerdict 1 j g) Refused (removeLaid j g v w)
 
 -- the matrix afterwards
 abbrev pub removeAdjacency : RemoveAnswer → List ℕ → ℕ → ℕ → List ℕ

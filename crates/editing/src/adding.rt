@@ -19,12 +19,11 @@ use adjacency::edge_at;
 use answer::AddAnswer;
 use answer::Cause;
 use answer::Refusal;
+use answer::Verdict;
 use answer::refuse;
 use journal::cells_of;
-use journal::phase_of;
 use slices::wide;
-use state::is_valid;
-use state::lengths_ok;
+use state::phase_check;
 use table::layout::classes;
 use table::layout::counts;
 use table::layout::vertex_count;
@@ -105,14 +104,9 @@ pub fn add_edge(journal: &[u8], adjacency: &mut [u8], v: usize, w: usize) -> Add
     ensures { λ r. ⌜ r ≡ addAnswer (now (journal .entry)) (now (adjacency .entry)) v w ⌝ }
     ensures { λ _. ⌜ now (adjacency .exit) ≡ addAdjacency (addAnswer (now (journal .entry)) (now (adjacency .entry)) v w) (now (journal .entry)) (now (adjacency .entry)) v w ⌝ }
 {
-    if !lengths_ok(journal, adjacency) {
-        return AddAnswer::Refused(refuse(Cause::Length, 0, 0));
+    let verdict = phase_check(journal, adjacency, 1);
+    match verdict {
+        Verdict::Stop(r) => AddAnswer::Refused(r),
+        Verdict::Go => add_laid(journal, adjacency, v, w),
     }
-    if !is_valid(journal, adjacency) {
-        return AddAnswer::Refused(refuse(Cause::Invalid, 0, 0));
-    }
-    if phase_of(journal) != 1 {
-        return AddAnswer::Refused(refuse(Cause::Phase, 0, 0));
-    }
-    add_laid(journal, adjacency, v, w)
 }

@@ -13,11 +13,10 @@ ghost use Rattle.editing.specs.List.{edgeBytes, listBytes, listLaid, lis
 use crate::laid::laid_vertices;
 use adjacency::SIDE;
 use answer::Cause;
+use answer::Verdict;
 use answer::WrittenAnswer;
 use answer::refuse;
-use journal::phase_of;
-use state::is_valid;
-use state::lengths_ok;
+use state::phase_check;
 
 // The bytes of the edge v – w, if it is one, written at place at. The place behind them.
 fn put_edge(adjacency: &[u8], v: usize, w: usize, output: &mut [u8], at: usize) -> usize
@@ -79,14 +78,9 @@ pub fn edge_list(journal: &[u8], adjacency: &[u8], output: &mut [u8]) -> Written
     ensures { λ r. ⌜ r ≡ listAnswer (now (journal .entry)) (now (adjacency .entry)) (length (now (output .entry))) ⌝ }
     ensures { λ _. ⌜ now (output .exit) ≡ listOutput (listAnswer (now (journal .entry)) (now (adjacency .entry)) (length (now (output .entry)))) (now (journal .entry)) (now (adjacency .entry)) (now (output .entry)) ⌝ }
 {
-    if !lengths_ok(journal, adjacency) {
-        return WrittenAnswer::Refused(refuse(Cause::Length, 0, 0));
+    let verdict = phase_check(journal, adjacency, 1);
+    match verdict {
+        Verdict::Stop(r) => WrittenAnswer::Refused(r),
+        Verdict::Go => list_laid(journal, adjacency, output),
     }
-    if !is_valid(journal, adjacency) {
-        return WrittenAnswer::Refused(refuse(Cause::Invalid, 0, 0));
-    }
-    if phase_of(journal) != 1 {
-        return WrittenAnswer::Refused(refuse(Cause::Phase, 0, 0));
-    }
-    list_laid(journal, adjacency, output)
 }

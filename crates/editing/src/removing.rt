@@ -12,10 +12,9 @@ use adjacency::edge_at;
 use adjacency::set_edge;
 use answer::Cause;
 use answer::RemoveAnswer;
+use answer::Verdict;
 use answer::refuse;
-use journal::phase_of;
-use state::is_valid;
-use state::lengths_ok;
+use state::phase_check;
 
 // On a valid laid state: the checks 13, 14 and 17, then the edge.
 fn remove_laid(journal: &[u8], adjacency: &mut [u8], v: usize, w: usize) -> RemoveAnswer
@@ -44,14 +43,9 @@ pub fn remove_edge(journal: &[u8], adjacency: &mut [u8], v: usize, w: usize) -> 
     ensures { λ r. ⌜ r ≡ removeAnswer (now (journal .entry)) (now (adjacency .entry)) v w ⌝ }
     ensures { λ _. ⌜ now (adjacency .exit) ≡ removeAdjacency (removeAnswer (now (journal .entry)) (now (adjacency .entry)) v w) (now (adjacency .entry)) v w ⌝ }
 {
-    if !lengths_ok(journal, adjacency) {
-        return RemoveAnswer::Refused(refuse(Cause::Length, 0, 0));
+    let verdict = phase_check(journal, adjacency, 1);
+    match verdict {
+        Verdict::Stop(r) => RemoveAnswer::Refused(r),
+        Verdict::Go => remove_laid(journal, adjacency, v, w),
     }
-    if !is_valid(journal, adjacency) {
-        return RemoveAnswer::Refused(refuse(Cause::Invalid, 0, 0));
-    }
-    if phase_of(journal) != 1 {
-        return RemoveAnswer::Refused(refuse(Cause::Phase, 0, 0));
-    }
-    remove_laid(journal, adjacency, v, w)
 }
