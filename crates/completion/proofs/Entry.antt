@@ -1,17 +1,15 @@
 -- Completing, on the definitions: from every valid laid state it is not refused, makes exactly the joins that are missing, leaves the state
 -- valid, and the matrix then holds a simple graph with the summed table.
 -- Assumes nothing.
-use mathlib.Core.Path.{_≡_, refl, ap, subst}
-use mathlib.Core.Bool.{Bool, true, false}
+use mathlib.Core.Path.{_≡_, sym, ap, subst}
+use mathlib.Core.Bool.{true}
 use mathlib.Core.List.{List}
 use Prim.Native.Nat.{ℕ, _+_, _*_}
 use native.Mathlib.Omega.{arith}
-use lib.Dec.{eqb}
-use borrow.Author.Tests.{eq-eqb, eqb-true}
-use Rattle.answer.specs.Refusals.{refusal, unless}
-use Rattle.answer.specs.declared.Cause.the-variants.{Length, Invalid, Phase}
+use Rattle.answer.specs.declared.Refusal.{Refusal}
 use Rattle.answer.specs.declared.CompleteAnswer.{CompleteAnswer}
 use Rattle.answer.specs.declared.CompleteAnswer.the-variants.{Completed, Refused}
+use Rattle.answer.proofs.Checks.{unless-stopped-passed}
 use Rattle.finite.specs.Range.{sumTo}
 use Rattle.graph.specs.Graph.{Simple, ownJdm}
 use Rattle.graph.specs.Tests.{degrees, rowSum}
@@ -20,8 +18,10 @@ use Rattle.graph.proofs.Realizability.{has-table}
 use Rattle.journal.specs.Journal.{phase, jdmOf}
 use Rattle.journal.proofs.Table.{jdm-table}
 use Rattle.adjacency.specs.Adjacency.{edge}
+use Rattle.state.specs.Checks.{phaseVerdict}
 use Rattle.state.specs.Valid.{lengthsOk, valid}
 use Rattle.state.specs.Laid.{vertexCount, degreeAt, edgeTotal}
+use Rattle.state.proofs.Checks.{phase-passed, phase-go}
 use Rattle.state.proofs.Facts.{StateFacts, Laid, valid-facts, lengths-both}
 use Rattle.state.proofs.Graph.{laid-valid}
 use Rattle.completion.specs.Complete.{Ran, completed, completeAnswer, completeAdjacency}
@@ -34,32 +34,31 @@ pub record CompleteFacts (j g : List ℕ) : Type 0 where
   pub sound : valid j g ≡ true
   pub phased : phase j ≡ 1
 
--- the chain of checks, test by test
-abbrev Passed : Bool → Bool → Bool → ℕ → ℕ → CompleteAnswer → Type 0
-Passed a b c i s (Completed i′ s′) = (a ≡ true) × (b ≡ true) × (c ≡ true) × (i′ ≡ i) × (s′ ≡ s)
-Passed a b c i s (Refused r) = Unit {0}
+abbrev IsCompleted : CompleteAnswer → Type 0
+IsCompleted (Completed joins switches) = Unit {0}
+IsCompleted (Refused r) = ⊥
 
-chain : (a b c : Bool) (i s : ℕ)
-    → Passed a b c i s
-    (unless a (Refused (refusal Length 0 0))
-    (unless b (Refused (refusal Invalid 0 0))
-    (unless c (Refused (refusal Phase 0 0))
-    (Completed i s))))
-chain false b c i s = tt
-chain true false c i s = tt
-chain true true false i s = tt
-chain true true true i s = (refl, refl, refl, refl, refl)
+refused-not-completed : (joins switches : ℕ) (r : Refusal) → Refused r ≡ Completed joins switches → ⊥
+refused-not-completed joins switches r e = subst IsCompleted (sym e) tt
 
 module _ (j g : List ℕ) where
   pub completed-facts : (joins switches : ℕ) → completeAnswer j g ≡ Completed joins switches
       → CompleteFacts j g × (joins ≡ completed j g .joins) × (switches ≡ completed j g .switches)
   completed-facts joins switches e =
-      let p = subst (Passed (lengthsOk j g) (valid j g) (eqb (phase j) 1) (completed j g .joins) (completed j g .switches)) e
-      (chain (lengthsOk j g) (valid j g) (eqb (phase j) 1) (completed j g .joins) (completed j g .switches)) in
-      (record { lengths = p .0; sound = p .1; phased = eqb-true (phase j) 1 (p .2) }, p .3, p .4)
+      let p = unless-stopped-passed (phaseVerdict 1 j g) Refused _ (Completed joins switches) (refused-not-completed joins switches) e in
+      let q = phase-passed 1 j g (p .0) in
+      (record { lengths = q .0; sound = q .1; phased = q .2 }, ap made (sym (p .1)), ap switched (sym (p .1)))
+    where
+      made : CompleteAnswer → ℕ
+      made (Completed i s) = i
+      made (Refused r) = 0
+
+      switched : CompleteAnswer → ℕ
+      switched (Completed i s) = s
+      switched (Refused r) = 0
 
   pub facts-completed : CompleteFacts j g → completeAnswer j g ≡ Completed (completed j g .joins) (completed j g .switches)
-  facts-completed f = rw (f .lengths, f .sound, eq-eqb (phase j) 1 (f .phased))
+  facts-completed f = rw (phase-go 1 j g (f .lengths) (f .sound) (f .phased))
 
   -- what a run that ends in r answers and leaves
   pub ran-answer : CompleteFacts j g → (r : Ran) → r ≡ completed j g

@@ -3,15 +3,14 @@
 use mathlib.Core.Bool.{Bool}
 use mathlib.Core.List.{List}
 use Prim.Native.Nat.{ℕ, _+_}
-use lib.Dec.{eqb, ltb}
+use lib.Dec.{ltb}
 use Rattle.finite.specs.Range.{iterate}
-use Rattle.answer.specs.Refusals.{refusal, unless}
-use Rattle.answer.specs.declared.Cause.the-variants.{Length, Invalid, Phase}
+use Rattle.answer.specs.Refusals.{unlessStopped}
 use Rattle.answer.specs.declared.CompleteAnswer.{CompleteAnswer}
 use Rattle.answer.specs.declared.CompleteAnswer.the-variants.{Completed, Refused}
 use Rattle.graph.specs.Tests.{degrees}
-use Rattle.journal.specs.Journal.{phase, jdmOf}
-use Rattle.state.specs.Valid.{lengthsOk, valid}
+use Rattle.journal.specs.Journal.{jdmOf}
+use Rattle.state.specs.Checks.{phaseVerdict}
 use Rattle.state.specs.Laid.{vertexCount, degreeAt}
 use Rattle.joining.specs.Join.{joinBytes, joinCount}
 use Rattle.completion.specs.Choice.{shortK, shortL, openV, openW}
@@ -58,11 +57,7 @@ completed j g = run mostEdges (vertexCount j) (degreeAt j) (jdmOf j) (record { a
 
 -- the checks 1, 2, 3
 abbrev pub completeAnswer : List ℕ → List ℕ → CompleteAnswer
-completeAnswer j g =
-    unless (lengthsOk j g) (Refused (refusal Length 0 0))
-    (unless (valid j g) (Refused (refusal Invalid 0 0))
-    (unless (eqb (phase j) 1) (Refused (refusal Phase 0 0))
-    (Completed (completed j g .joins) (completed j g .switches))))
+completeAnswer j g = unlessStopped (phaseVerdict 1 j g) Refused (Completed (completed j g .joins) (completed j g .switches))
 
 -- the matrix afterwards
 abbrev pub completeAdjacency : CompleteAnswer → List ℕ → List ℕ → List ℕ

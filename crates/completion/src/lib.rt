@@ -12,13 +12,10 @@ pub mod pair;
 
 use crate::cell::Totals;
 use crate::fill::complete_rows;
-use answer::Cause;
 use answer::CompleteAnswer;
-use answer::refuse;
+use answer::Verdict;
 use journal::cells_of;
-use journal::phase_of;
-use state::is_valid;
-use state::lengths_ok;
+use state::phase_check;
 use table::layout::classes;
 use table::layout::counts;
 use table::layout::vertex_count;
@@ -45,15 +42,12 @@ pub fn complete(journal: &[u8], adjacency: &mut [u8]) -> CompleteAnswer
     ensures { λ r. ⌜ r ≡ completeAnswer (now (journal .entry)) (now (adjacency .entry)) ⌝ }
     ensures { λ _. ⌜ now (adjacency .exit) ≡ completeAdjacency (completeAnswer (now (journal .entry)) (now (adjacency .entry))) (now (journal .entry)) (now (adjacency .entry)) ⌝ }
 {
-    if !lengths_ok(journal, adjacency) {
-        return CompleteAnswer::Refused(refuse(Cause::Length, 0, 0));
+    let verdict = phase_check(journal, adjacency, 1);
+    match verdict {
+        Verdict::Stop(r) => CompleteAnswer::Refused(r),
+        Verdict::Go => {
+            let totals = complete_laid(journal, adjacency);
+            CompleteAnswer::Completed(totals.joins, totals.switches)
+        }
     }
-    if !is_valid(journal, adjacency) {
-        return CompleteAnswer::Refused(refuse(Cause::Invalid, 0, 0));
-    }
-    if phase_of(journal) != 1 {
-        return CompleteAnswer::Refused(refuse(Cause::Phase, 0, 0));
-    }
-    let totals = complete_laid(journal, adjacency);
-    CompleteAnswer::Completed(totals.joins, totals.switches)
 }
