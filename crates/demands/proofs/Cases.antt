@@ -1,21 +1,20 @@
 -- The starred cases hold. A reached state is valid, so that the checks 1 and 2 of every call pass; what is left of the definitions is computed.
 -- Assumes nothing.
-use mathlib.Core.Path.{_≡_, refl, sym, ap, _∙_}
-use mathlib.Core.Bool.{Bool, true, false, _&&_, not, cond}
+use mathlib.Core.Path.{_≡_, refl, ap, _∙_}
+use mathlib.Core.Bool.{Bool, true, _&&_}
 use mathlib.Core.List.{List, [], _∷_}
-use Prim.Native.Nat.{ℕ, _+_}
-use lib.Dec.{eqb, ltb, leb}
+use Prim.Native.Nat.{ℕ}
+use lib.Dec.{eqb, ltb}
 use lib.ListN.{length}
-use Rattle.answer.specs.Refusals.{refusal, unless}
+use Rattle.answer.specs.Refusals.{refusal, stop, unless, unlessStopped}
 use Rattle.answer.specs.Numbers.{Numbers, takeNumbers, layOutNumbers, addNumbers, removeNumbers, completeNumbers, lengthNumbers, writtenNumbers, figuresNumbers}
-use Rattle.answer.specs.declared.Cause.the-variants.{Phase, BlockLength, Record, BlockNumber, OutputLength}
-use Rattle.answer.specs.declared.TakeAnswer.{TakeAnswer}
-use Rattle.answer.specs.declared.TakeAnswer.the-variants as Take
+use Rattle.answer.specs.declared.Cause.the-variants.{Phase, BlockNumber}
+use Rattle.answer.specs.declared.Verdict.{Verdict}
+use Rattle.answer.specs.declared.Verdict.the-variants.{Go}
 use Rattle.answer.specs.declared.LengthAnswer.{LengthAnswer}
 use Rattle.answer.specs.declared.LengthAnswer.the-variants as Len
 use Rattle.answer.specs.declared.LayOutAnswer.{LayOutAnswer}
 use Rattle.answer.specs.declared.LayOutAnswer.the-variants as LayOut
-use Rattle.answer.specs.declared.FiguresAnswer.{FiguresAnswer}
 use Rattle.answer.specs.declared.FiguresAnswer.the-variants as Figs
 use Rattle.answer.specs.declared.AddAnswer.{AddAnswer}
 use Rattle.answer.specs.declared.AddAnswer.the-variants as Add
@@ -27,17 +26,16 @@ use Rattle.answer.specs.declared.WrittenAnswer.{WrittenAnswer}
 use Rattle.answer.specs.declared.WrittenAnswer.the-variants as Write
 use Rattle.finite.specs.Range.{δ, sumTo, allTo, lowFrom, lowest, catTo, iterate}
 use Rattle.graph.specs.Graph.{jdm, edges}
-use Rattle.table.specs.Block.{blockLength, records, firstBad}
 use Rattle.table.specs.Layout.{vertices, layoutVerdict}
 use Rattle.journal.specs.Journal.{phase, blocks, slotLength, jdmOf}
-use Rattle.state.specs.Valid.{lengthsOk, valid}
-use Rattle.state.specs.Laid.{vertexCount}
-use Rattle.intake.specs.Take.{takeNumbered, takeJournal}
+use Rattle.state.specs.Checks.{stateVerdict}
+use Rattle.state.proofs.Checks.{state-go}
+use Rattle.intake.specs.Take.{takeOnValid, takeJournal}
 use Rattle.intake.specs.LayOut.{laidOut, layOutJournal}
 use Rattle.intake.specs.Figures.{figuresOf}
 use Rattle.editing.specs.Add.{addLaid, addAdjacency}
 use Rattle.editing.specs.Remove.{removeLaid, removeAdjacency}
-use Rattle.editing.specs.List.{listBytes}
+use Rattle.editing.specs.List.{listLaid}
 use Rattle.completion.specs.Complete.{completed, completeAdjacency}
 use Rattle.demands.specs.Calls.{Call, take, layOut, add, remove, complete, readBack, list, figures, State, cleared, after, afterAll}
 use Rattle.demands.specs.Tally.{Tally, noTally, told, tally}
@@ -45,36 +43,29 @@ use Rattle.demands.specs.Cases.{answerOf, answersOf, Case, sameNumbers, 
 use Rattle.demands.proofs.Reach.{Reach, reach-cleared, after-call}
 
 -- The answers past the checks 1 and 2.
-abbrev takeRest : List ℕ → ℕ → List ℕ → TakeAnswer
-takeRest j number b =
-    unless (blockLength (length b)) (Take.Refused (refusal BlockLength 0 0))
-    (unless (eqb (firstBad b) (records b)) (Take.Refused (refusal Record (firstBad b) 0))
-    (takeNumbered j number b))
+abbrev phaseRest : ℕ → List ℕ → Verdict
+phaseRest p j = unless (eqb (phase j) p) (stop Phase) Go
 
 abbrev layOutRest : List ℕ → LayOutAnswer
-layOutRest j = unless (eqb (phase j) 0) (LayOut.Refused (refusal Phase 0 0)) (laidOut (layoutVerdict (jdmOf j)) (vertices (jdmOf j)))
+layOutRest j = unlessStopped (phaseRest 0 j) LayOut.Refused (laidOut (layoutVerdict (jdmOf j)) (vertices (jdmOf j)))
 
 abbrev addRest : List ℕ → List ℕ → ℕ → ℕ → AddAnswer
-addRest j g v w = unless (eqb (phase j) 1) (Add.Refused (refusal Phase 0 0)) (addLaid j g v w)
+addRest j g v w = unlessStopped (phaseRest 1 j) Add.Refused (addLaid j g v w)
 
 abbrev removeRest : List ℕ → List ℕ → ℕ → ℕ → RemoveAnswer
-removeRest j g v w = unless (eqb (phase j) 1) (Remove.Refused (refusal Phase 0 0)) (removeLaid j g v w)
+removeRest j g v w = unlessStopped (phaseRest 1 j) Remove.Refused (removeLaid j g v w)
 
 abbrev completeRest : List ℕ → List ℕ → CompleteAnswer
-completeRest j g =
-    unless (eqb (phase j) 1) (Complete.Refused (refusal Phase 0 0)) (Complete.Completed (completed j g .joins) (completed j g .switches))
+completeRest j g = unlessStopped (phaseRest 1 j) Complete.Refused (Complete.Completed (completed j g .joins) (completed j g .switches))
 
 abbrev lengthRest : List ℕ → ℕ → LengthAnswer
 lengthRest j number = unless (ltb number (blocks j)) (Len.Refused (refusal BlockNumber 0 0)) (Len.Length (slotLength j number))
 
 abbrev listRest : List ℕ → List ℕ → ℕ → WrittenAnswer
-listRest j g m =
-    unless (eqb (phase j) 1) (Write.Refused (refusal Phase 0 0))
-    (unless (leb (length (listBytes (vertexCount j) g)) m) (Write.Refused (refusal OutputLength 0 0))
-    (Write.Written (length (listBytes (vertexCount j) g))))
+listRest j g m = unlessStopped (phaseRest 1 j) Write.Refused (listLaid j g m)
 
 abbrev answerRest : State → Call → Numbers
-answerRest s (take number b) = takeNumbers (takeRest (s .journal) number b)
+answerRest s (take number b) = takeNumbers (takeOnValid (s .journal) number b)
 answerRest s layOut = layOutNumbers (layOutRest (s .journal))
 answerRest s (add v w) = addNumbers (addRest (s .journal) (s .adjacency) v w)
 answerRest s (remove v w) = removeNumbers (removeRest (s .journal) (s .adjacency) v w)
@@ -84,7 +75,7 @@ answerRest s (list out) = writtenNumbers (listRest (s .journal) (s .adjacency) (
 answerRest s figures = figuresNumbers (Figs.Reported (figuresOf (eqb (phase (s .journal)) 0) (s .journal) (s .adjacency)))
 
 abbrev afterRest : State → Call → State
-afterRest s (take number b) = record { journal = takeJournal (takeRest (s .journal) number b) (s .journal) b; adjacency = s .adjacency }
+afterRest s (take number b) = record { journal = takeJournal (takeOnValid (s .journal) number b) (s .journal) b; adjacency = s .adjacency }
 afterRest s layOut = record { journal = layOutJournal (layOutRest (s .journal)) (s .journal); adjacency = s .adjacency }
 afterRest s (add v w) =
     record { journal = s .journal; adjacency = addAdjacency (addRest (s .journal) (s .adjacency) v w) (s .journal) (s .adjacency) v w }
@@ -106,22 +97,25 @@ answersRest s (c ∷ cs) = answerRest s c ∷ answersRest (afterRest s c) cs
 
 -- on a reached state both checks pass
 module _ (s : State) (t : Tally) (r : Reach s t) where
+  checked : stateVerdict (s .journal) (s .adjacency) ≡ Go
+  checked = state-go (s .journal) (s .adjacency) (r .lengths) (r .sound)
+
   answer-rest : (c : Call) → answerOf s c ≡ answerRest s c
-  answer-rest (take number b) = rw (r .lengths, r .sound)
-  answer-rest layOut = rw (r .lengths, r .sound)
-  answer-rest (add v w) = rw (r .lengths, r .sound)
-  answer-rest (remove v w) = rw (r .lengths, r .sound)
-  answer-rest complete = rw (r .lengths, r .sound)
-  answer-rest (readBack number) = rw (r .lengths, r .sound)
-  answer-rest (list out) = rw (r .lengths, r .sound)
-  answer-rest figures = rw (r .lengths, r .sound)
+  answer-rest (take number b) = rw checked
+  answer-rest layOut = rw checked
+  answer-rest (add v w) = rw checked
+  answer-rest (remove v w) = rw checked
+  answer-rest complete = rw checked
+  answer-rest (readBack number) = rw checked
+  answer-rest (list out) = rw checked
+  answer-rest figures = rw checked
 
   after-rest : (c : Call) → after s c ≡ afterRest s c
-  after-rest (take number b) = rw (r .lengths, r .sound)
-  after-rest layOut = rw (r .lengths, r .sound)
-  after-rest (add v w) = rw (r .lengths, r .sound)
-  after-rest (remove v w) = rw (r .lengths, r .sound)
-  after-rest complete = rw (r .lengths, r .sound)
+  after-rest (take number b) = rw checked
+  after-rest layOut = rw checked
+  after-rest (add v w) = rw checked
+  after-rest (remove v w) = rw checked
+  after-rest complete = rw checked
   after-rest (readBack number) = refl
   after-rest (list out) = refl
   after-rest figures = refl

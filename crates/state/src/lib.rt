@@ -1,7 +1,6 @@
 // The state: journal and adjacency together, and the checks of both with which every entry but clear begins.
 ghost use mathlib.Core.Path.{_≡_};
 ghost use mathlib.Core.Bool.{true};
-ghost use Prim.Native.Nat.{_+_, _≤_, _<_};
 ghost use lib.ListN.{length};
 ghost use Rattle.journal.specs.Journal.{journalSize, journalOk, jdmOf};
 ghost use Rattle.adjacency.specs.Adjacency.{adjacencySize};
@@ -46,7 +45,7 @@ fn is_laid_ok(journal: &[u8], adjacency: &[u8]) -> bool
     }
 }
 
-pub fn is_valid(journal: &[u8], adjacency: &[u8]) -> bool
+fn is_valid(journal: &[u8], adjacency: &[u8]) -> bool
     requires { ⌜ (length (now journal) ≡ journalSize) × (length (now adjacency) ≡ adjacencySize) ⌝ }
     ensures { λ r. ⌜ r ≡ valid (now (journal .entry)) (now (adjacency .entry)) ⌝ }
 {
