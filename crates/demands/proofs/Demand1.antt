@@ -232,44 +232,39 @@ demand-1 =
       );
       take = λ j g b number r e. (
         subst (OfTake (1 ∷ 2 ∷ 4 ∷ 5 ∷ 6 ∷ 7 ∷ 3 ∷ 8 ∷ [])) e
-            (behind OfTake (1 ∷ 2 ∷ 4 ∷ 5 ∷ 6 ∷ 7 ∷ 3 ∷ 8 ∷ []) (stateVerdict j g) Take.Refused (takeOnValid j number b)
-            (λ r h. h) (state-numbers j g (4 ∷ 5 ∷ 6 ∷ 7 ∷ 3 ∷ 8 ∷ []))
+            (behind OfTake _ (stateVerdict j g) Take.Refused (takeOnValid j number b) (λ r h. h) (state-numbers j g _)
             (take-chain (blockLength (length b)) (eqb (firstBad b) (records b)) (leb number (blocks j)) (ltb number (blocks j)) (sameBlock j number b)
             (eqb (phase j) 0) (ltb (blocks j) mostBlocks) (firstBad b) (blocks j + 1))),
         ap (λ (a : TakeAnswer). takeJournal a j b) e,
       );
       held = λ j g number r e. (
         subst (OfLength (1 ∷ 2 ∷ 6 ∷ [])) e
-            (behind OfLength (1 ∷ 2 ∷ 6 ∷ []) (stateVerdict j g) Len.Refused _ (λ r h. h) (state-numbers j g (6 ∷ []))
+            (behind OfLength _ (stateVerdict j g) Len.Refused _ (λ r h. h) (state-numbers j g _)
             (length-chain (ltb number (blocks j)) (slotLength j number))),
         ap (λ (a : LengthAnswer). heldPart a j number) e,
       );
       lay-out = λ j g r e. (
         subst (OfLayOut (1 ∷ 2 ∷ 3 ∷ 9 ∷ 10 ∷ 11 ∷ 12 ∷ [])) e
-            (behind OfLayOut (1 ∷ 2 ∷ 3 ∷ 9 ∷ 10 ∷ 11 ∷ 12 ∷ []) (phaseVerdict 0 j g) LayOut.Refused _ (λ r h. h)
-            (phase-numbers 0 j g (9 ∷ 10 ∷ 11 ∷ 12 ∷ []))
-            (behind OfLayOut (1 ∷ 2 ∷ 3 ∷ 9 ∷ 10 ∷ 11 ∷ 12 ∷ []) (layoutVerdict (jdmOf j)) LayOut.Refused
-            (LayOut.LaidOut (vertices (jdmOf j))) (λ r h. h) (verdict-numbers (jdmOf j)) tt)),
+            (behind OfLayOut _ (phaseVerdict 0 j g) LayOut.Refused _ (λ r h. h) (phase-numbers 0 j g _)
+            (behind OfLayOut _ (layoutVerdict (jdmOf j)) LayOut.Refused (LayOut.LaidOut (vertices (jdmOf j))) (λ r h. h) (verdict-numbers (jdmOf j)) tt)),
         ap (λ (a : LayOutAnswer). layOutJournal a j) e,
       );
       add = λ j g v w r e. (
         subst (OfAdd (1 ∷ 2 ∷ 3 ∷ 13 ∷ 14 ∷ 15 ∷ 16 ∷ [])) e
-            (behind OfAdd (1 ∷ 2 ∷ 3 ∷ 13 ∷ 14 ∷ 15 ∷ 16 ∷ []) (phaseVerdict 1 j g) Add.Refused (addLaid j g v w)
-            (λ r h. h) (phase-numbers 1 j g (13 ∷ 14 ∷ 15 ∷ 16 ∷ []))
+            (behind OfAdd _ (phaseVerdict 1 j g) Add.Refused (addLaid j g v w) (λ r h. h) (phase-numbers 1 j g _)
             (add-chain (ltb v (vertexCount j)) (ltb w (vertexCount j)) (not (eqb v w)) (eqb (edge g v w) 0) (isShort j g (degreeAt j v) (degreeAt j w))
             (min (degreeAt j v) (degreeAt j w)) (max (degreeAt j v) (degreeAt j w)) (joinCount (vertexCount j) (degreeAt j) g v w))),
         ap (λ (a : AddAnswer). addAdjacency a j g v w) e,
       );
       remove = λ j g v w r e. (
         subst (OfRemove (1 ∷ 2 ∷ 3 ∷ 13 ∷ 14 ∷ 17 ∷ [])) e
-            (behind OfRemove (1 ∷ 2 ∷ 3 ∷ 13 ∷ 14 ∷ 17 ∷ []) (phaseVerdict 1 j g) Remove.Refused (removeLaid j g v w)
-            (λ r h. h) (phase-numbers 1 j g (13 ∷ 14 ∷ 17 ∷ []))
+            (behind OfRemove _ (phaseVerdict 1 j g) Remove.Refused (removeLaid j g v w) (λ r h. h) (phase-numbers 1 j g _)
             (remove-chain (ltb v (vertexCount j)) (ltb w (vertexCount j)) (not (eqb v w)) (eqb (edge g v w) 1))),
         ap (λ (a : RemoveAnswer). removeAdjacency a g v w) e,
       );
       complete = λ j g r e. (
         subst (OfComplete (1 ∷ 2 ∷ 3 ∷ [])) e
-            (behind OfComplete (1 ∷ 2 ∷ 3 ∷ []) (phaseVerdict 1 j g) Complete.Refused _ (λ r h. h) (phase-numbers 1 j g []) tt),
+            (behind OfComplete _ (phaseVerdict 1 j g) Complete.Refused _ (λ r h. h) (phase-numbers 1 j g _) tt),
         ap (λ (a : CompleteAnswer). completeAdjacency a j g) e,
       );
       list = λ j g out r e. (
@@ -287,8 +282,7 @@ demand-1 =
           let h = subst (OfWritten (19 ∷ 20 ∷ 18 ∷ []) (length (surveyRecords e)) (length out)) p (survey-numbers e (length out)) in
           subst (SamePast n out) (sym (ap (λ (a : WrittenAnswer). surveyOutput a e out) p)) (past out (surveyRecords e) n (h .0) (h .1));
       figures = λ j g r e.
-          subst (OfFigures (1 ∷ 2 ∷ [])) e
-          (behind OfFigures (1 ∷ 2 ∷ []) (stateVerdict j g) Figs.Refused _ (λ r h. h) (state-numbers j g []) tt);
+          subst (OfFigures (1 ∷ 2 ∷ [])) e (behind OfFigures _ (stateVerdict j g) Figs.Refused _ (λ r h. h) (state-numbers j g _) tt);
     }
   where
     verdict-numbers : (T : ℕ → ℕ → ℕ) → OfVerdict (1 ∷ 2 ∷ 3 ∷ 9 ∷ 10 ∷ 11 ∷ 12 ∷ []) (layoutVerdict T)
