@@ -1,7 +1,7 @@
 // Document 01's numbers of each answer.
 ghost use mathlib.Core.Path.{_≡_};
 ghost use Prim.Native.Nat.{ℕ, _<_};
-ghost use Rattle.answer.specs.Numbers.{done, refused, clearNumbers, takeNumbers, layOutNumbers, figuresNumbers, addNumbers, removeNumbers, completeNumbers, writtenNumbers};
+ghost use Rattle.answer.specs.Numbers.{refused, clearNumbers, takeNumbers, layOutNumbers, figuresNumbers, addNumbers, removeNumbers, completeNumbers, writtenNumbers};
 ghost use Rattle.capi.specs.Flat.{flat, heldNumbers};
 use crate::ReplicaAnswer;
 use answer::AddAnswer;

@@ -4,7 +4,7 @@
 use mathlib.Core.Path.{_≡_, refl, sym, ap, subst, fun-ext, _∙_}
 use mathlib.Core.Bool.{Bool, true, false, _&&_, _||_, not, cond, true≢false}
 use mathlib.Core.List.{List, [], _∷_, _++_}
-use Prim.Native.Nat.{ℕ, _+_, _≤_, _<_}
+use Prim.Native.Nat.{ℕ, _+_, _<_}
 use native.Mathlib.Nat.{zero-add, add-zero, add-assoc}
 use native.Mathlib.Decide.{ℕ-discrete, decLt}
 use native.Mathlib.Omega.{arith}
@@ -26,18 +26,17 @@ use Rattle.journal.specs.Journal.{phase, blocks, jdmOf}
 use Rattle.adjacency.specs.Adjacency.{edge}
 use Rattle.state.specs.Valid.{lengthsOk, valid}
 use Rattle.state.specs.Laid.{vertexCount}
-use Rattle.intake.specs.Take.{takeAnswer, takeJournal}
-use Rattle.intake.specs.LayOut.{layOutAnswer, layOutJournal}
-use Rattle.intake.proofs.Take.{isTaken, isNext, taken-facts, held-facts, take-taken}
+use Rattle.intake.specs.Take.{takeAnswer}
+use Rattle.intake.proofs.Take.{isTaken, taken-facts, held-facts, take-taken}
 use Rattle.intake.proofs.LayOut.{lay-out-laid-out}
 use Rattle.editing.specs.Add.{addAnswer, addAdjacency}
 use Rattle.editing.specs.Remove.{removeAnswer, removeAdjacency}
-use Rattle.completion.specs.Complete.{completed, completeAnswer, completeAdjacency}
+use Rattle.completion.specs.Complete.{completeAnswer, completeAdjacency}
 use Rattle.completion.proofs.Entry.{CompleteFacts, completed-facts, facts-completed, complete-works}
 use Rattle.demands.specs.Calls.{Call, take, layOut, add, remove, complete, readBack, list, figures, State, cleared, after, afterAll}
 use Rattle.demands.specs.Tally.{Tally, noTally, told, toldAdd, toldRemove, toldComplete, counts, withBlock, laysOut, nowLaid, tally, tallyAll}
 use Rattle.demands.specs.Demand2.{accepted, member, answered, answeredSum, addRefused, removeRefused, quiet, Demand2}
-use Rattle.demands.proofs.Reach.{Reach, reach, reach-from, reach-cleared, after-call, same-next}
+use Rattle.demands.proofs.Reach.{Reach, reach, reach-cleared, after-call, same-next}
 
 -- the numbers that came already are those below m
 abbrev Seen : List ℕ → ℕ → Type 0

@@ -1,29 +1,26 @@
 -- Demand 3 (specs/Demand3.antt), over every list of calls, from what every reached state is (proofs/Reach.antt).
 -- Assumes nothing.
-use mathlib.Core.Path.{_≡_, refl, sym, ap, subst, _∙_}
-use mathlib.Core.Bool.{Bool, true, false}
+use mathlib.Core.Path.{_≡_, sym, ap, subst, _∙_}
+use mathlib.Core.Bool.{true, false}
 use mathlib.Core.List.{List}
-use mathlib.Core.Logic.{_↔_, _≢_}
-use Prim.Native.Nat.{ℕ, _+_, _*_, _≤_, _<_}
+use mathlib.Core.Logic.{_↔_}
+use Prim.Native.Nat.{ℕ, _+_, _<_}
 use native.Mathlib.Omega.{arith}
-use Rattle.finite.specs.Range.{sumTo}
-use Rattle.graph.specs.Graph.{Simple, jdm, edges}
-use Rattle.graph.specs.Target.{Partial, Open}
-use Rattle.graph.specs.Tests.{degrees, rowSum}
+use Rattle.graph.specs.Graph.{Simple, edges}
+use Rattle.graph.specs.Target.{Open}
+use Rattle.graph.specs.Tests.{degrees}
 use Rattle.graph.specs.Theorems.{Realized}
 use Rattle.graph.proofs.OpenPair.{short-has-open-pair}
 use Rattle.graph.proofs.Necessary.{necessary-always}
-use Rattle.graph.proofs.Join.{turned}
 use Rattle.answer.specs.declared.AddAnswer.{AddAnswer}
 use Rattle.answer.specs.declared.AddAnswer.the-variants.{Added}
 use Rattle.answer.specs.declared.CompleteAnswer.{CompleteAnswer}
 use Rattle.answer.specs.declared.CompleteAnswer.the-variants.{Completed}
-use Rattle.table.specs.Layout.{vertices, vertexDegree}
 use Rattle.journal.specs.Journal.{phase, jdmOf}
 use Rattle.journal.proofs.Table.{jdm-table}
 use Rattle.adjacency.specs.Adjacency.{edge}
 use Rattle.state.specs.Valid.{valid}
-use Rattle.state.specs.Laid.{vertexCount, degreeAt, cellAt, edgeTotal}
+use Rattle.state.specs.Laid.{vertexCount, degreeAt, edgeTotal}
 use Rattle.state.proofs.Facts.{StateFacts, Laid, valid-facts}
 use Rattle.intake.proofs.LayOut.{lay-out-honest}
 use Rattle.editing.specs.Add.{addAnswer, addAdjacency}
@@ -31,7 +28,7 @@ use Rattle.editing.proofs.Add.{AddFacts, facts-added, AddWorks, add-works}
 use Rattle.joining.specs.Join.{joinBytes, joinCount}
 use Rattle.completion.specs.Complete.{completed, completeAnswer, completeAdjacency}
 use Rattle.completion.proofs.Entry.{CompleteFacts, facts-completed, CompleteWorks, complete-works}
-use Rattle.demands.specs.Calls.{Call, add, complete, State, cleared, after, afterAll}
+use Rattle.demands.specs.Calls.{State, cleared, afterAll}
 use Rattle.demands.specs.Tally.{Tally, noTally, tallyAll}
 use Rattle.demands.specs.Demand3 as D
 use Rattle.demands.proofs.Reach.{Reach, reach, laid-counted, phase-0, phase-1}

@@ -1,32 +1,30 @@
 -- Listing a laid state and surveying the list gives the matrix of its graph (specs/Listed.antt).
 -- Assumes nothing.
-use mathlib.Core.Path.{_≡_, refl, sym, ap, fun-ext, _∙_}
-use mathlib.Core.Bool.{Bool, true, false, not}
+use mathlib.Core.Path.{_≡_, refl, ap, fun-ext}
+use mathlib.Core.Bool.{not}
 use mathlib.Core.List.{List}
 use mathlib.Core.Logic.{inl, inr}
-use Prim.Native.Nat.{ℕ, _+_, _-_, _*_, _%_, _≤_, _<_}
-use native.Mathlib.Nat.{add-zero}
+use Prim.Native.Nat.{ℕ, _+_, _-_, _%_, _≤_, _<_}
 use native.Mathlib.Decide.{decLt}
 use native.Mathlib.Omega.{arith}
-use lib.Dec.{eqb, ltb, leb}
+use lib.Dec.{ltb}
 use lib.ListN.{length}
 use borrow.Author.Tests.{eq-eqb, le-ltb, le-leb}
-use Rattle.finite.specs.Range.{sumTo, lowest}
+use Rattle.finite.specs.Range.{sumTo}
 use Rattle.finite.proofs.Lowest.{lowest-none}
 use Rattle.finite.proofs.Sum.{sumTo-split, sumTo-zero}
 use Rattle.graph.specs.Graph.{degree, ownJdm}
 use Rattle.graph.specs.Tests.{mostDegree}
 use Rattle.graph.proofs.Edge.{degree-same}
 use Rattle.table.specs.Layout.{mostVertices}
-use Rattle.journal.specs.Journal.{jdmOf}
 use Rattle.adjacency.specs.Adjacency.{edge}
-use Rattle.state.specs.Laid.{vertexCount, degreeAt}
+use Rattle.state.specs.Laid.{vertexCount}
 use Rattle.state.proofs.Facts.{Laid, valid-facts}
 use Rattle.editing.specs.List.{listBytes}
 use Rattle.editing.proofs.List.{list-length}
 use Rattle.editing.proofs.Listed.{list-good, list-graph, list-jdm}
 use Rattle.survey.specs.EdgeList.{listed, goodEdge, firstBadEdge, graphOf}
-use Rattle.survey.specs.Survey.{firstAbove, recordsOf, surveyRecords, surveyAnswer}
+use Rattle.survey.specs.Survey.{firstAbove, recordsOf, surveyRecords}
 use Rattle.demands.specs.Listed.{ListSurveyed}
 
 module _ (j g : List ℕ) (laid : Laid j g) where

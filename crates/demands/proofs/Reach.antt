@@ -4,7 +4,7 @@
 use mathlib.Core.Path.{_≡_, refl, sym, ap, subst, _∙_}
 use mathlib.Core.Bool.{Bool, true, false, _&&_, not, cond, true≢false}
 use mathlib.Core.List.{List, [], _∷_}
-use Prim.Native.Nat.{ℕ, _+_, _-_, _≤_, _<_}
+use Prim.Native.Nat.{ℕ, _+_, _-_}
 use native.Mathlib.Omega.{arith}
 use lib.Dec.{eqb, ltb, leb}
 use Rattle.answer.specs.declared.TakeAnswer.{TakeAnswer}
@@ -26,7 +26,7 @@ use Rattle.journal.proofs.Laid.{blocks-laid, jdm-laid, phase-laid}
 use Rattle.adjacency.proofs.Empty.{no-edges}
 use Rattle.state.specs.Valid.{lengthsOk, valid}
 use Rattle.state.specs.Laid.{edgeTotal}
-use Rattle.state.proofs.Facts.{StateFacts, valid-facts, lengths-journal, valid-journal}
+use Rattle.state.proofs.Facts.{valid-facts, lengths-journal, valid-journal}
 use Rattle.intake.specs.Take.{takeAnswer, takeJournal}
 use Rattle.intake.specs.LayOut.{layOutAnswer, layOutJournal}
 use Rattle.intake.proofs.Clear.{cleared-state}

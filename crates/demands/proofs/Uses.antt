@@ -1,6 +1,6 @@
 -- What a user takes from the theorems, clause by clause. A weaker statement of demand 3, or a tally that counts a block twice, would not give it.
 -- Assumes nothing.
-use mathlib.Core.Path.{_≡_, refl, sym, ap, _∙_}
+use mathlib.Core.Path.{_≡_, ap}
 use mathlib.Core.Bool.{Bool, true, false, _&&_, not, cond}
 use mathlib.Core.List.{List}
 use Prim.Native.Nat.{ℕ, _+_}
@@ -11,7 +11,7 @@ use Rattle.finite.proofs.All.{and-left, and-right, and-false}
 use Rattle.graph.specs.Theorems.{Realized}
 use Rattle.table.specs.Block.{wellFormed}
 use Rattle.journal.specs.Journal.{mostBlocks}
-use Rattle.demands.specs.Calls.{Call, State, cleared, afterAll}
+use Rattle.demands.specs.Calls.{Call, cleared, afterAll}
 use Rattle.demands.specs.Tally.{Tally, noTally, toldTake, counts, withBlock, tally, tallyAll}
 use Rattle.demands.specs.Demand3.{RefusedForWantOfAGraph, OpenPair, CanBeJoined}
 use Rattle.demands.proofs.Demand3.{demand-3}

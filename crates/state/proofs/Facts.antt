@@ -3,10 +3,7 @@
 use mathlib.Core.Path.{_≡_}
 use mathlib.Core.Bool.{Bool, true, _&&_, cond}
 use mathlib.Core.List.{List}
-use mathlib.Core.Logic.{_⊎_, inl, inr}
 use Prim.Native.Nat.{ℕ, _≤_}
-use native.Mathlib.Decide.{ℕ-discrete}
-use native.Mathlib.Omega.{arith}
 use lib.Dec.{eqb, leb}
 use lib.ListN.{length, getD}
 use borrow.Author.Tests.{eqb-true, eq-eqb, leb-true, le-leb}
@@ -19,7 +16,6 @@ use Rattle.slices.specs.Slices.{allZero}
 use Rattle.slices.proofs.Zero.{all-zero-at, zeros-all-zero}
 use Rattle.table.specs.Layout.{mostVertices}
 use Rattle.journal.specs.Journal.{journalSize, phase, journalOk, jdmOf}
-use Rattle.journal.proofs.Facts.{journal-facts}
 use Rattle.journal.proofs.Table.{jdm-table}
 use Rattle.adjacency.specs.Adjacency.{adjacencySize, adjacencyOk, edge}
 use Rattle.adjacency.proofs.Facts.{ZeroOutside, adjacency-facts}
@@ -105,11 +101,3 @@ module _ (j g : List ℕ) where
       → adjacencyOk (vertexCount j) (degreeAt j) (jdmOf j) g ≡ true → valid j g ≡ true
   facts-valid-1 e ok p n a =
       and-both (journalOk j) _ ok (rw e (and-both (passes (jdmOf j) && leb (vertexCount j) mostVertices) _ (and-both _ _ p (le-leb _ _ n)) a))
-
--- a valid journal is in phase 0 or in phase 1
-pub phases : (j : List ℕ) → journalOk j ≡ true → (phase j ≡ 0) ⊎ (phase j ≡ 1)
-phases j ok = go (ℕ-discrete (phase j) 0)
-  where
-    go : Dec (phase j ≡ 0) → (phase j ≡ 0) ⊎ (phase j ≡ 1)
-    go (yes e) = inl e
-    go (no e) = inr (omega (arith, journal-facts j ok .phase-le))
