@@ -15,13 +15,18 @@ ghost use Rattle.adjacency.specs.Adjacency.{adjacencySize, side, edge, s
 ghost use Rattle.adjacency.specs.Sums.{sumsSize, Added, classDegree};
 use slices::all_zero;
 use slices::wide;
+use table::cells::CELLS;
 use table::cells::DEGREES;
 use table::cells::upper_cell;
 use table::cells::wide32;
+use table::layout::MOST_VERTICES;
 
-pub const SIDE: usize = 200;
+pub const SIDE: usize = MOST_VERTICES;
 
-pub const ADJACENCY_SIZE: usize = 40000;
+pub const ADJACENCY_SIZE: usize = SIDE * SIDE;
+
+// One sum for each degree and each vertex.
+const SUMS: usize = DEGREES * SIDE;
 
 // The byte of v and w.
 pub fn edge_at(adjacency: &[u8], v: usize, w: usize) -> usize
@@ -127,7 +132,7 @@ pub fn edge_count(adjacency: &[u8], n: usize) -> usize
     sum
 }
 
-fn degrees_within(adjacency: &[u8], n: usize, classes: &[u8; 200]) -> bool
+fn degrees_within(adjacency: &[u8], n: usize, classes: &[u8; MOST_VERTICES]) -> bool
     requires { ⌜ (length (now adjacency) ≡ adjacencySize) × (n ≤ side) ⌝ }
     ensures { λ r. ⌜ r ≡ degreesWithin n (classIn (now (classes .entry))) (now (adjacency .entry)) ⌝ }
 {
@@ -139,7 +144,7 @@ fn degrees_within(adjacency: &[u8], n: usize, classes: &[u8; 200]) -> bool
 }
 
 // Adds n bytes of the matrix, from a place on, to as many sums. Where they fit in bytes this is a vector loop.
-fn add_row(sums: &mut [u8; 8200], at: usize, adjacency: &[u8], from: usize, n: usize)
+fn add_row(sums: &mut [u8; SUMS], at: usize, adjacency: &[u8], from: usize, n: usize)
     requires { ⌜ (length (now sums) ≡ sumsSize) × (at + n ≤ sumsSize) × (from + n ≤ length (now adjacency)) × (length (now adjacency) ≡ adjacencySize) × ((i : ℕ) → i < n → getD (now sums) (at + i) 0 + getD (now adjacency) (from + i) 0 < 256) ⌝ }
     ensures { λ _. ⌜ Added n (λ i. at + i) (λ i. getD (now (adjacency .entry)) (from + i) 0) (now (sums .entry)) (now (sums .exit)) ⌝ }
 {
@@ -149,7 +154,7 @@ fn add_row(sums: &mut [u8; 8200], at: usize, adjacency: &[u8], from: usize, n: u
 }
 
 // For each class k and vertex w, how many vertices of class k have an edge to w.
-fn sum_classes(adjacency: &[u8], n: usize, classes: &[u8; 200], sums: &mut [u8; 8200])
+fn sum_classes(adjacency: &[u8], n: usize, classes: &[u8; MOST_VERTICES], sums: &mut [u8; SUMS])
     requires { ⌜ (length (now adjacency) ≡ adjacencySize) × (n ≤ side) × (mirrored n (now adjacency) ≡ true) × ((v : ℕ) → v < n → classIn (now classes) v < degrees) × (length (now sums) ≡ sumsSize) × ((p : ℕ) → getD (now sums) p 0 ≡ 0) ⌝ }
     ensures { λ _. ⌜ ((k w : ℕ) → w < n → getD (now (sums .exit)) (k * side + w) 0 ≡ classDegree n (classIn (now (classes .entry))) (edge (now (adjacency .entry))) k w) ⌝ }
 {
@@ -159,7 +164,7 @@ fn sum_classes(adjacency: &[u8], n: usize, classes: &[u8; 200], sums: &mut [u8; 
 }
 
 // The first vertex from start on whose class is not below k, or n: no vertex before it counts for class k or above.
-fn skip_below(classes: &[u8; 200], n: usize, k: usize, start: usize) -> usize
+fn skip_below(classes: &[u8; MOST_VERTICES], n: usize, k: usize, start: usize) -> usize
     requires { ⌜ (start ≤ n) × (n ≤ side) × ((w : ℕ) → w < start → classIn (now classes) w < k) ⌝ }
     ensures { λ r. ⌜ (r ≤ n) × ((w : ℕ) → w < r → classIn (now (classes .entry)) w < k) × (r < n → k ≤ classIn (now (classes .entry)) r) ⌝ }
 {
@@ -172,7 +177,7 @@ fn skip_below(classes: &[u8; 200], n: usize, k: usize, start: usize) -> usize
 }
 
 // Vertex start has class k; n is no vertex. As classes rise, where the one that skip_below found has not, none has.
-fn has_class(classes: &[u8; 200], n: usize, k: usize, start: usize) -> bool
+fn has_class(classes: &[u8; MOST_VERTICES], n: usize, k: usize, start: usize) -> bool
     requires { ⌜ (start ≤ n) × (n ≤ side) ⌝ }
     ensures { λ r. ⌜ r ≡ ltb start n && eqb (classIn (now (classes .entry)) start) k ⌝ }
 {
@@ -184,12 +189,12 @@ fn has_class(classes: &[u8; 200], n: usize, k: usize, start: usize) -> bool
 
 // For each class l from k on, the sum over its vertices of one row of the sums. None of them is before start.
 fn count_class(
-    sums: &[u8; 8200],
+    sums: &[u8; SUMS],
     n: usize,
-    classes: &[u8; 200],
+    classes: &[u8; MOST_VERTICES],
     k: usize,
     start: usize,
-    counts: &mut [u32; 41],
+    counts: &mut [u32; DEGREES],
 )
     requires { ⌜ (n ≤ side) × (k < degrees) × ((v : ℕ) → v < n → classIn (now classes) v < degrees) × (start ≤ n) × ((w : ℕ) → w < start → classIn (now classes) w < k) × (length (now counts) ≡ degrees) × ((p : ℕ) → getD (now counts) p 0 ≡ 0) ⌝ }
     ensures { λ _. ⌜ ((l : ℕ) → k ≤ l → getD (now (counts .exit)) l 0 ≡ sumTo n (λ w. δ (classIn (now (classes .entry)) w) l * getD (now (sums .entry)) (k * side + w) 0)) ⌝ }
@@ -203,17 +208,17 @@ fn count_class(
 
 // No cell (k, l) with l from k on is above the matrix.
 fn class_within(
-    sums: &[u8; 8200],
+    sums: &[u8; SUMS],
     n: usize,
-    classes: &[u8; 200],
-    cells: &[u32; 1681],
+    classes: &[u8; MOST_VERTICES],
+    cells: &[u32; CELLS],
     k: usize,
     start: usize,
 ) -> bool
     requires { ⌜ (n ≤ side) × (k < degrees) × ((v : ℕ) → v < n → classIn (now classes) v < degrees) × (start ≤ n) × ((w : ℕ) → w < start → classIn (now classes) w < k) ⌝ }
     ensures { λ r. ⌜ r ≡ allTo degrees (λ l. ltb l k || leb (sumTo n (λ w. δ (classIn (now (classes .entry)) w) l * getD (now (sums .entry)) (k * side + w) 0)) (matrixOf (now (cells .entry)) k l)) ⌝ }
 {
-    let mut counts = [0u32; 41];
+    let mut counts = [0u32; DEGREES];
     count_class(sums, n, classes, k, start, &mut counts);
     let mut ok = true;
     for l in k..DEGREES {
@@ -224,11 +229,16 @@ fn class_within(
 
 // The matrix and the table are symmetric, so the cells (k, l) with l from k on are enough.
 // A class without vertices has no edges to count.
-fn cells_within(adjacency: &[u8], n: usize, classes: &[u8; 200], cells: &[u32; 1681]) -> bool
+fn cells_within(
+    adjacency: &[u8],
+    n: usize,
+    classes: &[u8; MOST_VERTICES],
+    cells: &[u32; CELLS],
+) -> bool
     requires { ⌜ (length (now adjacency) ≡ adjacencySize) × (n ≤ side) × (mirrored n (now adjacency) ≡ true) × ((v : ℕ) → v < n → classIn (now classes) v < degrees) × ((v w : ℕ) → v ≤ w → w < n → classIn (now classes) v ≤ classIn (now classes) w) ⌝ }
     ensures { λ r. ⌜ r ≡ cellsWithin n (classIn (now (classes .entry))) (matrixOf (now (cells .entry))) (now (adjacency .entry)) ⌝ }
 {
-    let mut sums = [0u8; 8200];
+    let mut sums = [0u8; SUMS];
     sum_classes(adjacency, n, classes, &mut sums);
     let mut ok = true;
     let mut start = 0;
@@ -251,7 +261,12 @@ pub fn set_edge(adjacency: &mut [u8], v: usize, w: usize, x: u8)
 }
 
 // The matrix is as document 01 lays it down for a laid state with this table.
-pub fn adjacency_ok(adjacency: &[u8], n: usize, classes: &[u8; 200], cells: &[u32; 1681]) -> bool
+pub fn adjacency_ok(
+    adjacency: &[u8],
+    n: usize,
+    classes: &[u8; MOST_VERTICES],
+    cells: &[u32; CELLS],
+) -> bool
     requires { ⌜ (length (now adjacency) ≡ adjacencySize) × (n ≡ vertices (matrixOf (now cells))) × (n ≤ mostVertices) × (now classes ≡ classesOf (matrixOf (now cells))) × AtMost cellSumMost (now cells) ⌝ }
     ensures { λ r. ⌜ r ≡ adjacencyOk (vertices (matrixOf (now (cells .entry)))) (vertexDegree (matrixOf (now (cells .entry)))) (matrixOf (now (cells .entry))) (now (adjacency .entry)) ⌝ }
 {

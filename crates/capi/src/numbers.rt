@@ -2,6 +2,7 @@
 ghost use mathlib.Core.Path.{_≡_};
 ghost use Prim.Native.Nat.{ℕ, _<_};
 ghost use Rattle.answer.specs.Numbers.{refused, clearNumbers, takeNumbers, layOutNumbers, figuresNumbers, addNumbers, removeNumbers, completeNumbers, writtenNumbers};
+ghost use Rattle.journal.specs.Journal.{mostBlocks};
 ghost use Rattle.capi.specs.Flat.{flat, heldNumbers};
 use crate::ReplicaAnswer;
 use answer::AddAnswer;
@@ -56,7 +57,7 @@ pub fn of_take(answer: TakeAnswer) -> ReplicaAnswer
 }
 
 pub fn of_held(number: usize, answer: LengthAnswer) -> ReplicaAnswer
-    requires { ⌜ ((n : ℕ) → answer ≡ LengthAnswer.Length n → number < 64) ⌝ }
+    requires { ⌜ ((n : ℕ) → answer ≡ LengthAnswer.Length n → number < mostBlocks) ⌝ }
     ensures { λ r. ⌜ r ≡ flat (heldNumbers number answer) ⌝ }
 {
     match answer {

@@ -12,6 +12,7 @@ ghost use Rattle.completion.specs.Work.{ran, Resumes, Steppable, Fillabl
 use crate::pair::Cell;
 use crate::pair::Pair;
 use crate::pair::open_pair;
+use table::layout::MOST_VERTICES;
 
 // Edges added and switches made.
 pub struct Totals {
@@ -31,7 +32,7 @@ pub struct Step {
 }
 
 // The lowest vertex of from, .., to - 1 with fewer than k edges; to where there is none.
-fn advance(held: &[usize; 200], from: usize, to: usize, k: usize) -> usize
+fn advance(held: &[usize; MOST_VERTICES], from: usize, to: usize, k: usize) -> usize
     requires { ⌜ to ≤ side ⌝ }
     ensures { λ r. ⌜ r ≡ lowest from to (λ i. ltb (getD (now (held .entry)) i 0) k) ⌝ }
 {
@@ -57,8 +58,8 @@ fn least(a: usize, b: usize) -> usize
 // The lowest open pair of the cell joined. A switch of v may free a column that was passed: the cursor falls to it.
 fn fill_step(
     adjacency: &mut [u8],
-    held: &mut [usize; 200],
-    classes: &[u8; 200],
+    held: &mut [usize; MOST_VERTICES],
+    classes: &[u8; MOST_VERTICES],
     n: usize,
     cell: Cell,
     cursor: Cursor,
@@ -90,8 +91,8 @@ fn fill_step(
 // m joins in the cell.
 pub fn fill_cell(
     adjacency: &mut [u8],
-    held: &mut [usize; 200],
-    classes: &[u8; 200],
+    held: &mut [usize; MOST_VERTICES],
+    classes: &[u8; MOST_VERTICES],
     n: usize,
     cell: Cell,
     m: usize,

@@ -16,12 +16,15 @@ use crate::cell::Totals;
 use crate::cell::fill_cell;
 use crate::pair::Cell;
 use crate::pair::Span;
+use joining::cell::STARTS;
 use joining::cell::block_sum;
+use table::cells::CELLS;
 use table::cells::DEGREES;
 use table::cells::cell;
+use table::layout::MOST_VERTICES;
 
 // Cell (k, l) between the starts of its classes.
-fn cell_at(starts: &[usize; 42], k: usize, l: usize) -> Cell
+fn cell_at(starts: &[usize; STARTS], k: usize, l: usize) -> Cell
     requires { ⌜ (k < degrees) × (l < degrees) ⌝ }
     ensures { λ r. ⌜ r ≡ cellIn (now (starts .entry)) k l ⌝ }
 {
@@ -50,7 +53,7 @@ fn unit(k: usize, l: usize) -> usize
 }
 
 // The joins that a cell misses.
-fn missing(adjacency: &[u8], cells: &[u32; 1681], c: Cell) -> usize
+fn missing(adjacency: &[u8], cells: &[u32; CELLS], c: Cell) -> usize
     requires { ⌜ (length (now adjacency) ≡ adjacencySize) × Countable (now adjacency) (now cells) c ⌝ }
     ensures { λ r. ⌜ r ≡ (matrixOf (now (cells .entry)) (c .k) (c .l) - blockSum (edge (now (adjacency .entry))) (c .rows .from) (c .rows .to) (c .columns .from) (c .columns .to)) / cond (eqb (c .k) (c .l)) 2 1 ⌝ }
 {
@@ -71,10 +74,10 @@ fn missing(adjacency: &[u8], cells: &[u32; 1681], c: Cell) -> usize
 // Cell (k, l) filled.
 fn complete_cell(
     adjacency: &mut [u8],
-    held: &mut [usize; 200],
-    classes: &[u8; 200],
-    cells: &[u32; 1681],
-    starts: &[usize; 42],
+    held: &mut [usize; MOST_VERTICES],
+    classes: &[u8; MOST_VERTICES],
+    cells: &[u32; CELLS],
+    starts: &[usize; STARTS],
     n: usize,
     k: usize,
     l: usize,
@@ -92,10 +95,10 @@ fn complete_cell(
 // The cells of row k, from the diagonal on.
 fn complete_row(
     adjacency: &mut [u8],
-    held: &mut [usize; 200],
-    classes: &[u8; 200],
-    cells: &[u32; 1681],
-    starts: &[usize; 42],
+    held: &mut [usize; MOST_VERTICES],
+    classes: &[u8; MOST_VERTICES],
+    cells: &[u32; CELLS],
+    starts: &[usize; STARTS],
     n: usize,
     k: usize,
     totals: Totals,
@@ -114,10 +117,10 @@ fn complete_row(
 // All cells, row by row.
 pub fn complete_rows(
     adjacency: &mut [u8],
-    held: &mut [usize; 200],
-    classes: &[u8; 200],
-    cells: &[u32; 1681],
-    starts: &[usize; 42],
+    held: &mut [usize; MOST_VERTICES],
+    classes: &[u8; MOST_VERTICES],
+    cells: &[u32; CELLS],
+    starts: &[usize; STARTS],
     n: usize,
     totals: Totals,
 ) -> Totals

@@ -14,7 +14,7 @@ use Rattle.finite.proofs.Sum.{sumTo-cong, sumTo-const, sumTo-mono, sumTo-mirror
 use Rattle.finite.proofs.Fold.{catTo-empty, catTo-length}
 use Rattle.graph.specs.Graph.{Graph, Simple, edges}
 use Rattle.table.specs.Layout.{mostVertices}
-use Rattle.adjacency.specs.Adjacency.{edge}
+use Rattle.adjacency.specs.Adjacency.{adjacencySize, edge}
 use Rattle.editing.specs.List.{edgeBytes, listBytes}
 
 -- an edge is written at its lower end
@@ -57,7 +57,7 @@ list-length n g s =
         rw (edge-below g v w (omega arith), edge-length g w v m (s .binary w v (omega arith) l), s .symmetric w v (omega arith) l) (omega arith)
 
 -- a vertex has at most one edge to each lower one
-pub edges-few : (n : ℕ) (E : Graph) → n ≤ mostVertices → Simple n E → edges n E ≤ 40000
+pub edges-few : (n : ℕ) (E : Graph) → n ≤ mostVertices → Simple n E → edges n E ≤ adjacencySize
 unfolding edges
 edges-few n E few s = omega (arith, sumTo-mono n (λ v. sumTo v (E v)) (λ v. mostVertices) row, sumTo-const mostVertices n)
   where

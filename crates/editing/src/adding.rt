@@ -24,12 +24,20 @@ use answer::refuse;
 use journal::cells_of;
 use slices::wide;
 use state::phase_check;
+use table::cells::CELLS;
+use table::cells::DEGREES;
 use table::layout::classes;
 use table::layout::counts;
 use table::layout::vertex_count;
 
 // Cell (k, l) of the edges so far is below the table.
-fn is_short(adjacency: &[u8], cells: &[u32; 1681], counts: &[usize; 41], k: usize, l: usize) -> bool
+fn is_short(
+    adjacency: &[u8],
+    cells: &[u32; CELLS],
+    counts: &[usize; DEGREES],
+    k: usize,
+    l: usize,
+) -> bool
     requires { ⌜ (length (now adjacency) ≡ adjacencySize) × (k < degrees) × (l < degrees) × (now counts ≡ countsOf (matrixOf (now cells))) × (vertices (matrixOf (now cells)) ≤ mostVertices) ⌝ }
     ensures { λ r. ⌜ r ≡ ltb (jdm (vertices (matrixOf (now (cells .entry)))) (vertexDegree (matrixOf (now (cells .entry)))) (edge (now (adjacency .entry))) k l) (matrixOf (now (cells .entry)) k l) ⌝ }
 {
@@ -55,8 +63,8 @@ fn full_cell(k: usize, l: usize) -> Refusal
 // On two unlinked vertices: the check 16, then the switches and the edge.
 fn add_unlinked(
     adjacency: &mut [u8],
-    cells: &[u32; 1681],
-    counts: &[usize; 41],
+    cells: &[u32; CELLS],
+    counts: &[usize; DEGREES],
     v: usize,
     w: usize,
 ) -> AddAnswer

@@ -20,7 +20,7 @@ use state::phase_check;
 
 // The bytes of the edge v – w, if it is one, written at place at. The place behind them.
 fn put_edge(adjacency: &[u8], v: usize, w: usize, output: &mut [u8], at: usize) -> usize
-    requires { ⌜ (length (now adjacency) ≡ adjacencySize) × (v < w) × (w < side) × (at ≤ 80000) × (at + length (edgeBytes (now adjacency) v w) ≤ length (now output)) ⌝ }
+    requires { ⌜ (length (now adjacency) ≡ adjacencySize) × (v < w) × (w < side) × (at ≤ 2 * adjacencySize) × (at + length (edgeBytes (now adjacency) v w) ≤ length (now output)) ⌝ }
     ensures { λ r. ⌜ (r ≡ at + length (edgeBytes (now (adjacency .entry)) v w)) × (r ≤ at + 2) ⌝ }
     ensures { λ _. ⌜ now (output .exit) ≡ sets (now (output .entry)) at (edgeBytes (now (adjacency .entry)) v w) ⌝ }
 {
@@ -34,8 +34,8 @@ fn put_edge(adjacency: &[u8], v: usize, w: usize, output: &mut [u8], at: usize) 
 
 // The edges of v to higher vertices.
 fn put_row(adjacency: &[u8], n: usize, v: usize, output: &mut [u8], at: usize) -> usize
-    requires { ⌜ (length (now adjacency) ≡ adjacencySize) × (n ≤ side) × (v < n) × (at ≤ 79600) × (at + length (catTo n (edgeBytes (now adjacency) v)) ≤ length (now output)) ⌝ }
-    ensures { λ r. ⌜ (r ≡ at + length (catTo n (edgeBytes (now (adjacency .entry)) v))) × (r ≤ at + 400) ⌝ }
+    requires { ⌜ (length (now adjacency) ≡ adjacencySize) × (n ≤ side) × (v < n) × (at + 2 * side ≤ 2 * adjacencySize) × (at + length (catTo n (edgeBytes (now adjacency) v)) ≤ length (now output)) ⌝ }
+    ensures { λ r. ⌜ (r ≡ at + length (catTo n (edgeBytes (now (adjacency .entry)) v))) × (r ≤ at + 2 * side) ⌝ }
     ensures { λ _. ⌜ now (output .exit) ≡ sets (now (output .entry)) at (catTo n (edgeBytes (now (adjacency .entry)) v)) ⌝ }
 {
     let mut a = at;

@@ -13,12 +13,15 @@ use adjacency::SIDE;
 use adjacency::byte_sum;
 use table::cells::DEGREES;
 
+// One entry for each class, and one past the last.
+pub const STARTS: usize = DEGREES + 1;
+
 // The first vertex of each class: entry k is the number of vertices of the classes below k.
-pub fn starts(counts: &[usize; 41]) -> [usize; 42]
+pub fn starts(counts: &[usize; DEGREES]) -> [usize; STARTS]
     requires { ⌜ total degrees (countIn (now counts)) ≤ mostVertices ⌝ }
     ensures { λ r. ⌜ r ≡ startsOf (now (counts .entry)) ⌝ }
 {
-    let mut t = [0usize; 42];
+    let mut t = [0usize; STARTS];
     let mut sum = 0;
     for k in 0..DEGREES {
         t[k] = sum;

@@ -18,6 +18,7 @@ pub mod cell;
 use adjacency::SIDE;
 use adjacency::set_edge;
 use slices::wide;
+use table::layout::MOST_VERTICES;
 
 // How many bytes of a row are tested at once.
 const LANES: usize = 16;
@@ -29,11 +30,11 @@ pub struct JoinDone {
 }
 
 // The degrees of the n vertices.
-pub fn degrees(adjacency: &[u8], n: usize) -> [usize; 200]
+pub fn degrees(adjacency: &[u8], n: usize) -> [usize; MOST_VERTICES]
     requires { ⌜ (length (now adjacency) ≡ adjacencySize) × (n ≤ side) ⌝ }
     ensures { λ r. ⌜ r ≡ degreesOf n (now (adjacency .entry)) ⌝ }
 {
-    let mut t = [0usize; 200];
+    let mut t = [0usize; MOST_VERTICES];
     for v in 0..n {
         t[v] = adjacency::degree_of(adjacency, n, v);
     }
@@ -41,8 +42,8 @@ pub fn degrees(adjacency: &[u8], n: usize) -> [usize; 200]
 }
 
 fn can_substitute(
-    classes: &[u8; 200],
-    held: &[usize; 200],
+    classes: &[u8; MOST_VERTICES],
+    held: &[usize; MOST_VERTICES],
     k: usize,
     other: usize,
     b: usize,
@@ -56,8 +57,8 @@ fn can_substitute(
 
 // The lowest such vertex of from, .., n - 1; n where there is none.
 fn substitute_from(
-    classes: &[u8; 200],
-    held: &[usize; 200],
+    classes: &[u8; MOST_VERTICES],
+    held: &[usize; MOST_VERTICES],
     n: usize,
     k: usize,
     other: usize,
@@ -78,8 +79,8 @@ fn substitute_from(
 
 // Document 01's b: the lowest such vertex, else the other named one.
 fn choose_substitute(
-    classes: &[u8; 200],
-    held: &[usize; 200],
+    classes: &[u8; MOST_VERTICES],
+    held: &[usize; MOST_VERTICES],
     n: usize,
     k: usize,
     other: usize,
@@ -147,7 +148,13 @@ fn choose_transfer(adjacency: &[u8], n: usize, a: usize, b: usize) -> usize
 }
 
 // The neighbour switch of a: the edge a – t removed, b – t added.
-fn neighbor_switch(adjacency: &mut [u8], held: &mut [usize; 200], a: usize, b: usize, t: usize)
+fn neighbor_switch(
+    adjacency: &mut [u8],
+    held: &mut [usize; MOST_VERTICES],
+    a: usize,
+    b: usize,
+    t: usize,
+)
     requires { ⌜ (length (now adjacency) ≡ adjacencySize) × (a < side) × (b < side) × (t < side) × (0 < getD (now held) a 0) × (getD (now held) b 0 < degrees) ⌝ }
     ensures { λ _. ⌜ now (adjacency .exit) ≡ switchBytes (now (adjacency .entry)) a b t ⌝ }
     ensures { λ _. ⌜ now (held .exit) ≡ set (set (now (held .entry)) a (getD (now (held .entry)) a 0 - 1)) b (getD (now (held .entry)) b 0 + 1) ⌝ }
@@ -163,8 +170,8 @@ fn neighbor_switch(adjacency: &mut [u8], held: &mut [usize; 200], a: usize, b: u
 // Makes room at a: a neighbour switch if it is saturated. The vertex cut off from a; n where there was no switch.
 fn relieve(
     adjacency: &mut [u8],
-    held: &mut [usize; 200],
-    classes: &[u8; 200],
+    held: &mut [usize; MOST_VERTICES],
+    classes: &[u8; MOST_VERTICES],
     n: usize,
     a: usize,
     other: usize,
@@ -186,7 +193,7 @@ fn relieve(
 }
 
 // The edge v – w added.
-fn link(adjacency: &mut [u8], held: &mut [usize; 200], v: usize, w: usize)
+fn link(adjacency: &mut [u8], held: &mut [usize; MOST_VERTICES], v: usize, w: usize)
     requires { ⌜ (length (now adjacency) ≡ adjacencySize) × (v < side) × (w < side) × (getD (now held) v 0 < degrees) × (getD (now held) w 0 < degrees) ⌝ }
     ensures { λ _. ⌜ now (adjacency .exit) ≡ setEdge (now (adjacency .entry)) v w 1 ⌝ }
     ensures { λ _. ⌜ now (held .exit) ≡ set (set (now (held .entry)) v (getD (now (held .entry)) v 0 + 1)) w (getD (now (held .entry)) w 0 + 1) ⌝ }
@@ -211,8 +218,8 @@ fn switch_count(n: usize, cut: usize) -> usize
 // Joins v and w: room at v, then at w, then the edge.
 pub fn join(
     adjacency: &mut [u8],
-    held: &mut [usize; 200],
-    classes: &[u8; 200],
+    held: &mut [usize; MOST_VERTICES],
+    classes: &[u8; MOST_VERTICES],
     n: usize,
     v: usize,
     w: usize,

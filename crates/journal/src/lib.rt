@@ -12,16 +12,18 @@ ghost use Rattle.journal.specs.Journal.{journalSize, mostBlocks, slotLen
 use slices::all_zero;
 use slices::same_bytes;
 use slices::wide;
+use table::cells::CELLS;
 use table::record::BLOCK_MOST;
 use table::record::RECORD_SIZE;
 use table::record::block_length;
 use table::record::first_bad;
 
-pub const JOURNAL_SIZE: usize = 4162;
-
 pub const MOST_BLOCKS: usize = 64;
 
-pub const SLOT_SIZE: usize = 65;
+// A length byte, and the block.
+pub const SLOT_SIZE: usize = 1 + BLOCK_MOST;
+
+pub const JOURNAL_SIZE: usize = 2 + SLOT_SIZE * MOST_BLOCKS;
 
 pub fn phase_of(journal: &[u8]) -> usize
     requires { ⌜ length (now journal) ≡ journalSize ⌝ }
@@ -112,11 +114,11 @@ pub fn journal_ok(journal: &[u8]) -> bool
 }
 
 // The joint degree matrix of all blocks.
-pub fn cells_of(journal: &[u8]) -> [u32; 1681]
+pub fn cells_of(journal: &[u8]) -> [u32; CELLS]
     requires { ⌜ (length (now journal) ≡ journalSize) × (journalOk (now journal) ≡ true) ⌝ }
     ensures { λ r. ⌜ (matrixOf r ≡ jdmOf (now (journal .entry))) × AtMost cellSumMost r ⌝ }
 {
-    let mut cells = [0u32; 1681];
+    let mut cells = [0u32; CELLS];
     for i in 0..block_count(journal) {
         table::cells::add_block(&mut cells, block_part(journal, i));
     }

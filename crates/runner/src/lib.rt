@@ -1,4 +1,5 @@
 // What the program does with its input: takes records in blocks of 64 bytes, lays out, completes and prints the edges.
+use adjacency::ADJACENCY_SIZE;
 use answer::CompleteAnswer;
 use answer::LayOutAnswer;
 use answer::Refusal;
@@ -6,7 +7,19 @@ use answer::TakeAnswer;
 use answer::Verdict;
 use answer::WrittenAnswer;
 use answer::number_of;
+use journal::JOURNAL_SIZE;
+use journal::MOST_BLOCKS;
 use libc::STDOUT_FILENO;
+use table::cells::DEGREES;
+use table::layout::MOST_VERTICES;
+use table::record::BLOCK_MOST;
+
+// The bytes that can matter: one block more than the journal has room for.
+pub const INPUT_MOST: usize = BLOCK_MOST * (MOST_BLOCKS + 1);
+
+// The most bytes of an edge list: 2 for each edge, and each edge has two ends.
+const LIST_MOST: usize = MOST_VERTICES * (DEGREES - 1);
+
 ghost use Prim.Native.Nat.{_≤_};
 
 // The end of the block that starts at `at`: 64 bytes on, or where the input ends.
@@ -14,16 +27,16 @@ fn block_end(at: usize, len: usize) -> usize
     requires { ⌜ at ≤ len ⌝ }
     ensures { λ r. ⌜ (r ≤ len) × (at ≤ r) ⌝ }
 {
-    if len - at < table::record::BLOCK_MOST {
+    if len - at < BLOCK_MOST {
         return len;
     }
-    at + table::record::BLOCK_MOST
+    at + BLOCK_MOST
 }
 
 // Takes the input block by block, up to the first refusal.
 fn take_all(journal: &mut [u8], adjacency: &[u8], input: &[u8]) -> Verdict {
     let mut at = 0;
-    for number in 0..65usize {
+    for number in 0..MOST_BLOCKS + 1 {
         if input.len() <= at {
             return Verdict::Go;
         }
@@ -86,7 +99,7 @@ fn print_edges(edges: &[u8], len: usize) {
 
 // Lists a completed state.
 fn print_state(journal: &[u8], adjacency: &[u8], n: usize, switches: usize) {
-    let mut output = [0u8; 8000];
+    let mut output = [0u8; LIST_MOST];
     let answer = editing::listing::edge_list(journal, adjacency, &mut output);
     match answer {
         WrittenAnswer::Refused(r) => print_refusal(r),
@@ -117,8 +130,8 @@ fn lay_out(journal: &mut [u8], adjacency: &mut [u8]) {
 
 // Takes, lays out, completes and prints the records of an input. The 65th block is refused, so nothing behind it matters.
 pub fn run(input: &[u8]) {
-    let mut journal = [0u8; 4162];
-    let mut adjacency = [0u8; 40000];
+    let mut journal = [0u8; JOURNAL_SIZE];
+    let mut adjacency = [0u8; ADJACENCY_SIZE];
     let taken = take_all(&mut journal, &adjacency, input);
     match taken {
         Verdict::Stop(r) => print_refusal(r),

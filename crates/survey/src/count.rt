@@ -11,14 +11,16 @@ ghost use Rattle.survey.specs.EdgeList.{listed, endV, endW, goodEdge, fi
 ghost use Rattle.survey.specs.Survey.{firstAbove};
 ghost use Rattle.survey.specs.Counting.{countEdge, countCell, timesCounted, degreeIn, firstAboveIn, HasRoom, HasDegrees, HasCells, cellMostOwn, CellsSmall};
 use slices::wide;
+use table::cells::CELLS;
+use table::cells::DEGREES;
 use table::cells::place_of;
 use table::cells::wide32;
 use table::layout::MOST_VERTICES;
 
-const MOST_DEGREE: usize = 40;
+const MOST_DEGREE: usize = DEGREES - 1;
 
 // Edge i is one more for both its ends.
-fn count_edge(counts: &mut [usize; 200], edges: &[u8], i: usize)
+fn count_edge(counts: &mut [usize; MOST_VERTICES], edges: &[u8], i: usize)
     requires { ⌜ (2 * i + 2 ≤ length (now edges)) × (goodEdge (now edges) i ≡ true) × HasRoom (now edges) i (now counts) ⌝ }
     ensures { λ _. ⌜ now (counts .exit) ≡ countEdge (endV (now (edges .entry)) i) (endW (now (edges .entry)) i) (now (counts .entry)) ⌝ }
 {
@@ -29,12 +31,12 @@ fn count_edge(counts: &mut [usize; 200], edges: &[u8], i: usize)
 }
 
 // The degree of each vertex.
-pub fn degrees_of(edges: &[u8]) -> [usize; 200]
+pub fn degrees_of(edges: &[u8]) -> [usize; MOST_VERTICES]
     requires { ⌜ firstBadEdge (now edges) ≡ listed (now edges) ⌝ }
     ensures { λ r. ⌜ HasDegrees r (graphOf (now (edges .entry))) ⌝ }
 {
     let n = edges.len() / 2;
-    let mut counts = [0usize; 200];
+    let mut counts = [0usize; MOST_VERTICES];
     for i in 0..n {
         count_edge(&mut counts, edges, i);
     }
@@ -42,7 +44,7 @@ pub fn degrees_of(edges: &[u8]) -> [usize; 200]
 }
 
 // The lowest vertex whose degree is over 40, or 200.
-pub fn first_above(counts: &[usize; 200]) -> usize
+pub fn first_above(counts: &[usize; MOST_VERTICES]) -> usize
     ensures { λ r. ⌜ r ≡ firstAboveIn (now (counts .entry)) ⌝ }
 {
     let mut v = 0;
@@ -65,7 +67,7 @@ fn times_counted(a: usize, b: usize) -> usize
     1
 }
 
-fn count_cell(cells: &mut [u32; 1681], a: usize, b: usize)
+fn count_cell(cells: &mut [u32; CELLS], a: usize, b: usize)
     requires { ⌜ (a < degrees) × (b < degrees) × (getD (now cells) (place a b) 0 ≤ cellMostOwn) ⌝ }
     ensures { λ _. ⌜ now (cells .exit) ≡ countCell a b (now (cells .entry)) ⌝ }
 {
@@ -75,7 +77,7 @@ fn count_cell(cells: &mut [u32; 1681], a: usize, b: usize)
 }
 
 // The degree of the vertex that a byte names.
-fn degree_at(counts: &[usize; 200], v: u8) -> usize
+fn degree_at(counts: &[usize; MOST_VERTICES], v: u8) -> usize
     requires { ⌜ v < mostVertices ⌝ }
     ensures { λ r. ⌜ r ≡ degreeIn (now (counts .entry)) v ⌝ }
 {
@@ -83,12 +85,12 @@ fn degree_at(counts: &[usize; 200], v: u8) -> usize
 }
 
 // The joint degree matrix at the graph's own degrees.
-pub fn cells_of(edges: &[u8], counts: &[usize; 200]) -> [u32; 1681]
+pub fn cells_of(edges: &[u8], counts: &[usize; MOST_VERTICES]) -> [u32; CELLS]
     requires { ⌜ (firstBadEdge (now edges) ≡ listed (now edges)) × HasDegrees (now counts) (graphOf (now edges)) × (firstAbove (now edges) ≡ mostVertices) ⌝ }
     ensures { λ r. ⌜ HasCells r (degree mostVertices (graphOf (now (edges .entry)))) (graphOf (now (edges .entry))) × CellsSmall r ⌝ }
 {
     let n = edges.len() / 2;
-    let mut cells = [0u32; 1681];
+    let mut cells = [0u32; CELLS];
     for i in 0..n {
         let a = degree_at(counts, edges[2 * i]);
         let b = degree_at(counts, edges[2 * i + 1]);

@@ -10,11 +10,12 @@ ghost use Rattle.table.specs.Cells.{matrixOf};
 ghost use Rattle.survey.specs.Survey.{cellRecord, recordsOf};
 ghost use Rattle.survey.specs.Counting.{CellsSmall, recordsMost};
 use slices::put;
+use table::cells::CELLS;
 use table::cells::DEGREES;
 use table::cells::cell;
 
 // The record of cell (k, l) from place at on, if the cell is not 0. The place behind it.
-fn put_record(cells: &[u32; 1681], k: usize, l: usize, out: &mut [u8], at: usize) -> usize
+fn put_record(cells: &[u32; CELLS], k: usize, l: usize, out: &mut [u8], at: usize) -> usize
     requires { ⌜ (k ≤ l) × (l < degrees) × CellsSmall (now cells) × (at ≤ recordsMost) ⌝ }
     ensures { λ r. ⌜ (r ≡ at + length (cellRecord (matrixOf (now (cells .entry))) k l)) × (r ≤ at + recordSize) ⌝ }
     ensures { λ _. ⌜ now (out .exit) ≡ sets (now (out .entry)) at (cellRecord (matrixOf (now (cells .entry))) k l) ⌝ }
@@ -31,7 +32,7 @@ fn put_record(cells: &[u32; 1681], k: usize, l: usize, out: &mut [u8], at: usize
 }
 
 // The records of row k.
-fn put_row(cells: &[u32; 1681], k: usize, out: &mut [u8], at: usize) -> usize
+fn put_row(cells: &[u32; CELLS], k: usize, out: &mut [u8], at: usize) -> usize
     requires { ⌜ (k < degrees) × CellsSmall (now cells) × (at + recordSize * degrees ≤ recordsMost) ⌝ }
     ensures { λ r. ⌜ (r ≡ at + length (catTo degrees (cellRecord (matrixOf (now (cells .entry))) k))) × (r ≤ at + recordSize * degrees) ⌝ }
     ensures { λ _. ⌜ now (out .exit) ≡ sets (now (out .entry)) at (catTo degrees (cellRecord (matrixOf (now (cells .entry))) k)) ⌝ }
@@ -44,7 +45,7 @@ fn put_row(cells: &[u32; 1681], k: usize, out: &mut [u8], at: usize) -> usize
 }
 
 // All records. How many bytes they are.
-pub fn put_records(cells: &[u32; 1681], out: &mut [u8]) -> usize
+pub fn put_records(cells: &[u32; CELLS], out: &mut [u8]) -> usize
     requires { ⌜ CellsSmall (now cells) ⌝ }
     ensures { λ r. ⌜ (r ≡ length (recordsOf (matrixOf (now (cells .entry))))) × (r ≤ recordsMost) ⌝ }
     ensures { λ _. ⌜ now (out .exit) ≡ sets (now (out .entry)) 0 (recordsOf (matrixOf (now (cells .entry)))) ⌝ }

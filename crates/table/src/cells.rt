@@ -5,13 +5,13 @@ ghost use Prim.Native.Nat.{ℕ, _+_, _*_, _≤_, _<_};
 ghost use lib.ListN.{length};
 ghost use Rattle.graph.specs.Tests.{degrees};
 ghost use Rattle.table.specs.Block.{recordSize, blockMost, goodRecord, records, firstBad};
-ghost use Rattle.table.specs.Cells.{matrixOf, place, addRecord, addBlock, AtMost, cellSumMost, blockSumMost};
+ghost use Rattle.table.specs.Cells.{cellsSize, matrixOf, place, addRecord, addBlock, AtMost, cellSumMost, blockSumMost};
 use slices::wide;
 
 // The degrees are the numbers 1 to DEGREES - 1.
 pub const DEGREES: usize = 41;
 
-pub const CELLS: usize = 1681;
+pub const CELLS: usize = DEGREES * DEGREES;
 
 // A count as a number.
 pub fn wide32(x: u32) -> usize
@@ -22,7 +22,7 @@ pub fn wide32(x: u32) -> usize
 
 pub fn place_of(k: usize, l: usize) -> usize
     requires { ⌜ (k < degrees) × (l < degrees) ⌝ }
-    ensures { λ r. ⌜ (r ≡ place k l) × (r < 1681) ⌝ }
+    ensures { λ r. ⌜ (r ≡ place k l) × (r < cellsSize) ⌝ }
 {
     if k <= l {
         return k * DEGREES + l;
@@ -31,7 +31,7 @@ pub fn place_of(k: usize, l: usize) -> usize
 }
 
 // Cell (k, l) where k is not above l: row k of these is one part of the array.
-pub fn upper_cell(cells: &[u32; 1681], k: usize, l: usize) -> usize
+pub fn upper_cell(cells: &[u32; CELLS], k: usize, l: usize) -> usize
     requires { ⌜ (k ≤ l) × (l < degrees) ⌝ }
     ensures { λ r. ⌜ (r ≡ matrixOf (now (cells .entry)) k l) × (r < 4294967296) ⌝ }
 {
@@ -39,7 +39,7 @@ pub fn upper_cell(cells: &[u32; 1681], k: usize, l: usize) -> usize
 }
 
 // Cell (k, l), which is also cell (l, k).
-pub fn cell(cells: &[u32; 1681], k: usize, l: usize) -> usize
+pub fn cell(cells: &[u32; CELLS], k: usize, l: usize) -> usize
     requires { ⌜ (k < degrees) × (l < degrees) ⌝ }
     ensures { λ r. ⌜ (r ≡ matrixOf (now (cells .entry)) k l) × (r < 4294967296) ⌝ }
 {
@@ -49,7 +49,7 @@ pub fn cell(cells: &[u32; 1681], k: usize, l: usize) -> usize
     upper_cell(cells, l, k)
 }
 
-pub fn add_record(cells: &mut [u32; 1681], block: &[u8], i: usize)
+pub fn add_record(cells: &mut [u32; CELLS], block: &[u8], i: usize)
     requires { ⌜ (recordSize * i + recordSize ≤ length (now block)) × (goodRecord (now block) i ≡ true) × AtMost (cellSumMost) (now cells) ⌝ }
     ensures { λ _. ⌜ now (cells .exit) ≡ addRecord (now (block .entry)) i (now (cells .entry)) ⌝ }
 {
@@ -62,7 +62,7 @@ pub fn add_record(cells: &mut [u32; 1681], block: &[u8], i: usize)
 }
 
 // Adds every record of a block whose records are all good.
-pub fn add_block(cells: &mut [u32; 1681], block: &[u8])
+pub fn add_block(cells: &mut [u32; CELLS], block: &[u8])
     requires { ⌜ (length (now block) ≤ blockMost) × (firstBad (now block) ≡ records (now block)) × ((m : ℕ) × (m + blockSumMost ≤ cellSumMost) × AtMost m (now cells)) ⌝ }
     ensures { λ _. ⌜ now (cells .exit) ≡ addBlock (now (block .entry)) (now (cells .entry)) ⌝ }
 {

@@ -7,6 +7,7 @@ ghost use Rattle.graph.specs.Tests.{degrees, rowSum, count, odd, uneven, overfu
 ghost use Rattle.table.specs.Cells.{matrixOf, AtMost, cellSumMost};
 ghost use Rattle.table.specs.Run.{countIn, rowFits, Reaches};
 ghost use Rattle.table.specs.Layout.{vertices, wanted, countsOf, classesOf, layoutVerdict, mostVertices};
+use crate::cells::CELLS;
 use crate::cells::DEGREES;
 use crate::cells::cell;
 use crate::cells::upper_cell;
@@ -17,14 +18,14 @@ use answer::stopped;
 
 pub const MOST_VERTICES: usize = 200;
 
-fn is_odd(cells: &[u32; 1681], k: usize) -> bool
+fn is_odd(cells: &[u32; CELLS], k: usize) -> bool
     requires { ⌜ k < degrees ⌝ }
     ensures { λ r. ⌜ r ≡ odd (matrixOf (now (cells .entry))) k ⌝ }
 {
     cell(cells, k, k) % 2 != 0
 }
 
-fn first_odd(cells: &[u32; 1681]) -> usize
+fn first_odd(cells: &[u32; CELLS]) -> usize
     ensures { λ r. ⌜ r ≡ firstOdd (matrixOf (now (cells .entry))) ⌝ }
 {
     let mut k = 1;
@@ -38,7 +39,7 @@ fn first_odd(cells: &[u32; 1681]) -> usize
 }
 
 // S(k)
-fn row_sum(cells: &[u32; 1681], k: usize) -> usize
+fn row_sum(cells: &[u32; CELLS], k: usize) -> usize
     requires { ⌜ (k < degrees) × AtMost cellSumMost (now cells) ⌝ }
     ensures { λ r. ⌜ (r ≡ rowSum (matrixOf (now (cells .entry))) k) × (r ≤ degrees * cellSumMost) ⌝ }
 {
@@ -52,14 +53,14 @@ fn row_sum(cells: &[u32; 1681], k: usize) -> usize
     sum
 }
 
-fn is_uneven(cells: &[u32; 1681], k: usize) -> bool
+fn is_uneven(cells: &[u32; CELLS], k: usize) -> bool
     requires { ⌜ (0 < k) × (k < degrees) × AtMost cellSumMost (now cells) ⌝ }
     ensures { λ r. ⌜ r ≡ uneven (matrixOf (now (cells .entry))) k ⌝ }
 {
     row_sum(cells, k) % k != 0
 }
 
-fn first_uneven(cells: &[u32; 1681]) -> usize
+fn first_uneven(cells: &[u32; CELLS]) -> usize
     requires { ⌜ AtMost cellSumMost (now cells) ⌝ }
     ensures { λ r. ⌜ r ≡ firstUneven (matrixOf (now (cells .entry))) ⌝ }
 {
@@ -74,7 +75,7 @@ fn first_uneven(cells: &[u32; 1681]) -> usize
 }
 
 // D(k)
-fn count_of(cells: &[u32; 1681], k: usize) -> usize
+fn count_of(cells: &[u32; CELLS], k: usize) -> usize
     requires { ⌜ (k < degrees) × AtMost cellSumMost (now cells) ⌝ }
     ensures { λ r. ⌜ (r ≡ count (matrixOf (now (cells .entry))) k) × (r ≤ degrees * cellSumMost) ⌝ }
 {
@@ -85,11 +86,11 @@ fn count_of(cells: &[u32; 1681], k: usize) -> usize
 }
 
 // All D(k), by degree.
-pub fn counts(cells: &[u32; 1681]) -> [usize; 41]
+pub fn counts(cells: &[u32; CELLS]) -> [usize; DEGREES]
     requires { ⌜ AtMost cellSumMost (now cells) ⌝ }
     ensures { λ r. ⌜ r ≡ countsOf (matrixOf (now (cells .entry))) ⌝ }
 {
-    let mut t = [0usize; 41];
+    let mut t = [0usize; DEGREES];
     for k in 0..DEGREES {
         t[k] = count_of(cells, k);
     }
@@ -97,7 +98,7 @@ pub fn counts(cells: &[u32; 1681]) -> [usize; 41]
 }
 
 // The most that cell (k, l) can hold: D(k) × D(l), on the diagonal D(k) × (D(k) - 1).
-fn cell_most(counts: &[usize; 41], k: usize, l: usize) -> usize
+fn cell_most(counts: &[usize; DEGREES], k: usize, l: usize) -> usize
     requires { ⌜ (k < degrees) × (l < degrees) × AtMost (degrees * cellSumMost) (now counts) ⌝ }
     ensures { λ r. ⌜ r ≡ cellMost (countIn (now (counts .entry))) k l ⌝ }
 {
@@ -109,14 +110,14 @@ fn cell_most(counts: &[usize; 41], k: usize, l: usize) -> usize
 }
 
 // Cell (k, l) is above its most.
-fn is_overfull(cells: &[u32; 1681], counts: &[usize; 41], k: usize, l: usize) -> bool
+fn is_overfull(cells: &[u32; CELLS], counts: &[usize; DEGREES], k: usize, l: usize) -> bool
     requires { ⌜ (k < degrees) × (l < degrees) × AtMost cellSumMost (now cells) × (now counts ≡ countsOf (matrixOf (now cells))) ⌝ }
     ensures { λ r. ⌜ r ≡ overfull (matrixOf (now (cells .entry))) k l ⌝ }
 {
     cell_most(counts, k, l) < cell(cells, k, l)
 }
 
-fn first_overfull_in(cells: &[u32; 1681], counts: &[usize; 41], k: usize) -> usize
+fn first_overfull_in(cells: &[u32; CELLS], counts: &[usize; DEGREES], k: usize) -> usize
     requires { ⌜ (k < degrees) × AtMost cellSumMost (now cells) × (now counts ≡ countsOf (matrixOf (now cells))) ⌝ }
     ensures { λ r. ⌜ r ≡ firstOverfullIn (matrixOf (now (cells .entry))) k ⌝ }
 {
@@ -131,7 +132,7 @@ fn first_overfull_in(cells: &[u32; 1681], counts: &[usize; 41], k: usize) -> usi
 }
 
 // No cell of row k from the diagonal on is above its most. A flag and no early exit: most tables pass.
-fn row_fits(cells: &[u32; 1681], counts: &[usize; 41], k: usize) -> bool
+fn row_fits(cells: &[u32; CELLS], counts: &[usize; DEGREES], k: usize) -> bool
     requires { ⌜ (k < degrees) × AtMost cellSumMost (now cells) × (now counts ≡ countsOf (matrixOf (now cells))) ⌝ }
     ensures { λ r. ⌜ r ≡ rowFits (matrixOf (now (cells .entry))) k ⌝ }
 {
@@ -144,7 +145,7 @@ fn row_fits(cells: &[u32; 1681], counts: &[usize; 41], k: usize) -> bool
 }
 
 // The cells before the diagonal stand in rows that have passed.
-fn first_overfull(cells: &[u32; 1681], counts: &[usize; 41]) -> usize
+fn first_overfull(cells: &[u32; CELLS], counts: &[usize; DEGREES]) -> usize
     requires { ⌜ AtMost cellSumMost (now cells) × (now counts ≡ countsOf (matrixOf (now cells))) ⌝ }
     ensures { λ r. ⌜ r ≡ firstOverfull (matrixOf (now (cells .entry))) ⌝ }
 {
@@ -159,7 +160,7 @@ fn first_overfull(cells: &[u32; 1681], counts: &[usize; 41]) -> usize
 }
 
 // N
-pub fn vertex_count(cells: &[u32; 1681], counts: &[usize; 41]) -> usize
+pub fn vertex_count(cells: &[u32; CELLS], counts: &[usize; DEGREES]) -> usize
     requires { ⌜ AtMost cellSumMost (now cells) × (now counts ≡ countsOf (matrixOf (now cells))) ⌝ }
     ensures { λ r. ⌜ r ≡ vertices (matrixOf (now (cells .entry))) ⌝ }
 {
@@ -177,7 +178,7 @@ struct Run {
 }
 
 // The class of vertex v, from that of an earlier vertex.
-fn run_at(counts: &[usize; 41], v: usize, run: Run) -> Run
+fn run_at(counts: &[usize; DEGREES], v: usize, run: Run) -> Run
     requires { ⌜ (let D = countIn (now counts) in Reaches D (run .class) (run .end) v × (v < total degrees D) × (total degrees D ≤ mostVertices)) ⌝ }
     ensures { λ r. ⌜ (let D = countIn (now (counts .entry)) in Reaches D (r .class) (r .end) v × (r .class ≡ classOf degrees D v)) ⌝ }
 {
@@ -191,12 +192,12 @@ fn run_at(counts: &[usize; 41], v: usize, run: Run) -> Run
 }
 
 // The degree of each vertex, with zeros behind the last.
-pub fn classes(cells: &[u32; 1681], counts: &[usize; 41]) -> [u8; 200]
+pub fn classes(cells: &[u32; CELLS], counts: &[usize; DEGREES]) -> [u8; MOST_VERTICES]
     requires { ⌜ AtMost cellSumMost (now cells) × (now counts ≡ countsOf (matrixOf (now cells))) × (vertices (matrixOf (now cells)) ≤ mostVertices) ⌝ }
     ensures { λ r. ⌜ r ≡ classesOf (matrixOf (now (cells .entry))) ⌝ }
 {
     let n = vertex_count(cells, counts);
-    let mut t = [0u8; 200];
+    let mut t = [0u8; MOST_VERTICES];
     let mut run = Run {
         class: 0,
         end: counts[0],
@@ -209,7 +210,7 @@ pub fn classes(cells: &[u32; 1681], counts: &[usize; 41]) -> [u8; 200]
 }
 
 // Half the sum of all cells.
-pub fn edges_wanted(cells: &[u32; 1681]) -> usize
+pub fn edges_wanted(cells: &[u32; CELLS]) -> usize
     requires { ⌜ AtMost cellSumMost (now cells) ⌝ }
     ensures { λ r. ⌜ r ≡ wanted (matrixOf (now (cells .entry))) ⌝ }
 {
@@ -221,7 +222,7 @@ pub fn edges_wanted(cells: &[u32; 1681]) -> usize
 }
 
 // The tests 9 to 12, each over all cells before the next begins.
-pub fn layout_check(cells: &[u32; 1681], counts: &[usize; 41]) -> Verdict
+pub fn layout_check(cells: &[u32; CELLS], counts: &[usize; DEGREES]) -> Verdict
     requires { ⌜ AtMost cellSumMost (now cells) × (now counts ≡ countsOf (matrixOf (now cells))) ⌝ }
     ensures { λ r. ⌜ r ≡ layoutVerdict (matrixOf (now (cells .entry))) ⌝ }
 {

@@ -7,7 +7,9 @@ use slices::wide;
 
 pub const RECORD_SIZE: usize = 4;
 
-pub const BLOCK_MOST: usize = 64;
+pub const MOST_RECORDS: usize = 16;
+
+pub const BLOCK_MOST: usize = RECORD_SIZE * MOST_RECORDS;
 
 // Whether a block may have n bytes.
 pub fn block_length(n: usize) -> bool

@@ -1,17 +1,18 @@
 -- `runner::take_all` meets its contract.
 use mathlib.Core.Path.{_≡_}
-use Prim.Native.Nat.{_≤_, _-_}
+use Prim.Native.Nat.{_+_, _≤_, _-_}
 use native.Mathlib.Omega.{arith}
 use borrow.Author.Needs.{needs}
 use lib.ListN.{length}
+use Rattle.journal.specs.Journal.{mostBlocks}
 use Rattle.runner.proofs.take_all.Statement.{statement}
 use Rattle.runner.proofs.take_all.Tie as tie
 
 abbrev Inv-loop : tie.InvT-loop
-Inv-loop journal₀ adjacency input at₀ number₀ journal at number = (at ≤ length input) × (number ≤ 65) × (length journal ≡ length journal₀)
+Inv-loop journal₀ adjacency input at₀ number₀ journal at number = (at ≤ length input) × (number ≤ mostBlocks + 1) × (length journal ≡ length journal₀)
 
 abbrev μ-loop : tie.MeasureT-loop
-μ-loop journal₀ adjacency input at₀ number₀ journal at number = 65 - number
+μ-loop journal₀ adjacency input at₀ number₀ journal at number = mostBlocks + 1 - number
 
 pub take-all-spec : {M : Type 1} → statement M
 take-all-spec =

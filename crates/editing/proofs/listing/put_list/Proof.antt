@@ -7,13 +7,14 @@ use lib.ListN.{length, length-append}
 use lib.Seq.{sets, length-sets}
 use Rattle.finite.specs.Range.{catTo}
 use Rattle.finite.proofs.Fold.{catTo-none, catTo-more, catTo-part, sets-append}
+use Rattle.adjacency.specs.Adjacency.{side}
 use Rattle.editing.specs.List.{edgeBytes}
 use Rattle.editing.proofs.listing.put_list.Statement.{statement}
 use Rattle.editing.proofs.listing.put_list.Tie as tie
 
 abbrev Inv-loop : tie.InvT-loop
 Inv-loop adjacency n output₀ a₀ v₀ output a v =
-    (v ≤ n) × (a ≡ length (catTo v (λ x. catTo n (edgeBytes adjacency x)))) × (a ≤ 400 * v)
+    (v ≤ n) × (a ≡ length (catTo v (λ x. catTo n (edgeBytes adjacency x)))) × (a ≤ 2 * side * v)
     × (output ≡ sets output₀ 0 (catTo v (λ x. catTo n (edgeBytes adjacency x))))
 
 abbrev μ-loop : tie.MeasureT-loop
