@@ -16,7 +16,7 @@ abbrev pub side : ℕ
 side = mostVertices
 
 abbrev pub adjacencySize : ℕ
-adjacencySize = 40000
+adjacencySize = side * side
 
 -- byte v × 200 + w is 1 where v and w are linked, else 0
 abbrev pub edge : List ℕ → Graph

@@ -6,10 +6,12 @@ use Prim.Native.Nat.{ℕ, _+_, _*_}
 use lib.ListN.{length, getD}
 use Rattle.finite.specs.Range.{δ, sumTo}
 use Rattle.graph.specs.Graph.{Graph}
+use Rattle.graph.specs.Tests.{degrees}
+use Rattle.adjacency.specs.Adjacency.{side}
 
 -- one sum for each degree and each vertex
 abbrev pub sumsSize : ℕ
-sumsSize = 8200
+sumsSize = degrees * side
 
 -- s′ is s with x i added at place at i, for each i below n
 pub record Added (n : ℕ) (at x : ℕ → ℕ) (s s′ : List ℕ) : Type 0 where

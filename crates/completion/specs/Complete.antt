@@ -2,13 +2,14 @@
 -- Assumes nothing.
 use mathlib.Core.Bool.{Bool}
 use mathlib.Core.List.{List}
-use Prim.Native.Nat.{ℕ, _+_}
+use Prim.Native.Nat.{ℕ, _+_, _*_, _/_}
 use lib.Dec.{ltb}
 use Rattle.finite.specs.Range.{iterate}
 use Rattle.answer.specs.Refusals.{unlessStopped}
 use Rattle.answer.specs.declared.CompleteAnswer.{CompleteAnswer}
 use Rattle.answer.specs.declared.CompleteAnswer.the-variants.{Completed, Refused}
-use Rattle.graph.specs.Tests.{degrees}
+use Rattle.graph.specs.Tests.{mostDegree, degrees}
+use Rattle.table.specs.Layout.{mostVertices}
 use Rattle.journal.specs.Journal.{jdmOf}
 use Rattle.state.specs.Checks.{phaseVerdict}
 use Rattle.state.specs.Laid.{vertexCount, degreeAt}
@@ -49,7 +50,7 @@ run fuel n cls T s = iterate fuel (isIncomplete n cls T) (next n cls T) s
 
 -- no layout has more edges: 200 vertices of degree at most 40
 abbrev pub mostEdges : ℕ
-mostEdges = 4000
+mostEdges = mostVertices * mostDegree / 2
 
 -- a laid state completed
 abbrev pub completed : List ℕ → List ℕ → Ran

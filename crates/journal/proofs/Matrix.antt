@@ -10,7 +10,7 @@ use Rattle.finite.proofs.Fold.{foldTo-keeps}
 use Rattle.finite.proofs.Sum.{sumTo-none, sumTo-more}
 use Rattle.slices.proofs.Part.{bytes-part}
 use Rattle.slices.proofs.Zero.{getD-zeros}
-use Rattle.table.specs.Block.{records, blockCell}
+use Rattle.table.specs.Block.{mostRecords, records, blockCell}
 use Rattle.table.specs.Cells.{cellsSize, matrixOf, noCells, addBlock, AtMost, blockSumMost}
 use Rattle.table.proofs.Matrix.{length-addBlock, matrix-none, matrix-addBlock, atMost-addBlock}
 use Rattle.journal.specs.Journal.{journalSize, mostBlocks, blocks, slotAt, slotLength, blockAt}
@@ -21,7 +21,7 @@ abbrev pub cellsTo : List ℕ → ℕ → List ℕ
 cellsTo j n = foldTo n (λ i c. addBlock (blockAt j i) c) noCells
 
 module _ (j : List ℕ) (e : length j ≡ journalSize) (f : Facts j) (n : ℕ) (h : n ≤ blocks j) where
-  records-most : (i : ℕ) → i < n → records (blockAt j i) ≤ 16
+  records-most : (i : ℕ) → i < n → records (blockAt j i) ≤ mostRecords
   records-most i l =
       let m : i < mostBlocks = omega (arith, f .blocks-le) in
       let s = slot-most j f i m in

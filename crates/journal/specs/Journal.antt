@@ -10,15 +10,15 @@ use Rattle.finite.specs.Range.{sumTo, allTo}
 use Rattle.slices.specs.Slices.{allZero, sameBytes}
 use Rattle.table.specs.Block.{blockMost, blockLength, records, firstBad, blockCell}
 
--- most blocks, bytes of a slot, bytes of the journal: 2 + slotSize × mostBlocks
+-- most blocks; bytes of a slot: its length byte and a block; bytes of the journal: phase, number of blocks, and the slots
 abbrev pub mostBlocks : ℕ
 mostBlocks = 64
 
 abbrev pub slotSize : ℕ
-slotSize = 65
+slotSize = 1 + blockMost
 
 abbrev pub journalSize : ℕ
-journalSize = 4162
+journalSize = 2 + slotSize * mostBlocks
 
 -- byte 0: the phase (document 01: the stage), 0 taking, 1 laid; byte 1: the blocks in it
 abbrev pub phase : List ℕ → ℕ

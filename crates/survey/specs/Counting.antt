@@ -9,6 +9,7 @@ use lib.ListN.{getD, set}
 use Rattle.finite.specs.Range.{sumTo, lowest}
 use Rattle.graph.specs.Graph.{Graph, atEdge, degree, jdm}
 use Rattle.graph.specs.Tests.{mostDegree, degrees}
+use Rattle.table.specs.Block.{recordSize}
 use Rattle.table.specs.Cells.{matrixOf, place}
 use Rattle.table.specs.Layout.{mostVertices}
 use Rattle.survey.specs.EdgeList.{endV, endW}
@@ -55,11 +56,11 @@ firstAboveIn d = lowest 0 mostVertices (λ v. ltb mostDegree (degreeIn d v))
 
 -- the most that a cell reaches: 200 vertices of degree 40
 abbrev pub cellMostOwn : ℕ
-cellMostOwn = 8000
+cellMostOwn = mostVertices * mostDegree
 
 abbrev pub CellsSmall : List ℕ → Type 0
 CellsSmall c = (k l : ℕ) → matrixOf c k l ≤ cellMostOwn
 
 -- the most bytes that records take: 4 for each of 41 × 41 cells
 abbrev pub recordsMost : ℕ
-recordsMost = 6724
+recordsMost = recordSize * (degrees * degrees)

@@ -18,7 +18,7 @@ use Rattle.finite.proofs.Fold.{foldTo-keeps}
 use Rattle.finite.proofs.Sum.{sumTo-none, sumTo-more}
 use Rattle.graph.specs.Tests.{degrees}
 use Rattle.slices.proofs.Zero.{getD-zeros}
-use Rattle.table.specs.Block.{records, recordK, recordL, recordCount, firstBad, samePair, recordCell, blockCell}
+use Rattle.table.specs.Block.{mostRecords, recordMost, records, recordK, recordL, recordCount, firstBad, samePair, recordCell, blockCell}
 use Rattle.table.specs.Cells.{cellsSize, place, matrixOf, noCells, addRecord, addBlock, AtMost, blockSumMost}
 use Rattle.table.proofs.Block.{Good, good-record, all-good, samePair-straight, samePair-crossed, samePair-none, recordCell-sym, recordCell-none}
 
@@ -50,15 +50,15 @@ atMost-set m v c p h l q = go (ℕ-discrete q p) (decLt p (length c))
 
 -- a record adds at most 65,535 to a cell
 module _ (b : List ℕ) (bytes : (i : ℕ) → getD b i 0 < 256) (m : ℕ) (c : List ℕ) (h : AtMost m c) where
-  pub atMost-addRecords : (n : ℕ) → AtMost (m + 65535 * n) (foldTo n (addRecord b) c)
-  atMost-addRecords n = foldTo-keeps (λ i x. AtMost (m + 65535 * i) x) (addRecord b) c n (λ p. omega (arith, h p)) step
+  pub atMost-addRecords : (n : ℕ) → AtMost (m + recordMost * n) (foldTo n (addRecord b) c)
+  atMost-addRecords n = foldTo-keeps (λ i x. AtMost (m + recordMost * i) x) (addRecord b) c n (λ p. omega (arith, h p)) step
     where
-      step : (i : ℕ) (x : List ℕ) → i < n → AtMost (m + 65535 * i) x → AtMost (m + 65535 * (i + 1)) (addRecord b i x)
+      step : (i : ℕ) (x : List ℕ) → i < n → AtMost (m + recordMost * i) x → AtMost (m + recordMost * (i + 1)) (addRecord b i x)
       step i x l g =
-          atMost-set (m + 65535 * (i + 1)) _ x (place (recordK b i) (recordL b i)) (λ p. omega (arith, g p))
+          atMost-set (m + recordMost * (i + 1)) _ x (place (recordK b i) (recordL b i)) (λ p. omega (arith, g p))
           (omega (arith, g (place (recordK b i) (recordL b i)), bytes (4 * i + 2), bytes (4 * i + 3)))
 
-pub atMost-addBlock : (m : ℕ) (b c : List ℕ) → AtMost m c → records b ≤ 16 → ((i : ℕ) → getD b i 0 < 256) →
+pub atMost-addBlock : (m : ℕ) (b c : List ℕ) → AtMost m c → records b ≤ mostRecords → ((i : ℕ) → getD b i 0 < 256) →
     AtMost (m + blockSumMost) (addBlock b c)
 atMost-addBlock m b c h l bytes p = omega (arith, atMost-addRecords b bytes m c h (records b) p)
 

@@ -10,12 +10,19 @@ use Rattle.graph.specs.Tests.{leastDegree, mostDegree}
 use Rattle.table.specs.declared.degree.MadeDegree.{MadeDegree}
 use Rattle.table.specs.declared.degree.MadeDegree.the-variants.{Made, OutOfRange}
 
--- bytes of a record, and the most bytes of a block
+-- bytes of a record, most records of a block, and the most bytes of a block
 abbrev pub recordSize : ℕ
 recordSize = 4
 
+abbrev pub mostRecords : ℕ
+mostRecords = 16
+
 abbrev pub blockMost : ℕ
-blockMost = 64
+blockMost = recordSize * mostRecords
+
+-- the most that a record adds: its count has 16 bits
+abbrev pub recordMost : ℕ
+recordMost = 65535
 
 -- a degree runs from 1 to 40
 abbrev pub isDegree : ℕ → Bool

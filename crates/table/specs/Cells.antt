@@ -7,11 +7,11 @@ use lib.Dec.{ltb}
 use lib.ListN.{getD, set, replicate}
 use Rattle.finite.specs.Range.{foldTo}
 use Rattle.graph.specs.Tests.{degrees}
-use Rattle.table.specs.Block.{records, recordK, recordL, recordCount}
+use Rattle.table.specs.Block.{mostRecords, recordMost, records, recordK, recordL, recordCount}
 
 -- how many numbers the array has
 abbrev pub cellsSize : ℕ
-cellsSize = 1681
+cellsSize = degrees * degrees
 
 -- where the cell of k and l stands, in either order
 abbrev pub place : ℕ → ℕ → ℕ
@@ -36,10 +36,10 @@ addBlock b c = foldTo (records b) (addRecord b) c
 abbrev pub AtMost : ℕ → List ℕ → Type 0
 AtMost m c = (p : ℕ) → getD c p 0 ≤ m
 
--- the most that 64 blocks of 16 records can add to one cell: 64 × 16 × 65,535
-abbrev pub cellSumMost : ℕ
-cellSumMost = 67107840
-
--- the most that a block can add to one cell: 16 × 65,535
+-- the most that a block can add to one cell
 abbrev pub blockSumMost : ℕ
-blockSumMost = 1048560
+blockSumMost = mostRecords * recordMost
+
+-- the most that a journal's blocks can add to one cell: 64 blocks
+abbrev pub cellSumMost : ℕ
+cellSumMost = 64 * blockSumMost

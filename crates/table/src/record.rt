@@ -2,7 +2,7 @@
 ghost use mathlib.Core.Path.{_≡_};
 ghost use Prim.Native.Nat.{_+_, _*_, _≤_, _<_};
 ghost use lib.ListN.{length};
-ghost use Rattle.table.specs.Block.{recordSize, blockLength, recordCount, goodRecord, firstBad};
+ghost use Rattle.table.specs.Block.{recordSize, recordMost, blockLength, recordCount, goodRecord, firstBad};
 use slices::wide;
 
 pub const RECORD_SIZE: usize = 4;
@@ -20,7 +20,7 @@ pub fn block_length(n: usize) -> bool
 
 pub fn record_count(block: &[u8], i: usize) -> usize
     requires { ⌜ recordSize * i + recordSize ≤ length (now block) ⌝ }
-    ensures { λ r. ⌜ (r ≡ recordCount (now (block .entry)) i) × (r ≤ 65535) ⌝ }
+    ensures { λ r. ⌜ (r ≡ recordCount (now (block .entry)) i) × (r ≤ recordMost) ⌝ }
 {
     let at = RECORD_SIZE * i;
     wide(block[at + 2]) + 256 * wide(block[at + 3])
