@@ -5,8 +5,9 @@
 set -eu
 cd "$(dirname "$0")"
 cargo build --release --quiet --package bench
-bench=${CARGO_TARGET_DIR:-target}/release/bench
-log=${TMPDIR:-/tmp}/replica_bench.$$
+folder=${CARGO_TARGET_DIR:-target}
+bench=$folder/release/bench
+log=$(mktemp)
 trap 'rm -f "$log"' EXIT
 
 printf '%-14s%-18s%16s  %s\n' entry case instructions answer

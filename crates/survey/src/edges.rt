@@ -3,6 +3,8 @@ ghost use mathlib.Core.Path.{_≡_};
 ghost use Prim.Native.Nat.{_+_, _*_, _≤_};
 ghost use lib.ListN.{length};
 ghost use Rattle.survey.specs.EdgeList.{rises, goodEdge, firstBadEdge};
+use slices::wide;
+use table::layout::MOST_VERTICES;
 
 // Edge i is above the edge before it, by v and then w.
 fn rises(edges: &[u8], i: usize) -> bool
@@ -26,7 +28,7 @@ fn good_edge(edges: &[u8], i: usize) -> bool
 {
     let v = edges[2 * i];
     let w = edges[2 * i + 1];
-    (v < w) & (w < 200) & rises(edges, i)
+    (v < w) & (wide(w) < MOST_VERTICES) & rises(edges, i)
 }
 
 // The first edge that is not good, or the number of edges.

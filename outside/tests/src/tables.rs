@@ -170,59 +170,27 @@ fn finish(wanted: &Cells, laid: u64, both: &mut Both) {
 }
 
 /// Some degrees, and a most for each cell among them.
-struct Family {
-    degrees: &'static [usize],
-    most: u64,
-}
-
-const FAMILIES: [Family; 9] = [
-    Family {
-        degrees: &[1, 2, 3],
-        most: 3,
-    },
-    Family {
-        degrees: &[1, 2],
-        most: 10,
-    },
-    Family {
-        degrees: &[2, 3],
-        most: 9,
-    },
-    Family {
-        degrees: &[1, 4],
-        most: 8,
-    },
-    Family {
-        degrees: &[2, 4],
-        most: 8,
-    },
-    Family {
-        degrees: &[3, 4],
-        most: 12,
-    },
-    Family {
-        degrees: &[1],
-        most: 204,
-    },
-    Family {
-        degrees: &[2],
-        most: 60,
-    },
-    Family {
-        degrees: &[4],
-        most: 100,
-    },
+const FAMILIES: [(&[usize], u64); 9] = [
+    (&[1, 2, 3], 3),
+    (&[1, 2], 10),
+    (&[2, 3], 9),
+    (&[1, 4], 8),
+    (&[2, 4], 8),
+    (&[3, 4], 12),
+    (&[1], 204),
+    (&[2], 60),
+    (&[4], 100),
 ];
 
 /// Every table of small families, whether it has a graph or not.
 pub fn exhaustive() -> Vec<Matrix> {
     let mut tables = Vec::new();
-    for family in &FAMILIES {
+    for (degrees, most) in FAMILIES {
         let mut pairs = Vec::new();
-        for (i, &k) in family.degrees.iter().enumerate() {
-            pairs.extend(family.degrees[i..].iter().map(|&l| (k, l)));
+        for (i, &k) in degrees.iter().enumerate() {
+            pairs.extend(degrees[i..].iter().map(|&l| (k, l)));
         }
-        fill(&pairs, family.most, &Matrix::new(), &mut tables);
+        fill(&pairs, most, &Matrix::new(), &mut tables);
     }
     tables
 }

@@ -12,5 +12,6 @@ good-edge-spec =
     (λ c. omega arith)  -- mul-w
     (λ c. omega arith)  -- add-w
     (λ c. omega arith)  -- shared-slice-read-w
+    (λ c κs. tt)  -- wide-requires
     (λ c κs. omega arith)  -- rises-requires
-    (λ c. rw (c .rises .ensures)))  -- returns
+    (λ c. rw (c .before .wide .ensures .0, c .rises .ensures)))  -- returns
