@@ -6,10 +6,11 @@ ghost use lib.ListN.{length};
 ghost use Rattle.graph.specs.Tests.{degrees};
 ghost use Rattle.table.specs.Block.{recordSize, blockMost, goodRecord, records, firstBad};
 ghost use Rattle.table.specs.Cells.{cellsSize, matrixOf, place, addRecord, addBlock, AtMost, cellSumMost, blockSumMost};
+use crate::degree::Degree;
 use slices::wide;
 
 // The degrees are the numbers 1 to DEGREES - 1.
-pub const DEGREES: usize = 41;
+pub const DEGREES: usize = Degree::MOST as usize + 1;
 
 pub const CELLS: usize = DEGREES * DEGREES;
 
