@@ -11,7 +11,7 @@ use Rattle.graph.specs.Tests.{degrees}
 use Rattle.slices.specs.Slices.{allZero}
 use Rattle.table.specs.Layout.{mostVertices}
 
--- the matrix has 200 rows of 200 bytes
+-- the matrix has 200 rows of 200 bytes, 40,000 in all
 abbrev pub side : ℕ
 side = mostVertices
 

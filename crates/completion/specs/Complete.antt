@@ -48,7 +48,7 @@ isIncomplete n cls T s = ltb (shortK n cls T (s .adjacency)) degrees
 abbrev pub run : ℕ → ℕ → (ℕ → ℕ) → (ℕ → ℕ → ℕ) → Ran → Ran
 run fuel n cls T s = iterate fuel (isIncomplete n cls T) (next n cls T) s
 
--- no layout has more edges: 200 vertices of degree at most 40
+-- no layout has more edges: 200 vertices of degree at most 40 have 4,000
 abbrev pub mostEdges : ℕ
 mostEdges = mostVertices * mostDegree / 2
 

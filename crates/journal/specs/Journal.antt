@@ -10,7 +10,7 @@ use Rattle.finite.specs.Range.{sumTo, allTo}
 use Rattle.slices.specs.Slices.{allZero, sameBytes}
 use Rattle.table.specs.Block.{blockMost, blockLength, records, firstBad, blockCell}
 
--- most blocks; bytes of a slot: its length byte and a block; bytes of the journal: phase, number of blocks, and the slots
+-- most blocks; bytes of a slot, 65: its length byte and a block; bytes of the journal, 4,162: phase, number of blocks, and the slots
 abbrev pub mostBlocks : ℕ
 mostBlocks = 64
 

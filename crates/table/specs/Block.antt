@@ -10,7 +10,7 @@ use Rattle.graph.specs.Tests.{leastDegree, mostDegree}
 use Rattle.table.specs.declared.degree.MadeDegree.{MadeDegree}
 use Rattle.table.specs.declared.degree.MadeDegree.the-variants.{Made, OutOfRange}
 
--- bytes of a record, most records of a block, and the most bytes of a block
+-- bytes of a record, most records of a block, and the most bytes of a block, 64
 abbrev pub recordSize : ℕ
 recordSize = 4
 
