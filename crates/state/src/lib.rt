@@ -1,4 +1,4 @@
-// The state: journal and adjacency together, and the checks of both with which every entry but clear begins.
+// The state: journal and adjacency together, and the checks of both with which every entry but clear and survey begins.
 ghost use mathlib.Core.Path.{_≡_};
 ghost use mathlib.Core.Bool.{true};
 ghost use lib.ListN.{length};
