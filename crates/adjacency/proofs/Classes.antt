@@ -17,8 +17,8 @@ use Rattle.graph.specs.Graph.{degree, jdm}
 use Rattle.graph.specs.Tests.{degrees, count}
 use Rattle.graph.proofs.Matrix.{jdm-classes}
 use Rattle.graph.proofs.Numbering.{classOf-below, classOf-rises}
-use Rattle.table.specs.Layout.{vertices, vertexDegree, classesOf, mostVertices}
-use Rattle.table.specs.Run.{classIn}
+use Rattle.table.specs.Layout.{vertices, vertexDegree, mostVertices}
+use Rattle.table.specs.Inner.Arrays.{classesOf, classIn}
 use Rattle.adjacency.specs.Adjacency.{edge, degreesWithin, cellsWithin}
 
 module _ (n : ℕ) (cls cls′ : ℕ → ℕ) (same : (v : ℕ) → v < n → cls v ≡ cls′ v) (g : List ℕ) where

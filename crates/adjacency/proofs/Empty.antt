@@ -8,7 +8,8 @@ use native.Mathlib.Omega.{arith}
 use lib.ListN.{length, getD}
 use Rattle.finite.specs.Range.{sumTo}
 use Rattle.finite.proofs.Sum.{sumTo-zero}
-use Rattle.graph.specs.Graph.{edges, empty}
+use Rattle.graph.specs.Graph.{edges}
+use Rattle.graph.proofs.Functions.{empty}
 use Rattle.graph.proofs.Matrix.{jdm-cong, jdm-empty}
 use Rattle.adjacency.specs.Adjacency.{side, adjacencySize, edge, adjacencyOk}
 use Rattle.adjacency.proofs.Facts.{facts-adjacency}

@@ -15,7 +15,7 @@ use Rattle.finite.specs.Range.{δ, sumTo, allTo}
 use Rattle.finite.proofs.All.{allTo-cong, allTo-holds}
 use Rattle.finite.proofs.Delta.{δ-same, δ-other, δ-times-le}
 use Rattle.finite.proofs.Sum.{sumTo-none, sumTo-more, sumTo-zero, sumTo-cong, sumTo-scale, sumTo-at, sumTo-mono, sumTo-const}
-use Rattle.adjacency.specs.Sums.{Added, classDegree}
+use Rattle.adjacency.specs.Inner.Sums.{Added, classDegree}
 use Rattle.adjacency.specs.Adjacency.{side}
 use Rattle.graph.specs.Graph.{Graph, jdm}
 use Rattle.graph.specs.Tests.{degrees}

@@ -1,2 +1,2 @@
 pub mod Adjacency
-pub mod Sums
+pub mod Inner

@@ -13,20 +13,20 @@ use Rattle.graph.specs.Numbering.{total, classOf}
 use Rattle.graph.specs.Tests.{leastDegree, mostDegree, degrees}
 use Rattle.graph.proofs.Matrix.{jdm-classes}
 use Rattle.graph.proofs.Numbering.{classOf-range}
-use Rattle.table.specs.Cells.{matrixOf}
-use Rattle.table.specs.Layout.{vertexDegree, countsOf}
-use Rattle.table.specs.Run.{countIn, classIn}
+use Rattle.table.specs.Inner.Cells.{matrixOf}
+use Rattle.table.specs.Layout.{vertexDegree}
+use Rattle.table.specs.Inner.Arrays.{countsOf, countIn, classIn}
 use Rattle.table.proofs.Counts.{counted}
 use Rattle.adjacency.specs.Adjacency.{edge}
 use Rattle.adjacency.proofs.Classes.{class-at}
-use Rattle.joining.specs.Work.{degreesOf}
-use Rattle.joining.specs.Block.{blockSum}
+use Rattle.joining.specs.Inner.Work.{degreesOf}
+use Rattle.joining.specs.Inner.Block.{blockSum}
 use Rattle.joining.proofs.Blocks.{start-at, start-rises, start-most, cell-block}
 use Rattle.completion.specs.Complete.{Ran}
-use Rattle.completion.specs.Cellwise.{cellStep, cellMissing, fillCell, fillRow}
-use Rattle.completion.specs.Cursor.{ClassRange}
-use Rattle.completion.specs.Search.{Ranged}
-use Rattle.completion.specs.Work.{Sound, Fillable, Arranged, Working, Countable, cellIn}
+use Rattle.completion.specs.Inner.Cellwise.{cellStep, cellMissing, fillCell, fillRow}
+use Rattle.completion.specs.Inner.Cursor.{ClassRange}
+use Rattle.completion.specs.Inner.Search.{Ranged}
+use Rattle.completion.specs.Inner.Work.{Sound, Fillable, Arranged, Working, Countable, cellIn}
 use Rattle.completion.proofs.Sound.{row-sound, rows-sound}
 
 module _ (n : ℕ) (cells classes starts : List ℕ) (a : Arranged n cells classes starts) where

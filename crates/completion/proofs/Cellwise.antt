@@ -24,7 +24,7 @@ use Rattle.adjacency.specs.Adjacency.{edge}
 use Rattle.joining.specs.Join.{joinBytes}
 use Rattle.completion.specs.Choice.{shortCell, shortL, shortK, openW, openV}
 use Rattle.completion.specs.Complete.{Ran, next, isIncomplete, run}
-use Rattle.completion.specs.Cellwise.{cellStep, cellMissing, fillCell, fillRow, fillAll, Filling}
+use Rattle.completion.specs.Inner.Cellwise.{cellStep, cellMissing, fillCell, fillRow, fillAll, Filling}
 use Rattle.completion.proofs.Chosen.{Chosen, chosen, Stepped, stepped}
 
 module _ (n : ℕ) (cls : ℕ → ℕ) (T : ℕ → ℕ → ℕ) where

@@ -22,7 +22,7 @@ use Rattle.adjacency.specs.Adjacency.{edge}
 use Rattle.joining.specs.Join.{own, joinBytes}
 use Rattle.joining.proofs.Bytes.{join-bytes, join-length}
 use Rattle.completion.specs.Choice.{openColumn, openW, openV}
-use Rattle.completion.specs.Cellwise.{Filling}
+use Rattle.completion.specs.Inner.Cellwise.{Filling}
 
 -- what the choice of a pair gives in a short cell (k, l)
 pub record Chosen (n : ℕ) (cls : ℕ → ℕ) (T : ℕ → ℕ → ℕ) (g : List ℕ) (k l v w : ℕ) : Type 0 where

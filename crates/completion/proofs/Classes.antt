@@ -14,7 +14,7 @@ use Rattle.joining.specs.Join.{own}
 use Rattle.joining.proofs.Classes.{target-classes, partial-classes, join-classes, joinCount-classes}
 use Rattle.completion.specs.Choice.{shortCell, shortL, shortK, openColumn, openW, openV}
 use Rattle.completion.specs.Complete.{Ran, next, isIncomplete, run}
-use Rattle.completion.specs.Cellwise.{Filling}
+use Rattle.completion.specs.Inner.Cellwise.{Filling}
 use Rattle.completion.proofs.Chosen.{Chosen, chosen, stepped}
 use Rattle.completion.proofs.Works.{short-cell}
 

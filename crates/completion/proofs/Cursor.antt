@@ -20,11 +20,11 @@ use Rattle.graph.proofs.Join.{join-works}
 use Rattle.graph.proofs.Resume.{RowsFull, join-row, join-rows}
 use Rattle.adjacency.specs.Adjacency.{edge}
 use Rattle.joining.specs.Join.{own, transferAt, joinBytes}
-use Rattle.joining.specs.Work.{freed}
+use Rattle.joining.specs.Inner.Work.{freed}
 use Rattle.joining.proofs.Bytes.{join-bytes}
 use Rattle.completion.specs.Choice.{openColumn, openW, openV}
-use Rattle.completion.specs.Cellwise.{Filling}
-use Rattle.completion.specs.Cursor.{RowsDone, ColumnsDone}
+use Rattle.completion.specs.Inner.Cellwise.{Filling}
+use Rattle.completion.specs.Inner.Cursor.{RowsDone, ColumnsDone}
 use Rattle.completion.proofs.Chosen.{Chosen, column-facts}
 
 -- a column is not open where its vertex is linked, or is no candidate

@@ -20,12 +20,12 @@ use Rattle.journal.proofs.Table.{jdm-table}
 use Rattle.adjacency.specs.Adjacency.{edge}
 use Rattle.state.specs.Checks.{phaseVerdict}
 use Rattle.state.specs.Valid.{lengthsOk, valid}
-use Rattle.state.specs.Laid.{vertexCount, degreeAt, edgeTotal}
+use Rattle.state.specs.Laid.{vertexCount, degreeAt}
+use Rattle.state.proofs.Facts.{edgeTotal, StateFacts, Laid, valid-facts, lengths-both}
 use Rattle.state.proofs.Checks.{phase-passed, phase-go}
-use Rattle.state.proofs.Facts.{StateFacts, Laid, valid-facts, lengths-both}
 use Rattle.state.proofs.Graph.{laid-valid}
 use Rattle.completion.specs.Complete.{Ran, completed, completeAnswer, completeAdjacency}
-use Rattle.completion.specs.Cellwise.{Filling}
+use Rattle.completion.specs.Inner.Cellwise.{Filling}
 use Rattle.completion.proofs.Works.{Finished, finishes}
 
 -- what the checks of a completed state said

@@ -6,11 +6,11 @@ use Prim.Native.Nat.{ℕ, _≤_, _<_}
 use native.Mathlib.Omega.{arith}
 use lib.ListN.{length}
 use Rattle.finite.specs.Range.{foldTo}
-use Rattle.joining.specs.Work.{degreesOf}
+use Rattle.joining.specs.Inner.Work.{degreesOf}
 use Rattle.completion.specs.Complete.{Ran}
-use Rattle.completion.specs.Cellwise.{cellStep}
-use Rattle.completion.specs.Search.{Ranged}
-use Rattle.completion.specs.Work.{Sound, Resumes, Steppable, Fillable}
+use Rattle.completion.specs.Inner.Cellwise.{cellStep}
+use Rattle.completion.specs.Inner.Search.{Ranged}
+use Rattle.completion.specs.Inner.Work.{Sound, Resumes, Steppable, Fillable}
 use Rattle.completion.specs.declared.pair.Cell.{Cell}
 use Rattle.completion.specs.declared.cell.Cursor.{Cursor}
 use Rattle.completion.proofs.Cellwise.{part-short}

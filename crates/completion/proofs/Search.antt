@@ -14,8 +14,8 @@ use Rattle.finite.proofs.All.{and-left, and-right, and-false}
 use Rattle.adjacency.specs.Adjacency.{edge}
 use Rattle.table.specs.Layout.{mostVertices}
 use Rattle.completion.specs.Choice.{openColumn, openW, openV}
-use Rattle.completion.specs.Cursor.{freeColumn, RowsDone, ColumnsDone}
-use Rattle.completion.specs.Search.{firstColumn, lowestColumn, hasColumn, Searchable, Ranged}
+use Rattle.completion.specs.Inner.Cursor.{freeColumn, RowsDone, ColumnsDone}
+use Rattle.completion.specs.Inner.Search.{firstColumn, lowestColumn, hasColumn, Searchable, Ranged}
 use Rattle.completion.specs.declared.pair.Cell.{Cell}
 
 -- the columns that the cursor has passed need not be searched: b is where the columns begin, f where the search does, r what it finds

@@ -13,8 +13,8 @@ use Rattle.adjacency.specs.Adjacency.{edge}
 use Rattle.joining.specs.Join.{own, relieveBytes, relieveCount, joinCount}
 use Rattle.completion.specs.Choice.{openW, openV}
 use Rattle.completion.specs.Complete.{Ran, mostEdges}
-use Rattle.completion.specs.Cellwise.{cellStep, cellMissing, fillCell, fillRow}
-use Rattle.completion.specs.Work.{Sound}
+use Rattle.completion.specs.Inner.Cellwise.{cellStep, cellMissing, fillCell, fillRow}
+use Rattle.completion.specs.Inner.Work.{Sound}
 use Rattle.completion.proofs.Chosen.{Stepped, chosen, stepped}
 use Rattle.completion.proofs.Cellwise.{part-short, room}
 use Rattle.completion.proofs.Works.{few-edges}

@@ -19,14 +19,14 @@ use Rattle.graph.proofs.Resume.{join-degree}
 use Rattle.table.specs.Layout.{mostVertices}
 use Rattle.adjacency.specs.Adjacency.{edge}
 use Rattle.joining.specs.Join.{own, joinBytes, joinCount}
-use Rattle.joining.specs.Work.{degreesOf, Joinable, SaturatedBelow, freed}
+use Rattle.joining.specs.Inner.Work.{degreesOf, Joinable, SaturatedBelow, freed}
 use Rattle.joining.proofs.Bytes.{join-bytes}
 use Rattle.completion.specs.Choice.{openW, openV}
 use Rattle.completion.specs.Complete.{Ran}
-use Rattle.completion.specs.Cellwise.{cellStep, Filling}
-use Rattle.completion.specs.Cursor.{ClassRange}
-use Rattle.completion.specs.Search.{lowestColumn, hasColumn, Searchable}
-use Rattle.completion.specs.Work.{Saturated, Resumes, Steppable}
+use Rattle.completion.specs.Inner.Cellwise.{cellStep, Filling}
+use Rattle.completion.specs.Inner.Cursor.{ClassRange}
+use Rattle.completion.specs.Inner.Search.{lowestColumn, hasColumn, Searchable}
+use Rattle.completion.specs.Inner.Work.{Saturated, Resumes, Steppable}
 use Rattle.completion.specs.declared.pair.Cell.{Cell}
 use Rattle.completion.specs.declared.cell.Cursor.{Cursor}
 use Rattle.completion.proofs.Chosen.{Chosen, chosen}

@@ -7,18 +7,18 @@ use Prim.Native.Nat.{ℕ, _≤_, _<_}
 use native.Mathlib.Omega.{arith}
 use Rattle.graph.specs.Numbering.{total}
 use Rattle.graph.specs.Tests.{degrees}
-use Rattle.table.specs.Cells.{matrixOf}
-use Rattle.table.specs.Layout.{mostVertices, vertices, vertexDegree, countsOf, classesOf}
-use Rattle.table.specs.Run.{countIn, classIn}
+use Rattle.table.specs.Inner.Cells.{matrixOf}
+use Rattle.table.specs.Layout.{mostVertices, vertices, vertexDegree}
+use Rattle.table.specs.Inner.Arrays.{countsOf, classesOf, countIn, classIn}
 use Rattle.table.proofs.Counts.{counted}
 use Rattle.journal.specs.Journal.{phase, jdmOf}
 use Rattle.state.specs.Valid.{lengthsOk, valid}
 use Rattle.state.proofs.Facts.{StateFacts, Laid, valid-facts}
-use Rattle.joining.specs.Work.{degreesOf}
-use Rattle.joining.specs.Block.{startsOf}
+use Rattle.joining.specs.Inner.Work.{degreesOf}
+use Rattle.joining.specs.Inner.Block.{startsOf}
 use Rattle.completion.specs.Complete.{Ran, run, mostEdges, completed}
-use Rattle.completion.specs.Cellwise.{Filling, fillAll}
-use Rattle.completion.specs.Work.{Arranged, Working}
+use Rattle.completion.specs.Inner.Cellwise.{Filling, fillAll}
+use Rattle.completion.specs.Inner.Work.{Arranged, Working}
 use Rattle.completion.proofs.Arranged.{class-same}
 use Rattle.completion.proofs.Cellwise.{fill-all}
 use Rattle.completion.proofs.Classes.{filling-classes, run-classes}

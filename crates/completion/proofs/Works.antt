@@ -27,7 +27,7 @@ use Rattle.joining.specs.Join.{own, joinBytes}
 use Rattle.joining.proofs.Bytes.{join-bytes, join-outside}
 use Rattle.completion.specs.Choice.{shortCell, shortL, shortK, openW, openV}
 use Rattle.completion.specs.Complete.{Ran, next, isIncomplete, run, mostEdges}
-use Rattle.completion.specs.Cellwise.{Filling}
+use Rattle.completion.specs.Inner.Cellwise.{Filling}
 use Rattle.completion.proofs.Chosen.{chosen, stepped}
 
 module _ (n : ℕ) (cls : ℕ → ℕ) (T : ℕ → ℕ → ℕ) where

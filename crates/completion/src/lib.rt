@@ -4,7 +4,7 @@ ghost use mathlib.Core.Bool.{true};
 ghost use Rattle.journal.specs.Journal.{phase};
 ghost use Rattle.state.specs.Valid.{lengthsOk, valid};
 ghost use Rattle.completion.specs.Complete.{completed, completeAnswer, completeAdjacency};
-ghost use Rattle.completion.specs.Work.{ran};
+ghost use Rattle.completion.specs.Inner.Work.{ran};
 
 pub mod cell;
 pub mod fill;

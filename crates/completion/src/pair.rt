@@ -4,8 +4,8 @@ ghost use Prim.Native.Nat.{_+_, _≤_, _<_, max};
 ghost use lib.ListN.{length};
 ghost use Rattle.finite.specs.Range.{lowest};
 ghost use Rattle.adjacency.specs.Adjacency.{adjacencySize, side};
-ghost use Rattle.completion.specs.Cursor.{freeColumn};
-ghost use Rattle.completion.specs.Search.{firstColumn, lowestColumn, hasColumn, Searchable};
+ghost use Rattle.completion.specs.Inner.Cursor.{freeColumn};
+ghost use Rattle.completion.specs.Inner.Search.{firstColumn, lowestColumn, hasColumn, Searchable};
 use adjacency::SIDE;
 
 // The vertices from, .., to - 1.

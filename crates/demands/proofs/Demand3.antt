@@ -20,8 +20,8 @@ use Rattle.journal.specs.Journal.{phase, jdmOf}
 use Rattle.journal.proofs.Table.{jdm-table}
 use Rattle.adjacency.specs.Adjacency.{edge}
 use Rattle.state.specs.Valid.{valid}
-use Rattle.state.specs.Laid.{vertexCount, degreeAt, edgeTotal}
-use Rattle.state.proofs.Facts.{StateFacts, Laid, valid-facts}
+use Rattle.state.specs.Laid.{vertexCount, degreeAt}
+use Rattle.state.proofs.Facts.{edgeTotal, StateFacts, Laid, valid-facts}
 use Rattle.intake.proofs.LayOut.{lay-out-honest}
 use Rattle.editing.specs.Add.{addAnswer, addAdjacency}
 use Rattle.editing.proofs.Add.{AddFacts, facts-added, AddWorks, add-works}

@@ -25,8 +25,7 @@ use Rattle.journal.proofs.Store.{phase-stored, blocks-stored, jdm-stored}
 use Rattle.journal.proofs.Laid.{blocks-laid, jdm-laid, phase-laid}
 use Rattle.adjacency.proofs.Empty.{no-edges}
 use Rattle.state.specs.Valid.{lengthsOk, valid}
-use Rattle.state.specs.Laid.{edgeTotal}
-use Rattle.state.proofs.Facts.{valid-facts, lengths-journal, valid-journal}
+use Rattle.state.proofs.Facts.{edgeTotal, valid-facts, lengths-journal, valid-journal}
 use Rattle.intake.specs.Take.{takeAnswer, takeJournal}
 use Rattle.intake.specs.LayOut.{layOutAnswer, layOutJournal}
 use Rattle.intake.proofs.Clear.{cleared-state}

@@ -21,9 +21,9 @@ use Rattle.journal.specs.Journal.{phase, jdmOf}
 use Rattle.adjacency.specs.Adjacency.{adjacencySize, edge}
 use Rattle.state.specs.Checks.{phaseVerdict}
 use Rattle.state.specs.Valid.{lengthsOk, valid}
-use Rattle.state.specs.Laid.{vertexCount, degreeAt, cellAt, isShort, edgeTotal}
+use Rattle.state.specs.Laid.{vertexCount, degreeAt, cellAt, isShort}
+use Rattle.state.proofs.Facts.{edgeTotal, StateFacts, Laid, valid-facts}
 use Rattle.state.proofs.Checks.{phase-passed, phase-go}
-use Rattle.state.proofs.Facts.{StateFacts, Laid, valid-facts}
 use Rattle.state.proofs.Graph.{laid-valid}
 use Rattle.joining.specs.Join.{own, joinBytes, joinCount}
 use Rattle.joining.proofs.Bytes.{join-bytes, join-length, join-outside}

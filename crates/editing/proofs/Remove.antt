@@ -24,9 +24,9 @@ use Rattle.adjacency.proofs.Facts.{ZeroOutside}
 use Rattle.adjacency.proofs.Set.{set-length, set-removes, set-outside}
 use Rattle.state.specs.Checks.{phaseVerdict}
 use Rattle.state.specs.Valid.{lengthsOk, valid}
-use Rattle.state.specs.Laid.{vertexCount, degreeAt, edgeTotal}
+use Rattle.state.specs.Laid.{vertexCount, degreeAt}
+use Rattle.state.proofs.Facts.{edgeTotal, StateFacts, Laid, valid-facts, lengths-both}
 use Rattle.state.proofs.Checks.{phase-passed, phase-go}
-use Rattle.state.proofs.Facts.{StateFacts, Laid, valid-facts, lengths-both}
 use Rattle.state.proofs.Graph.{laid-valid}
 use Rattle.editing.specs.Remove.{removeAnswer}
 

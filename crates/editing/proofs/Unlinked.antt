@@ -12,20 +12,20 @@ use Rattle.answer.specs.declared.AddAnswer.the-variants.{Added, Refused}
 use Rattle.graph.specs.Graph.{Graph, jdm}
 use Rattle.graph.specs.Numbering.{total, classOf}
 use Rattle.graph.specs.Tests.{degrees}
-use Rattle.table.specs.Cells.{matrixOf}
-use Rattle.table.specs.Layout.{vertices, vertexDegree, countsOf, classesOf, mostVertices}
-use Rattle.table.specs.Run.{countIn, classIn}
+use Rattle.table.specs.Inner.Cells.{matrixOf}
+use Rattle.table.specs.Layout.{vertices, vertexDegree, mostVertices}
+use Rattle.table.specs.Inner.Arrays.{countsOf, classesOf, countIn, classIn}
 use Rattle.table.proofs.Counts.{counted}
 use Rattle.journal.specs.Journal.{jdmOf}
 use Rattle.adjacency.specs.Adjacency.{edge}
 use Rattle.adjacency.proofs.Classes.{class-at}
-use Rattle.joining.specs.Block.{startsOf, blockSum}
+use Rattle.joining.specs.Inner.Block.{startsOf, blockSum}
 use Rattle.joining.specs.Join.{own, joinBytes, joinCount}
-use Rattle.joining.specs.Work.{Joinable}
+use Rattle.joining.specs.Inner.Work.{Joinable}
 use Rattle.joining.proofs.Blocks.{start-most, cell-block}
 use Rattle.joining.proofs.Classes.{target-classes, partial-classes, open-classes, join-classes, joinCount-classes}
 use Rattle.editing.specs.Add.{addAdjacency}
-use Rattle.editing.specs.Work.{Unlinked, addedAdjacency}
+use Rattle.editing.specs.Inner.Work.{Unlinked, addedAdjacency}
 
 module _ (c t : List ℕ) (e : t ≡ countsOf (matrixOf c)) where
   pub starts-few : vertices (matrixOf c) ≤ mostVertices → total degrees (countIn t) ≤ mostVertices

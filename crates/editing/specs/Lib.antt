@@ -1,4 +1,4 @@
 pub mod Add
 pub mod Remove
 pub mod List
-pub mod Work
+pub mod Inner

@@ -10,7 +10,8 @@ use native.Mathlib.Numerals.{add-one}
 use native.Mathlib.Omega.{arith}
 use lib.ListN.{length, getD, set, length-set, length-append}
 use lib.Seq.{sets, getD-set-same, getD-set-other}
-use Rattle.finite.specs.Range.{sumTo, foldTo, catTo, fillTo, iterate}
+use Rattle.finite.specs.Range.{sumTo, foldTo, catTo, iterate}
+use Rattle.finite.specs.Inner.Fill.{fillTo}
 use Rattle.finite.proofs.Sum.{sumTo-more, sumTo-le}
 
 pub foldTo-none : {A : Type 0} (f : ℕ → A → A) (s : A) → foldTo 0 f s ≡ s

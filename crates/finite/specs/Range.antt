@@ -3,7 +3,6 @@
 use mathlib.Core.List.{List, [], _++_}
 use mathlib.Core.Bool.{Bool, true, false, _&&_, cond}
 use Prim.Native.Nat.{ℕ, zero, suc, _+_, _-_}
-use lib.ListN.{set}
 use lib.Dec.{eqb}
 
 -- 1 where the test passes, else 0
@@ -44,11 +43,6 @@ foldTo (suc n) f s = f n (foldTo n f s)
 unfoldable pub catTo : ℕ → (ℕ → List ℕ) → List ℕ
 catTo zero f = []
 catTo (suc n) f = catTo n f ++ f n
-
--- the list t with f i at each place i below n
-unfoldable pub fillTo : ℕ → (ℕ → ℕ) → List ℕ → List ℕ
-fillTo zero f t = t
-fillTo (suc n) f t = set (fillTo n f t) n (f n)
 
 -- at most `fuel` steps of f, while p holds
 unfoldable pub iterate : {A : Type 0} → ℕ → (A → Bool) → (A → A) → A → A

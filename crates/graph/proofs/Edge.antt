@@ -10,7 +10,8 @@ use native.Mathlib.Omega.{arith}
 use Rattle.finite.specs.Range.{δ, sumTo}
 use Rattle.finite.proofs.Delta.{δ-self, δ-other, δ-sym}
 use Rattle.finite.proofs.Sum.{sumTo-cong, sumTo-add, sumTo-at}
-use Rattle.graph.specs.Graph.{Graph, Simple, degree, edges, jdm, atEdge, AddsEdge, addEdge, removeEdge, SameOn}
+use Rattle.graph.specs.Graph.{Graph, Simple, degree, edges, jdm, atEdge, AddsEdge, SameOn}
+use Rattle.graph.proofs.Functions.{addEdge, removeEdge}
 use Rattle.graph.specs.Target.{Partial}
 use Rattle.graph.proofs.Matrix.{jdm-cong}
 

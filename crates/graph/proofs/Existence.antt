@@ -7,9 +7,9 @@ use native.Mathlib.Omega.{arith}
 use Rattle.finite.specs.Range.{sumTo}
 use Rattle.finite.proofs.Delta.{δ-self}
 use Rattle.finite.proofs.Sum.{sumTo-zero, sumTo-mono₂, sumTo-strict₂, sumTo-less₂, sumTo-tight₂}
-use Rattle.graph.specs.Graph.{Graph, jdm, atEdge, empty}
+use Rattle.graph.specs.Graph.{Graph, jdm, atEdge}
+use Rattle.graph.proofs.Functions.{empty, join}
 use Rattle.graph.specs.Target.{Target, Partial, Open}
-use Rattle.graph.specs.Switch.{join}
 use Rattle.graph.specs.Theorems.{TargetReached}
 use Rattle.graph.proofs.Matrix.{jdm-empty}
 use Rattle.graph.proofs.OpenPair.{short-has-open-pair}

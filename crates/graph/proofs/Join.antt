@@ -8,12 +8,12 @@ use native.Mathlib.Omega.{arith}
 use borrow.Author.Tests.{ltb-true}
 use Rattle.finite.specs.Range.{δ}
 use Rattle.finite.proofs.Delta.{δ-self, δ-sym, δ-other, δ-square}
-use Rattle.graph.specs.Graph.{Graph, Simple, degree, edges, jdm, atEdge, AddsEdge, removeEdge, SameOn}
+use Rattle.graph.specs.Graph.{Graph, Simple, degree, edges, jdm, atEdge, AddsEdge, SameOn}
+use Rattle.graph.proofs.Functions.{removeEdge, relieve, join}
 use Rattle.graph.specs.Target.{Target, Partial, Open}
-use Rattle.graph.specs.Switch.{unsaturated, substitute, transfer, Relieved, Joined, relieve, join}
+use Rattle.graph.specs.Switch.{unsaturated, substitute, transfer, Relieved, Joined}
 use Rattle.graph.specs.Theorems.{Updated, Kept, AfterJoin, JoinWorks}
-use Rattle.graph.proofs.Edge.{Place, forth, back, elsewhere, place, addEdge-adds, removeEdge-adds, atEdge-sym}
-use Rattle.graph.proofs.Edge.{jdm-same, degree-same, edges-same, partial-same}
+use Rattle.graph.proofs.Edge.{Place, forth, back, elsewhere, place, addEdge-adds, removeEdge-adds, atEdge-sym, jdm-same, degree-same, edges-same, partial-same}
 use Rattle.graph.proofs.Necessary.{necessary-always}
 use Rattle.graph.proofs.Stubs.{short-by}
 use Rattle.graph.proofs.Update.{adding-updates}

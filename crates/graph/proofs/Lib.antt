@@ -1,3 +1,4 @@
+pub mod Functions
 pub mod Matrix
 pub mod Pairs
 pub mod Necessary

@@ -10,7 +10,8 @@ use borrow.Author.Tests.{eq-eqb, ne-eqb}
 use Rattle.finite.specs.Range.{δ, sumTo}
 use Rattle.finite.proofs.Delta.{δ-other, δ-less, δ-square}
 use Rattle.finite.proofs.Sum.{sumTo-cong, sumTo-cong₂, sumTo-add, sumTo-scale, sumTo-scale-right, sumTo-swap, sumTo-at, sumTo-zero, sumTo-mono, sumTo-less, sumTo-term, sumTo-cut}
-use Rattle.graph.specs.Graph.{Graph, degree, size, jdm, ownJdm, empty}
+use Rattle.graph.specs.Graph.{Graph, degree, size, jdm, ownJdm}
+use Rattle.graph.proofs.Functions.{empty}
 use Rattle.graph.specs.Target.{cellMost}
 
 module _ (n : ℕ) (cls : ℕ → ℕ) where

@@ -2,7 +2,7 @@
 -- The vertices are the numbers below n. A vertex has a class; today that is its degree, and no law may rely on that.
 -- Assumes nothing.
 use mathlib.Core.Path.{_≡_}
-use Prim.Native.Nat.{ℕ, _+_, _-_, _*_, _≤_, _<_}
+use Prim.Native.Nat.{ℕ, _+_, _*_, _≤_, _<_}
 use Rattle.finite.specs.Range.{δ, sumTo}
 
 -- E v w is 1 where v and w are linked, else 0
@@ -44,16 +44,6 @@ atEdge x y v w = δ v x * δ w y + δ v y * δ w x
 abbrev pub AddsEdge : ℕ → Graph → ℕ → ℕ → Graph → Type 0
 AddsEdge n E x y E′ = (v w : ℕ) → v < n → w < n → E′ v w ≡ E v w + atEdge x y v w
 
-abbrev pub addEdge : Graph → ℕ → ℕ → Graph
-addEdge E x y v w = E v w + atEdge x y v w
-
-abbrev pub removeEdge : Graph → ℕ → ℕ → Graph
-removeEdge E x y v w = E v w - atEdge x y v w
-
 -- the same graph on the vertices below n
 abbrev pub SameOn : ℕ → Graph → Graph → Type 0
 SameOn n E E′ = (v w : ℕ) → v < n → w < n → E′ v w ≡ E v w
-
--- no edges
-abbrev pub empty : Graph
-empty v w = 0

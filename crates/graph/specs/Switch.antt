@@ -6,7 +6,7 @@ use mathlib.Core.Bool.{Bool, true, false, _&&_, not, cond}
 use Prim.Native.Nat.{ℕ}
 use lib.Dec.{eqb, ltb}
 use Rattle.finite.specs.Range.{lowest}
-use Rattle.graph.specs.Graph.{Graph, degree, AddsEdge, addEdge, removeEdge, SameOn}
+use Rattle.graph.specs.Graph.{Graph, degree, AddsEdge, SameOn}
 
 -- vertex v has fewer edges than its class's degree (document 01: it is not full)
 abbrev pub unsaturated : ℕ → (ℕ → ℕ) → (ℕ → ℕ) → Graph → ℕ → Bool
@@ -51,15 +51,3 @@ pub record Joined (n : ℕ) (cls deg : ℕ → ℕ) (E : Graph) (v w : ℕ) (E�
   pub relieved-v : Relieved n cls deg E v w once
   pub relieved-w : Relieved n cls deg once w v twice
   pub linked : AddsEdge n twice v w E′
-
--- the same as functions
-abbrev pub neighborSwitch : Graph → ℕ → ℕ → ℕ → Graph
-neighborSwitch E a b t = addEdge (removeEdge E a t) b t
-
-abbrev pub relieve : ℕ → (ℕ → ℕ) → (ℕ → ℕ) → Graph → ℕ → ℕ → Graph
-relieve n cls deg E a other =
-    cond (unsaturated n cls deg E a) E
-    (neighborSwitch E a (substitute n cls deg E a other) (transfer n E a (substitute n cls deg E a other)))
-
-abbrev pub join : ℕ → (ℕ → ℕ) → (ℕ → ℕ) → Graph → ℕ → ℕ → Graph
-join n cls deg E v w = addEdge (relieve n cls deg (relieve n cls deg E v w) w v) v w

@@ -12,8 +12,8 @@ use Rattle.graph.specs.Graph.{Graph, jdm}
 use Rattle.graph.specs.Numbering.{total, classOf}
 use Rattle.graph.specs.Tests.{degrees}
 use Rattle.graph.proofs.Ranges.{jdm-block}
-use Rattle.table.specs.Run.{countIn}
-use Rattle.joining.specs.Block.{startsOf, blockSum}
+use Rattle.table.specs.Inner.Arrays.{countIn}
+use Rattle.joining.specs.Inner.Block.{startsOf, blockSum}
 
 module _ (counts : List ℕ) where
   pub start-at : (k : ℕ) → k ≤ degrees → getD (startsOf counts) k 0 ≡ sumTo k (countIn counts)

@@ -12,7 +12,7 @@ use Rattle.finite.proofs.Fold.{fillTo-at, fillTo-behind, fillTo-length}
 use Rattle.graph.specs.Graph.{degree}
 use Rattle.table.specs.Layout.{mostVertices}
 use Rattle.adjacency.specs.Adjacency.{edge}
-use Rattle.joining.specs.Work.{degreesOf}
+use Rattle.joining.specs.Inner.Work.{degreesOf}
 
 module _ (n : ℕ) (few : n ≤ mostVertices) where
   pub held-length : (g : List ℕ) → length (degreesOf n g) ≡ mostVertices

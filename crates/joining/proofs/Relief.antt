@@ -21,7 +21,7 @@ use Rattle.graph.proofs.Update.{degree-adds}
 use Rattle.adjacency.specs.Adjacency.{adjacencySize, side, edge, setEdge}
 use Rattle.adjacency.proofs.Set.{set-adds}
 use Rattle.joining.specs.Join.{own, substituteAt, transferAt, switchBytes, relieveBytes, relieveCount}
-use Rattle.joining.specs.Work.{degreesOf, Joinable, SaturatedBelow, SaturatedBut, freed}
+use Rattle.joining.specs.Inner.Work.{degreesOf, Joinable, SaturatedBelow, SaturatedBut, freed}
 use Rattle.joining.proofs.Bytes.{relieve-bytes, ready-v, pair-w, sized-once}
 use Rattle.joining.proofs.Held.{held-at, held-moved}
 

@@ -11,10 +11,10 @@ use Rattle.finite.proofs.All.{and-false}
 use Rattle.finite.proofs.Lowest.{lowest-skip, lowest-cong}
 use Rattle.graph.specs.Switch.{unsaturated, canSubstitute, orElse}
 use Rattle.table.specs.Layout.{mostVertices}
-use Rattle.table.specs.Run.{classIn}
+use Rattle.table.specs.Inner.Arrays.{classIn}
 use Rattle.adjacency.specs.Adjacency.{edge}
 use Rattle.joining.specs.Join.{own, substituteAt}
-use Rattle.joining.specs.Work.{degreesOf, Joinable, SaturatedBut, canSubstituteIn}
+use Rattle.joining.specs.Inner.Work.{degreesOf, Joinable, SaturatedBut, canSubstituteIn}
 use Rattle.joining.proofs.Held.{held-at}
 
 module _ (n : ℕ) (classes g : List ℕ) (a o from : ℕ) (few : n ≤ mostVertices) (inside : from ≤ n)

@@ -1,3 +1,2 @@
 pub mod Join
-pub mod Work
-pub mod Block
+pub mod Inner

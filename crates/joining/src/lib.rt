@@ -8,10 +8,10 @@ ghost use lib.ListN.{length, getD, set};
 ghost use Rattle.finite.specs.Range.{allTo, lowest};
 ghost use Rattle.graph.specs.Tests.{degrees};
 ghost use Rattle.graph.specs.Switch.{canTransfer, transfer, orElse};
-ghost use Rattle.table.specs.Run.{classIn};
+ghost use Rattle.table.specs.Inner.Arrays.{classIn};
 ghost use Rattle.adjacency.specs.Adjacency.{adjacencySize, side, edge, setEdge};
 ghost use Rattle.joining.specs.Join.{switchBytes, relieveBytes, joinBytes, joinCount};
-ghost use Rattle.joining.specs.Work.{lanes, degreesOf, Joinable, SaturatedBelow, SaturatedBut, canSubstituteIn, freed};
+ghost use Rattle.joining.specs.Inner.Work.{lanes, degreesOf, Joinable, SaturatedBelow, SaturatedBut, canSubstituteIn, freed};
 
 pub mod cell;
 

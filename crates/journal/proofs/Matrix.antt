@@ -11,8 +11,8 @@ use Rattle.finite.proofs.Sum.{sumTo-none, sumTo-more}
 use Rattle.slices.proofs.Part.{bytes-part}
 use Rattle.slices.proofs.Zero.{getD-zeros}
 use Rattle.table.specs.Block.{mostRecords, records, blockCell}
-use Rattle.table.specs.Cells.{cellsSize, matrixOf, noCells, addBlock, AtMost, blockSumMost}
-use Rattle.table.proofs.Matrix.{length-addBlock, matrix-none, matrix-addBlock, atMost-addBlock}
+use Rattle.table.specs.Inner.Cells.{cellsSize, matrixOf, addBlock, AtMost, blockSumMost}
+use Rattle.table.proofs.Matrix.{noCells, length-addBlock, matrix-none, matrix-addBlock, atMost-addBlock}
 use Rattle.journal.specs.Journal.{journalSize, mostBlocks, blocks, slotAt, slotLength, blockAt}
 use Rattle.journal.proofs.Facts.{Facts, slot-most, length-block}
 

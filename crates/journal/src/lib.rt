@@ -7,7 +7,7 @@ ghost use Rattle.slices.specs.Slices.{allZero};
 ghost use Prim.Native.Nat.{_+_, _*_, _≤_, _<_};
 ghost use lib.ListN.{length};
 ghost use Rattle.table.specs.Block.{blockMost, blockLength, records, firstBad};
-ghost use Rattle.table.specs.Cells.{matrixOf, AtMost, cellSumMost};
+ghost use Rattle.table.specs.Inner.Cells.{matrixOf, AtMost, cellSumMost};
 ghost use Rattle.journal.specs.Journal.{journalSize, mostBlocks, slotLength, blockAt, slotRest, slotOk, journalOk, jdmOf, sameBlock, stored, laid, phase, blocks};
 use slices::all_zero;
 use slices::same_bytes;

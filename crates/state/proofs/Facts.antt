@@ -8,6 +8,7 @@ use lib.Dec.{eqb, leb}
 use lib.ListN.{length, getD}
 use borrow.Author.Tests.{eqb-true, eq-eqb, leb-true, le-leb}
 use Rattle.finite.proofs.All.{and-left, and-right, and-both}
+use Rattle.graph.specs.Graph.{edges}
 use Rattle.graph.specs.Target.{Target, Partial}
 use Rattle.graph.specs.Tests.{degrees, passes}
 use Rattle.graph.proofs.Passes.{passes-passed}
@@ -21,6 +22,10 @@ use Rattle.adjacency.specs.Adjacency.{adjacencySize, adjacencyOk, edge}
 use Rattle.adjacency.proofs.Facts.{ZeroOutside, adjacency-facts}
 use Rattle.state.specs.Valid.{lengthsOk, laidOk, valid}
 use Rattle.state.specs.Laid.{vertexCount, degreeAt}
+
+-- how many edges the matrix holds
+abbrev pub edgeTotal : List ℕ → List ℕ → ℕ
+edgeTotal j g = edges (vertexCount j) (edge g)
 
 -- a state in phase 1
 pub record Laid (j g : List ℕ) : Type 0 where

@@ -4,7 +4,7 @@ use mathlib.Core.Bool.{Bool}
 use mathlib.Core.List.{List}
 use Prim.Native.Nat.{ℕ}
 use lib.Dec.{ltb}
-use Rattle.graph.specs.Graph.{jdm, edges}
+use Rattle.graph.specs.Graph.{jdm}
 use Rattle.table.specs.Layout.{vertices, vertexDegree}
 use Rattle.journal.specs.Journal.{jdmOf}
 use Rattle.adjacency.specs.Adjacency.{edge}
@@ -23,7 +23,3 @@ cellAt j g = jdm (vertexCount j) (degreeAt j) (edge g)
 -- the cell is below the table (document 01: it is short)
 abbrev pub isShort : List ℕ → List ℕ → ℕ → ℕ → Bool
 isShort j g k l = ltb (cellAt j g k l) (jdmOf j k l)
-
--- how many edges the matrix holds
-abbrev pub edgeTotal : List ℕ → List ℕ → ℕ
-edgeTotal j g = edges (vertexCount j) (edge g)

@@ -22,13 +22,13 @@ use Rattle.graph.proofs.Edge.{Place, forth, back, elsewhere, place as placed, a
 use Rattle.graph.proofs.Matrix.{jdm-cong, jdm-empty}
 use Rattle.graph.proofs.Update.{handshake, degree-adds, jdm-adds}
 use Rattle.slices.proofs.Zero.{getD-zeros}
-use Rattle.table.specs.Cells.{cellsSize, place, matrixOf, noCells}
+use Rattle.table.specs.Inner.Cells.{cellsSize, place, matrixOf}
+use Rattle.table.proofs.Matrix.{noCells, add-here, add-apart, place-below, matrix-none}
 use Rattle.table.specs.Layout.{mostVertices}
-use Rattle.table.proofs.Matrix.{add-here, add-apart, place-below, matrix-none}
 use Rattle.survey.specs.EdgeList.{listed, endV, endW, firstBadEdge, graphOf}
 use Rattle.survey.specs.Survey.{firstAbove}
-use Rattle.survey.specs.Counting.{graphTo, addAt, countEdge, degreeIn, timesCounted, countCell, HasDegrees, HasCells, firstAboveIn, cellMostOwn, CellsSmall}
-use Rattle.survey.proofs.List.{Good, good, graphTo-adds, simple-to, edges-to}
+use Rattle.survey.proofs.List.{graphTo, Good, good, graphTo-adds, simple-to, edges-to}
+use Rattle.survey.specs.Inner.Counting.{addAt, countEdge, degreeIn, timesCounted, countCell, HasDegrees, HasCells, firstAboveIn, cellMostOwn, CellsSmall}
 
 -- 1. Degrees.
 

@@ -19,7 +19,6 @@ use Rattle.graph.proofs.Edge.{Place, forth, back, elsewhere, place}
 use Rattle.graph.proofs.Update.{simple-adds, edges-adds}
 use Rattle.table.specs.Layout.{mostVertices}
 use Rattle.survey.specs.EdgeList.{listed, endV, endW, rises, goodEdge, firstBadEdge, graphOf}
-use Rattle.survey.specs.Counting.{graphTo}
 
 -- what the test of an edge says
 pub record Good (e : List ℕ) (i : ℕ) : Type 0 where
@@ -72,6 +71,10 @@ key-above e i h a b = ⊎-elim (λ p. ⊎-elim first higher (or-cases _ _ p)) sa
 no-edges : (n : ℕ) (E : Graph) → ((v w : ℕ) → E v w ≡ 0) → edges n E ≡ 0
 unfolding edges
 no-edges n E h = sumTo-zero n (λ v. sumTo v (E v)) (λ v l. sumTo-zero v (E v) (λ w m. h v w))
+
+-- the graph of the first n edges
+abbrev pub graphTo : List ℕ → ℕ → Graph
+graphTo e n v w = sumTo n (λ i. atEdge (endV e i) (endW e i) v w)
 
 -- the graph of one edge more
 pub graphTo-adds : (e : List ℕ) (n : ℕ) → AddsEdge mostVertices (graphTo e n) (endV e n) (endW e n) (graphTo e (n + 1))

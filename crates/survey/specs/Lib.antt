@@ -1,4 +1,4 @@
-pub mod Counting
 pub mod EdgeList
 pub mod Survey
 pub mod Theorem
+pub mod Inner

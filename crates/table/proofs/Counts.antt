@@ -11,9 +11,8 @@ use borrow.Author.Tests.{le-ltb}
 use Rattle.finite.proofs.Fold.{fillTo-at, fillTo-length}
 use Rattle.finite.proofs.Sum.{sumTo-zero, sumTo-mono, sumTo-const}
 use Rattle.graph.specs.Tests.{degrees, rowSum, count}
-use Rattle.table.specs.Cells.{matrixOf, AtMost}
-use Rattle.table.specs.Layout.{countsOf}
-use Rattle.table.specs.Run.{countIn}
+use Rattle.table.specs.Inner.Cells.{matrixOf, AtMost}
+use Rattle.table.specs.Inner.Arrays.{countsOf, countIn}
 use Rattle.table.proofs.Matrix.{matrix-most}
 
 countIn-below : (T : ℕ → ℕ → ℕ) (k : ℕ) → k < degrees → countIn (countsOf T) k ≡ count T k

@@ -18,8 +18,8 @@ use Rattle.finite.proofs.Fold.{foldTo-keeps}
 use Rattle.finite.proofs.Sum.{sumTo-none, sumTo-more}
 use Rattle.graph.specs.Tests.{degrees}
 use Rattle.slices.proofs.Zero.{getD-zeros}
-use Rattle.table.specs.Block.{mostRecords, recordMost, records, recordK, recordL, recordCount, firstBad, samePair, recordCell, blockCell}
-use Rattle.table.specs.Cells.{cellsSize, place, matrixOf, noCells, addRecord, addBlock, AtMost, blockSumMost}
+use Rattle.table.specs.Block.{mostRecords, records, recordK, recordL, recordCount, firstBad, samePair, recordCell, blockCell}
+use Rattle.table.specs.Inner.Cells.{recordMost, cellsSize, place, matrixOf, addRecord, addBlock, AtMost, blockSumMost}
 use Rattle.table.proofs.Block.{Good, good-record, all-good, samePair-straight, samePair-crossed, samePair-none, recordCell-sym, recordCell-none}
 
 pub length-addRecord : (b : List ℕ) (i : ℕ) (c : List ℕ) → length (addRecord b i c) ≡ length c
@@ -32,6 +32,10 @@ length-addBlock b c =
 cond-zero : (t : Bool) (n : ℕ) → n ≡ 0 → cond t n 0 ≡ 0
 cond-zero true n e = e
 cond-zero false n e = refl
+
+-- an array of zeros
+abbrev pub noCells : List ℕ
+noCells = replicate cellsSize 0
 
 pub matrix-none : matrixOf noCells ≡ (λ k l. 0)
 matrix-none = matrix-zeros cellsSize

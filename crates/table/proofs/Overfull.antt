@@ -13,7 +13,7 @@ use Rattle.finite.proofs.Lowest.{lowest-before, lowest-none}
 use Rattle.graph.specs.Target.{cellMost}
 use Rattle.graph.proofs.Matrix.{cellMost-sym}
 use Rattle.graph.specs.Tests.{leastDegree, degrees, count, overfull, firstOverfullIn}
-use Rattle.table.specs.Run.{cellFits, rowFits}
+use Rattle.table.specs.Inner.Arrays.{cellFits, rowFits}
 use Rattle.table.proofs.Counts.{square-less}
 
 module _ (T : ℕ → ℕ → ℕ) (k : ℕ) where

@@ -20,10 +20,6 @@ mostRecords = 16
 abbrev pub blockMost : ℕ
 blockMost = recordSize * mostRecords
 
--- the most that a record adds: its count has 16 bits
-abbrev pub recordMost : ℕ
-recordMost = 65535
-
 -- a degree runs from 1 to 40
 abbrev pub isDegree : ℕ → Bool
 isDegree x = leb leastDegree x && leb x mostDegree

@@ -1,10 +1,8 @@
 -- Laying out (document 01): D(k), N, the tests 9 to 12 in their order, and the degree of each vertex.
 -- Assumes nothing.
-use mathlib.Core.List.{List}
 use Prim.Native.Nat.{ℕ, _/_}
 use lib.Dec.{eqb, leb}
-use lib.ListN.{replicate}
-use Rattle.finite.specs.Range.{sumTo, fillTo}
+use Rattle.finite.specs.Range.{sumTo}
 use Rattle.graph.specs.Numbering.{total, classOf}
 use Rattle.graph.specs.Tests.{degrees, rowSum, count, firstOdd, firstUneven, firstOverfull, firstOverfullIn}
 use Rattle.answer.specs.Refusals.{refusal, stop, unless}
@@ -27,14 +25,6 @@ vertexDegree T = classOf degrees (count T)
 -- edges wanted: half the sum of all cells, (k, l) and (l, k) both counted
 abbrev pub wanted : (ℕ → ℕ → ℕ) → ℕ
 wanted T = sumTo degrees (rowSum T) / 2
-
--- all D(k), by degree
-abbrev pub countsOf : (ℕ → ℕ → ℕ) → List ℕ
-countsOf T = fillTo degrees (count T) (replicate degrees 0)
-
--- the degrees of the N vertices, in an array of 200 with zeros behind them
-abbrev pub classesOf : (ℕ → ℕ → ℕ) → List ℕ
-classesOf T = fillTo (vertices T) (vertexDegree T) (replicate mostVertices 0)
 
 -- The tests 9 to 12, each over all cells before the next begins, with the places of the first failure.
 abbrev pub layoutVerdict : (ℕ → ℕ → ℕ) → Verdict

@@ -1,4 +1,3 @@
 pub mod Block
-pub mod Cells
 pub mod Layout
-pub mod Run
+pub mod Inner

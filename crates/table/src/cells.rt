@@ -5,7 +5,7 @@ ghost use Prim.Native.Nat.{ℕ, _+_, _*_, _≤_, _<_};
 ghost use lib.ListN.{length};
 ghost use Rattle.graph.specs.Tests.{degrees};
 ghost use Rattle.table.specs.Block.{recordSize, blockMost, goodRecord, records, firstBad};
-ghost use Rattle.table.specs.Cells.{cellsSize, matrixOf, place, addRecord, addBlock, AtMost, cellSumMost, blockSumMost};
+ghost use Rattle.table.specs.Inner.Cells.{cellsSize, matrixOf, place, addRecord, addBlock, AtMost, cellSumMost, blockSumMost};
 use crate::degree::Degree;
 use slices::wide;
 

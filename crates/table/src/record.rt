@@ -2,7 +2,8 @@
 ghost use mathlib.Core.Path.{_≡_};
 ghost use Prim.Native.Nat.{_+_, _*_, _≤_, _<_};
 ghost use lib.ListN.{length};
-ghost use Rattle.table.specs.Block.{recordSize, recordMost, blockLength, recordCount, goodRecord, firstBad};
+ghost use Rattle.table.specs.Block.{recordSize, blockLength, recordCount, goodRecord, firstBad};
+ghost use Rattle.table.specs.Inner.Cells.{recordMost};
 use slices::wide;
 
 pub const RECORD_SIZE: usize = 4;

@@ -4,7 +4,7 @@ use mathlib.Core.Path.{_≡_}
 use Prim.Native.Nat.{ℕ, _≤_, _+_, _-_}
 use native.Mathlib.Omega.{arith}
 use lib.ListN.{getD}
-use Rattle.adjacency.specs.Sums.{Added}
+use Rattle.adjacency.specs.Inner.Sums.{Added}
 use Rattle.adjacency.proofs.Sums.{added-none, added-more, added-elsewhere}
 use Rattle.adjacency.proofs.add_row.Statement.{statement}
 use Rattle.adjacency.proofs.add_row.Tie as tie

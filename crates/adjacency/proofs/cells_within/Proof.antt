@@ -12,12 +12,12 @@ use Rattle.finite.specs.Range.{allTo}
 use Rattle.finite.proofs.All.{allTo-none, allTo-more}
 use Rattle.graph.specs.Graph.{jdm}
 use Rattle.graph.specs.Tests.{degrees}
-use Rattle.table.specs.Cells.{matrixOf}
-use Rattle.table.specs.Run.{classIn}
+use Rattle.table.specs.Inner.Cells.{matrixOf}
+use Rattle.table.specs.Inner.Arrays.{classIn}
 use Rattle.table.proofs.Matrix.{matrix-sym}
 use Rattle.slices.proofs.Zero.{getD-zeros}
 use Rattle.adjacency.specs.Adjacency.{edge}
-use Rattle.adjacency.specs.Sums.{sumsSize}
+use Rattle.adjacency.specs.Inner.Sums.{sumsSize}
 use Rattle.adjacency.proofs.Mirrored.{cellsWithin-upper}
 use Rattle.adjacency.proofs.Classes.{class-absent}
 use Rattle.adjacency.proofs.Sums.{classDegrees-within, absent-within}

@@ -10,8 +10,8 @@ use lib.ListN.{getD, length-replicate}
 use Rattle.finite.specs.Range.{δ, sumTo, allTo}
 use Rattle.finite.proofs.All.{allTo-more, allTo-holds}
 use Rattle.graph.specs.Tests.{degrees}
-use Rattle.table.specs.Cells.{matrixOf}
-use Rattle.table.specs.Run.{classIn}
+use Rattle.table.specs.Inner.Cells.{matrixOf}
+use Rattle.table.specs.Inner.Arrays.{classIn}
 use Rattle.slices.proofs.Zero.{getD-zeros}
 use Rattle.adjacency.specs.Adjacency.{side}
 use Rattle.adjacency.proofs.class_within.Statement.{statement}

@@ -7,7 +7,7 @@ use lib.Dec.{leb}
 use Rattle.finite.specs.Range.{allTo}
 use Rattle.finite.proofs.All.{allTo-none, allTo-more}
 use Rattle.adjacency.specs.Adjacency.{side, edge}
-use Rattle.joining.specs.Work.{lanes}
+use Rattle.joining.specs.Inner.Work.{lanes}
 use Rattle.joining.proofs.none_transfers.Statement.{statement}
 use Rattle.joining.proofs.none_transfers.Tie as tie
 

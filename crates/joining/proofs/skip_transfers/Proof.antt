@@ -7,7 +7,7 @@ use native.Mathlib.Omega.{arith}
 use borrow.Author.Tests.{not-false}
 use Rattle.graph.specs.Switch.{canTransfer}
 use Rattle.adjacency.specs.Adjacency.{edge}
-use Rattle.joining.specs.Work.{lanes}
+use Rattle.joining.specs.Inner.Work.{lanes}
 use Rattle.joining.proofs.Transfer.{transfers-passed}
 use Rattle.joining.proofs.skip_transfers.Statement.{statement}
 use Rattle.joining.proofs.skip_transfers.Tie as tie

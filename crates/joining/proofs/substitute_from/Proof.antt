@@ -5,7 +5,7 @@ use Prim.Native.Nat.{_≤_, _-_}
 use native.Mathlib.Omega.{arith}
 use Rattle.finite.specs.Range.{lowest}
 use Rattle.finite.proofs.Lowest.{lowest-end, lowest-here, lowest-next}
-use Rattle.joining.specs.Work.{canSubstituteIn}
+use Rattle.joining.specs.Inner.Work.{canSubstituteIn}
 use Rattle.joining.proofs.substitute_from.Statement.{statement}
 use Rattle.joining.proofs.substitute_from.Tie as tie
 

@@ -4,7 +4,7 @@ use mathlib.Core.Path.{_≡_, sym}
 use Prim.Native.Nat.{_≤_, _-_, _*_}
 use native.Mathlib.Omega.{arith}
 use Rattle.finite.proofs.Fold.{foldTo-none, foldTo-more}
-use Rattle.table.specs.Cells.{blockSumMost}
+use Rattle.table.specs.Inner.Cells.{blockSumMost}
 use Rattle.journal.specs.Journal.{blocks}
 use Rattle.journal.proofs.Facts.{journal-facts, slot-most}
 use Rattle.journal.proofs.Matrix.{cellsTo, cells-most, cells-matrix}

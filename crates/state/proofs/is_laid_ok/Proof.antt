@@ -4,7 +4,7 @@ use mathlib.Core.Path.{sym, _∙_, ap}
 use Prim.Native.Nat.{ℕ}
 use borrow.Author.Needs.{needs}
 use Rattle.table.specs.Layout.{layoutVerdict}
-use Rattle.table.specs.Cells.{matrixOf}
+use Rattle.table.specs.Inner.Cells.{matrixOf}
 use Rattle.table.proofs.Verdict.{layout-go}
 use Rattle.journal.specs.Journal.{jdmOf}
 use Rattle.state.specs.Valid.{laidOk}

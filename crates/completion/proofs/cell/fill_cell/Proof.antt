@@ -5,10 +5,10 @@ use Prim.Native.Nat.{_≤_, _-_}
 use native.Mathlib.Omega.{arith}
 use Rattle.finite.specs.Range.{foldTo}
 use Rattle.finite.proofs.Fold.{foldTo-none, foldTo-after}
-use Rattle.table.specs.Run.{classIn}
-use Rattle.joining.specs.Work.{degreesOf}
-use Rattle.completion.specs.Cellwise.{cellStep}
-use Rattle.completion.specs.Work.{ran, Resumes}
+use Rattle.table.specs.Inner.Arrays.{classIn}
+use Rattle.joining.specs.Inner.Work.{degreesOf}
+use Rattle.completion.specs.Inner.Cellwise.{cellStep}
+use Rattle.completion.specs.Inner.Work.{ran, Resumes}
 use Rattle.completion.proofs.Joins.{start-resumes, fill-sized, fill-steppable}
 use Rattle.completion.proofs.cell.fill_cell.Statement.{statement}
 use Rattle.completion.proofs.cell.fill_cell.Tie as tie

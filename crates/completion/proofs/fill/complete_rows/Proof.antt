@@ -6,11 +6,11 @@ use native.Mathlib.Omega.{arith}
 use Rattle.finite.specs.Range.{foldTo}
 use Rattle.finite.proofs.Fold.{foldTo-none, foldTo-after}
 use Rattle.graph.specs.Tests.{leastDegree, mostDegree}
-use Rattle.table.specs.Cells.{matrixOf}
-use Rattle.table.specs.Run.{classIn}
-use Rattle.joining.specs.Work.{degreesOf}
-use Rattle.completion.specs.Cellwise.{fillRow}
-use Rattle.completion.specs.Work.{ran}
+use Rattle.table.specs.Inner.Cells.{matrixOf}
+use Rattle.table.specs.Inner.Arrays.{classIn}
+use Rattle.joining.specs.Inner.Work.{degreesOf}
+use Rattle.completion.specs.Inner.Cellwise.{fillRow}
+use Rattle.completion.specs.Inner.Work.{ran}
 use Rattle.completion.proofs.Arranged.{working, working-sized, all-sound}
 use Rattle.completion.proofs.fill.complete_rows.Statement.{statement}
 use Rattle.completion.proofs.fill.complete_rows.Tie as tie

@@ -5,7 +5,7 @@ use Prim.Native.Nat.{_-_}
 use native.Mathlib.Omega.{arith}
 use Rattle.finite.specs.Range.{lowest}
 use Rattle.finite.proofs.Lowest.{lowest-end, lowest-here, lowest-next}
-use Rattle.completion.specs.Cursor.{freeColumn}
+use Rattle.completion.specs.Inner.Cursor.{freeColumn}
 use Rattle.completion.proofs.pair.free_column.Statement.{statement}
 use Rattle.completion.proofs.pair.free_column.Tie as tie
 

@@ -6,7 +6,7 @@ use native.Mathlib.Omega.{arith}
 use borrow.Author.Tests.{lt-ltb, le-ltb}
 use Rattle.finite.specs.Range.{lowest}
 use Rattle.finite.proofs.Lowest.{lowest-end, lowest-here, lowest-next}
-use Rattle.completion.specs.Search.{hasColumn, Searchable}
+use Rattle.completion.specs.Inner.Search.{hasColumn, Searchable}
 use Rattle.completion.proofs.Search.{column-resumed}
 use Rattle.completion.proofs.pair.open_pair.Statement.{statement}
 use Rattle.completion.proofs.pair.open_pair.Tie as tie

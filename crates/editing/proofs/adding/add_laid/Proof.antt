@@ -7,7 +7,7 @@ use borrow.Author.Tests.{lt-ltb, le-ltb, eq-eqb, ne-eqb}
 use Rattle.answer.specs.declared.AddAnswer.the-variants.{Refused}
 use Rattle.table.specs.Layout.{vertices}
 use Rattle.journal.specs.Journal.{jdmOf}
-use Rattle.editing.specs.Work.{addUnlinked, addedAdjacency}
+use Rattle.editing.specs.Inner.Work.{addUnlinked, addedAdjacency}
 use Rattle.editing.proofs.Unlinked.{adjacency-of}
 use Rattle.editing.proofs.adding.add_laid.Statement.{statement}
 use Rattle.editing.proofs.adding.add_laid.Tie as tie

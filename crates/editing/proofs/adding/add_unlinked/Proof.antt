@@ -7,7 +7,7 @@ use borrow.Author.Tests.{not-true, not-false, ltb-true}
 use Rattle.answer.specs.Refusals.{refusal}
 use Rattle.answer.specs.declared.Cause.the-variants.{CellFull}
 use Rattle.answer.specs.declared.AddAnswer.the-variants.{Added, Refused}
-use Rattle.table.specs.Cells.{matrixOf}
+use Rattle.table.specs.Inner.Cells.{matrixOf}
 use Rattle.adjacency.proofs.Classes.{class-below}
 use Rattle.editing.proofs.Unlinked.{class-read, short-read, joinable, join-read, count-read}
 use Rattle.editing.proofs.adding.add_unlinked.Statement.{statement}

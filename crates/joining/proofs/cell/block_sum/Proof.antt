@@ -5,7 +5,7 @@ use Prim.Native.Nat.{_+_, _-_, _*_, _≤_}
 use native.Mathlib.Omega.{arith}
 use Rattle.finite.proofs.Sum.{sumTo-none, sumTo-more}
 use Rattle.adjacency.specs.Adjacency.{side, edge}
-use Rattle.joining.specs.Block.{blockSum}
+use Rattle.joining.specs.Inner.Block.{blockSum}
 use Rattle.joining.proofs.cell.block_sum.Statement.{statement}
 use Rattle.joining.proofs.cell.block_sum.Tie as tie
 

@@ -4,11 +4,12 @@ use mathlib.Core.Path.{_≡_, sym}
 use Prim.Native.Nat.{_+_, _-_, _≤_}
 use native.Mathlib.Omega.{arith}
 use lib.ListN.{replicate}
-use Rattle.finite.specs.Range.{sumTo, fillTo}
+use Rattle.finite.specs.Range.{sumTo}
+use Rattle.finite.specs.Inner.Fill.{fillTo}
 use Rattle.finite.proofs.Fold.{fillTo-none, fillTo-more}
 use Rattle.finite.proofs.Sum.{sumTo-none, sumTo-more, sumTo-le}
 use Rattle.graph.specs.Tests.{degrees}
-use Rattle.table.specs.Run.{countIn}
+use Rattle.table.specs.Inner.Arrays.{countIn}
 use Rattle.joining.proofs.cell.starts.Statement.{statement}
 use Rattle.joining.proofs.cell.starts.Tie as tie
 

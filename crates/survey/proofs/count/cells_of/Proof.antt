@@ -5,11 +5,11 @@ use Prim.Native.Nat.{ℕ, _-_, _≤_, _<_}
 use lib.ListN.{length, length-replicate}
 use Rattle.graph.specs.Graph.{degree}
 use Rattle.graph.specs.Tests.{degrees}
-use Rattle.table.specs.Cells.{cellsSize}
+use Rattle.table.specs.Inner.Cells.{cellsSize}
 use Rattle.table.specs.Layout.{mostVertices}
 use Rattle.survey.specs.EdgeList.{listed, endV, endW, graphOf}
-use Rattle.survey.specs.Counting.{graphTo, HasCells}
-use Rattle.survey.proofs.List.{good}
+use Rattle.survey.proofs.List.{graphTo, good}
+use Rattle.survey.specs.Inner.Counting.{HasCells}
 use Rattle.survey.proofs.Counting.{length-countCell, cells-none, cells-more, cells-small, cell-room, degree-low}
 use native.Mathlib.Omega.{arith}
 use Rattle.survey.proofs.count.cells_of.Statement.{statement}

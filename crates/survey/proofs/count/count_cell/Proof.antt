@@ -2,7 +2,7 @@
 -- Assumes nothing.
 use Prim.Native.Nat.{_≤_}
 use lib.ListN.{getD}
-use Rattle.survey.specs.Counting.{cellMostOwn}
+use Rattle.survey.specs.Inner.Counting.{cellMostOwn}
 use native.Mathlib.Omega.{arith}
 use Rattle.survey.proofs.count.count_cell.Statement.{statement}
 use Rattle.survey.proofs.count.count_cell.Tie as tie

@@ -5,8 +5,8 @@ use Prim.Native.Nat.{ℕ, _*_, _-_, _≤_, _<_}
 use lib.ListN.{length, length-replicate}
 use Rattle.table.specs.Layout.{mostVertices}
 use Rattle.survey.specs.EdgeList.{listed, endV, endW}
-use Rattle.survey.specs.Counting.{graphTo, degreeIn, HasDegrees}
-use Rattle.survey.proofs.List.{all-good, good}
+use Rattle.survey.proofs.List.{graphTo, all-good, good}
+use Rattle.survey.specs.Inner.Counting.{degreeIn, HasDegrees}
 use Rattle.survey.proofs.Counting.{length-countEdge, degrees-none, degrees-more, degree-most}
 use native.Mathlib.Omega.{arith}
 use Rattle.survey.proofs.count.degrees_of.Statement.{statement}

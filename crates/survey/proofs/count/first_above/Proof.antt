@@ -8,7 +8,7 @@ use Rattle.finite.specs.Range.{lowest}
 use Rattle.finite.proofs.Lowest.{lowest-end, lowest-here, lowest-next}
 use Rattle.graph.specs.Tests.{mostDegree}
 use Rattle.table.specs.Layout.{mostVertices}
-use Rattle.survey.specs.Counting.{degreeIn, firstAboveIn}
+use Rattle.survey.specs.Inner.Counting.{degreeIn, firstAboveIn}
 use native.Mathlib.Omega.{arith}
 use Rattle.survey.proofs.count.first_above.Statement.{statement}
 use Rattle.survey.proofs.count.first_above.Tie as tie

@@ -11,7 +11,7 @@ use Rattle.finite.specs.Range.{catTo}
 use Rattle.finite.proofs.Fold.{catTo-none, catTo-more, sets-append}
 use Rattle.graph.specs.Tests.{degrees}
 use Rattle.table.specs.Block.{recordSize}
-use Rattle.table.specs.Cells.{matrixOf}
+use Rattle.table.specs.Inner.Cells.{matrixOf}
 use Rattle.survey.specs.Survey.{cellRecord}
 use Rattle.survey.proofs.write.put_records.Statement.{statement}
 use Rattle.survey.proofs.write.put_records.Tie as tie

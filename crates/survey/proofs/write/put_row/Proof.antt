@@ -8,7 +8,7 @@ use Rattle.finite.specs.Range.{catTo}
 use Rattle.finite.proofs.Fold.{catTo-more, sets-append}
 use Rattle.graph.specs.Tests.{degrees}
 use Rattle.table.specs.Block.{recordSize}
-use Rattle.table.specs.Cells.{matrixOf}
+use Rattle.table.specs.Inner.Cells.{matrixOf}
 use Rattle.survey.specs.Survey.{cellRecord}
 use Rattle.survey.proofs.Records.{row-starts}
 use native.Mathlib.Omega.{arith}

@@ -6,7 +6,7 @@ use native.Mathlib.Omega.{arith}
 use Rattle.finite.specs.Range.{foldTo}
 use Rattle.finite.proofs.Fold.{foldTo-none, foldTo-more}
 use Rattle.table.specs.Block.{records}
-use Rattle.table.specs.Cells.{addRecord}
+use Rattle.table.specs.Inner.Cells.{addRecord}
 use Rattle.table.proofs.Block.{all-good}
 use Rattle.table.proofs.Matrix.{atMost-addRecords}
 use Rattle.table.proofs.cells.add_block.Statement.{statement}

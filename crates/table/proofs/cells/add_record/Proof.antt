@@ -3,7 +3,7 @@
 use mathlib.Core.Path.{_≡_}
 use native.Mathlib.Omega.{arith}
 use Rattle.table.specs.Block.{recordK, recordL}
-use Rattle.table.specs.Cells.{place}
+use Rattle.table.specs.Inner.Cells.{place}
 use Rattle.table.proofs.Block.{good-record}
 use Rattle.table.proofs.cells.add_record.Statement.{statement}
 use Rattle.table.proofs.cells.add_record.Tie as tie

@@ -6,7 +6,7 @@ use native.Mathlib.Omega.{arith}
 use lib.ListN.{getD}
 use borrow.Author.Tests.{lt-ltb}
 use Rattle.graph.specs.Tests.{degrees}
-use Rattle.table.specs.Cells.{place}
+use Rattle.table.specs.Inner.Cells.{place}
 use Rattle.table.proofs.cells.upper_cell.Statement.{statement}
 use Rattle.table.proofs.cells.upper_cell.Tie as tie
 

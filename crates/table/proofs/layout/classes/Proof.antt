@@ -5,13 +5,14 @@ use mathlib.Core.Path.{_≡_, sym, ap, _∙_}
 use Prim.Native.Nat.{ℕ, _-_, _≤_}
 use native.Mathlib.Omega.{arith}
 use lib.ListN.{replicate}
-use Rattle.finite.specs.Range.{sumTo, fillTo}
+use Rattle.finite.specs.Range.{sumTo}
+use Rattle.finite.specs.Inner.Fill.{fillTo}
 use Rattle.finite.proofs.Fold.{fillTo-none, fillTo-more}
 use Rattle.finite.proofs.Sum.{sumTo-none, sumTo-more}
 use Rattle.graph.specs.Numbering.{classOf}
 use Rattle.graph.specs.Tests.{degrees}
 use Rattle.table.specs.Layout.{mostVertices}
-use Rattle.table.specs.Run.{countIn, Reaches}
+use Rattle.table.specs.Inner.Arrays.{countIn, Reaches}
 use Rattle.table.proofs.Counts.{counted}
 use Rattle.table.proofs.layout.classes.Statement.{statement}
 use Rattle.table.proofs.layout.classes.Tie as tie

@@ -6,7 +6,7 @@ use native.Mathlib.Omega.{arith}
 use Rattle.finite.specs.Range.{sumTo}
 use Rattle.finite.proofs.Sum.{sumTo-none, sumTo-more}
 use Rattle.graph.specs.Tests.{degrees, rowSum}
-use Rattle.table.specs.Cells.{matrixOf, cellSumMost}
+use Rattle.table.specs.Inner.Cells.{matrixOf, cellSumMost}
 use Rattle.table.proofs.layout.edges_wanted.Statement.{statement}
 use Rattle.table.proofs.layout.edges_wanted.Tie as tie
 

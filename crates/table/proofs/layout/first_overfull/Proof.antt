@@ -10,7 +10,7 @@ use borrow.Author.Tests.{not-true, not-false}
 use Rattle.finite.specs.Range.{lowest}
 use Rattle.finite.proofs.Lowest.{lowest-end, lowest-here, lowest-next}
 use Rattle.graph.specs.Tests.{leastDegree, degrees, overfull, firstOverfull, firstOverfullIn}
-use Rattle.table.specs.Cells.{matrixOf}
+use Rattle.table.specs.Inner.Cells.{matrixOf}
 use Rattle.table.proofs.Matrix.{matrix-sym}
 use Rattle.table.proofs.Overfull.{row-unfit, row-passes, row-none, rows-passed}
 use Rattle.table.proofs.layout.first_overfull.Statement.{statement}

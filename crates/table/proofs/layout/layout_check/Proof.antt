@@ -8,7 +8,7 @@ use borrow.Author.Tests.{eq-eqb, ne-eqb, le-leb, lt-leb}
 use Rattle.finite.proofs.Lowest.{lowest-le}
 use Rattle.graph.specs.Tests.{degrees, firstOverfullIn}
 use Rattle.answer.specs.declared.Verdict.the-variants.{Stop}
-use Rattle.table.specs.Cells.{matrixOf}
+use Rattle.table.specs.Inner.Cells.{matrixOf}
 use Rattle.table.proofs.layout.layout_check.Statement.{statement}
 use Rattle.table.proofs.layout.layout_check.Tie as tie
 

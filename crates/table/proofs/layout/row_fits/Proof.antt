@@ -6,8 +6,8 @@ use native.Mathlib.Nat.{mul-le-mul}
 use native.Mathlib.Omega.{arith}
 use Rattle.finite.specs.Range.{allTo}
 use Rattle.graph.specs.Tests.{degrees}
-use Rattle.table.specs.Cells.{matrixOf}
-use Rattle.table.specs.Run.{countIn, cellFits}
+use Rattle.table.specs.Inner.Cells.{matrixOf}
+use Rattle.table.specs.Inner.Arrays.{countIn, cellFits}
 use Rattle.table.proofs.Counts.{counted, counts-most, le-square}
 use Rattle.table.proofs.Overfull.{fits-first, fits-next}
 use Rattle.table.proofs.layout.row_fits.Statement.{statement}

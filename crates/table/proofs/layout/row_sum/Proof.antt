@@ -6,7 +6,7 @@ use native.Mathlib.Omega.{arith}
 use Rattle.finite.specs.Range.{sumTo}
 use Rattle.finite.proofs.Sum.{sumTo-none, sumTo-more}
 use Rattle.graph.specs.Tests.{degrees}
-use Rattle.table.specs.Cells.{matrixOf, cellSumMost}
+use Rattle.table.specs.Inner.Cells.{matrixOf, cellSumMost}
 use Rattle.table.proofs.Matrix.{matrix-most, matrix-sym}
 use Rattle.table.proofs.layout.row_sum.Statement.{statement}
 use Rattle.table.proofs.layout.row_sum.Tie as tie

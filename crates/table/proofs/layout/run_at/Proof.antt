@@ -6,7 +6,7 @@ use native.Mathlib.Omega.{arith}
 use Rattle.finite.proofs.Sum.{sumTo-more, sumTo-le}
 use Rattle.graph.specs.Tests.{degrees}
 use Rattle.graph.proofs.Numbering.{classOf-range, class-after}
-use Rattle.table.specs.Run.{countIn, Reaches}
+use Rattle.table.specs.Inner.Arrays.{countIn, Reaches}
 use Rattle.table.proofs.layout.run_at.Statement.{statement}
 use Rattle.table.proofs.layout.run_at.Tie as tie
 

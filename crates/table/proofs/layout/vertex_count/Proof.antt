@@ -6,8 +6,8 @@ use native.Mathlib.Omega.{arith}
 use Rattle.finite.specs.Range.{sumTo}
 use Rattle.finite.proofs.Sum.{sumTo-none, sumTo-more}
 use Rattle.graph.specs.Tests.{degrees}
-use Rattle.table.specs.Cells.{cellSumMost}
-use Rattle.table.specs.Run.{countIn}
+use Rattle.table.specs.Inner.Cells.{cellSumMost}
+use Rattle.table.specs.Inner.Arrays.{countIn}
 use Rattle.table.proofs.Counts.{counted, counts-most}
 use Rattle.table.proofs.layout.vertex_count.Statement.{statement}
 use Rattle.table.proofs.layout.vertex_count.Tie as tie

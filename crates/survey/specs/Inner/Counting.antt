@@ -6,17 +6,13 @@ use mathlib.Core.List.{List}
 use Prim.Native.Nat.{ℕ, _+_, _*_, _≤_, _<_}
 use lib.Dec.{eqb, ltb}
 use lib.ListN.{getD, set}
-use Rattle.finite.specs.Range.{sumTo, lowest}
-use Rattle.graph.specs.Graph.{Graph, atEdge, degree, jdm}
+use Rattle.finite.specs.Range.{lowest}
+use Rattle.graph.specs.Graph.{Graph, degree, jdm}
 use Rattle.graph.specs.Tests.{mostDegree, degrees}
 use Rattle.table.specs.Block.{recordSize}
-use Rattle.table.specs.Cells.{matrixOf, place}
+use Rattle.table.specs.Inner.Cells.{matrixOf, place}
 use Rattle.table.specs.Layout.{mostVertices}
 use Rattle.survey.specs.EdgeList.{endV, endW}
-
--- the graph of the first n edges
-abbrev pub graphTo : List ℕ → ℕ → Graph
-graphTo e n v w = sumTo n (λ i. atEdge (endV e i) (endW e i) v w)
 
 -- n more at place p
 abbrev pub addAt : List ℕ → ℕ → ℕ → List ℕ

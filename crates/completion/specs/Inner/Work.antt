@@ -9,16 +9,16 @@ use Rattle.graph.specs.Graph.{jdm, edges}
 use Rattle.graph.specs.Switch.{unsaturated}
 use Rattle.graph.specs.Tests.{degrees}
 use Rattle.adjacency.specs.Adjacency.{side, edge}
-use Rattle.table.specs.Cells.{matrixOf}
-use Rattle.table.specs.Layout.{mostVertices, vertices, countsOf, classesOf}
-use Rattle.table.specs.Run.{classIn}
+use Rattle.table.specs.Inner.Cells.{matrixOf}
+use Rattle.table.specs.Layout.{mostVertices, vertices}
+use Rattle.table.specs.Inner.Arrays.{countsOf, classesOf, classIn}
 use Rattle.joining.specs.Join.{own}
-use Rattle.joining.specs.Work.{degreesOf}
-use Rattle.joining.specs.Block.{startsOf, blockSum}
+use Rattle.joining.specs.Inner.Work.{degreesOf}
+use Rattle.joining.specs.Inner.Block.{startsOf, blockSum}
 use Rattle.completion.specs.Complete.{Ran}
-use Rattle.completion.specs.Cellwise.{cellMissing, Filling}
-use Rattle.completion.specs.Cursor.{RowsDone, ColumnsDone}
-use Rattle.completion.specs.Search.{Ranged}
+use Rattle.completion.specs.Inner.Cellwise.{cellMissing, Filling}
+use Rattle.completion.specs.Inner.Cursor.{RowsDone, ColumnsDone}
+use Rattle.completion.specs.Inner.Search.{Ranged}
 use Rattle.completion.specs.declared.pair.Cell.{Cell}
 use Rattle.completion.specs.declared.cell.Cursor.{Cursor}
 use Rattle.completion.specs.declared.cell.Totals.{Totals}

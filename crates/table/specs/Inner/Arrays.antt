@@ -6,10 +6,20 @@ use mathlib.Core.Bool.{Bool, _||_}
 use mathlib.Core.List.{List}
 use Prim.Native.Nat.{ℕ, _+_, _≤_, _<_}
 use lib.Dec.{ltb, leb}
-use lib.ListN.{getD}
+use lib.ListN.{getD, replicate}
 use Rattle.finite.specs.Range.{sumTo, allTo}
 use Rattle.graph.specs.Target.{cellMost}
+use Rattle.finite.specs.Inner.Fill.{fillTo}
 use Rattle.graph.specs.Tests.{degrees, count}
+use Rattle.table.specs.Layout.{vertices, vertexDegree, mostVertices}
+
+-- all D(k), by degree
+abbrev pub countsOf : (ℕ → ℕ → ℕ) → List ℕ
+countsOf T = fillTo degrees (count T) (replicate degrees 0)
+
+-- the degrees of the N vertices, in an array of 200 with zeros behind them
+abbrev pub classesOf : (ℕ → ℕ → ℕ) → List ℕ
+classesOf T = fillTo (vertices T) (vertexDegree T) (replicate mostVertices 0)
 
 -- D(k) as the array of counts has it
 abbrev pub countIn : List ℕ → ℕ → ℕ

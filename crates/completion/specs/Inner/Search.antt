@@ -8,7 +8,7 @@ use lib.Dec.{eqb, ltb}
 use Rattle.finite.specs.Range.{lowest}
 use Rattle.graph.specs.Tests.{degrees}
 use Rattle.adjacency.specs.Adjacency.{side}
-use Rattle.completion.specs.Cursor.{freeColumn, ClassRange}
+use Rattle.completion.specs.Inner.Cursor.{freeColumn, ClassRange}
 use Rattle.completion.specs.declared.pair.Cell.{Cell}
 
 -- where the columns of row v begin: on the diagonal above v

@@ -4,10 +4,10 @@ use mathlib.Core.Bool.{_&&_, cond}
 use mathlib.Core.List.{List}
 use Prim.Native.Nat.{ℕ, _+_, _*_, _≤_, min, max}
 use lib.Dec.{ltb}
-use lib.ListN.{getD, set, replicate}
+use lib.ListN.{getD, set}
 use Rattle.finite.specs.Range.{foldTo}
 use Rattle.graph.specs.Tests.{degrees}
-use Rattle.table.specs.Block.{mostRecords, recordMost, records, recordK, recordL, recordCount}
+use Rattle.table.specs.Block.{mostRecords, records, recordK, recordL, recordCount}
 
 -- how many numbers the array has
 abbrev pub cellsSize : ℕ
@@ -21,9 +21,6 @@ place k l = min k l * degrees + max k l
 abbrev pub matrixOf : List ℕ → ℕ → ℕ → ℕ
 matrixOf c k l = cond (ltb k degrees && ltb l degrees) (getD c (place k l) 0) 0
 
-abbrev pub noCells : List ℕ
-noCells = replicate cellsSize 0
-
 -- the array c with record i of the block b added
 abbrev pub addRecord : List ℕ → ℕ → List ℕ → List ℕ
 addRecord b i c = set c (place (recordK b i) (recordL b i)) (getD c (place (recordK b i) (recordL b i)) 0 + recordCount b i)
@@ -35,6 +32,10 @@ addBlock b c = foldTo (records b) (addRecord b) c
 -- no number of the array is above m
 abbrev pub AtMost : ℕ → List ℕ → Type 0
 AtMost m c = (p : ℕ) → getD c p 0 ≤ m
+
+-- the most that a record adds: its count has 16 bits
+abbrev pub recordMost : ℕ
+recordMost = 65535
 
 -- the most that a block can add to one cell
 abbrev pub blockSumMost : ℕ
