@@ -14,10 +14,11 @@ use Rattle.finite.specs.Range.{allTo}
 use Rattle.finite.proofs.All.{and-both, allTo-cong}
 use Rattle.finite.proofs.Fold.{fillTo-at}
 use Rattle.graph.specs.Graph.{degree, jdm}
-use Rattle.graph.specs.Tests.{degrees, count}
+use Rattle.graph.specs.Tests.{degrees, count, vertices, vertexDegree}
 use Rattle.graph.proofs.Matrix.{jdm-classes}
-use Rattle.graph.proofs.Numbering.{classOf-below, classOf-rises}
-use Rattle.table.specs.Layout.{vertices, vertexDegree, mostVertices}
+use Rattle.graph.proofs.Numbering.{classOf-rises}
+use Rattle.graph.proofs.Counts.{vertex-class}
+use Rattle.table.specs.Layout.{mostVertices}
 use Rattle.table.specs.Inner.Arrays.{classesOf, classIn}
 use Rattle.adjacency.specs.Adjacency.{edge, degreesWithin, cellsWithin}
 
@@ -44,7 +45,7 @@ module _ (T : ℕ → ℕ → ℕ) (small : vertices T ≤ mostVertices) where
   class-at v h = fillTo-at (vertexDegree T) (replicate mostVertices 0) (vertices T) v (rw length-replicate small) h
 
   pub class-below : (v : ℕ) → v < vertices T → classIn (classesOf T) v < degrees
-  class-below v h = rw (class-at v h) (classOf-below degrees (count T) v h)
+  class-below v h = rw (class-at v h) (vertex-class T v h)
 
   pub class-rises : (v w : ℕ) → v ≤ w → w < vertices T → classIn (classesOf T) v ≤ classIn (classesOf T) w
   class-rises v w h l = rw (class-at v (omega arith), class-at w l) (classOf-rises degrees (count T) v w h)

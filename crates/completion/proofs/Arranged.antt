@@ -10,13 +10,12 @@ use lib.ListN.{length, getD}
 use Rattle.finite.specs.Range.{sumTo, foldTo}
 use Rattle.graph.specs.Graph.{jdm}
 use Rattle.graph.specs.Numbering.{total, classOf}
-use Rattle.graph.specs.Tests.{leastDegree, mostDegree, degrees}
+use Rattle.graph.specs.Tests.{leastDegree, mostDegree, degrees, vertexDegree}
 use Rattle.graph.proofs.Matrix.{jdm-classes}
 use Rattle.graph.proofs.Numbering.{classOf-range}
 use Rattle.table.specs.Inner.Cells.{matrixOf}
-use Rattle.table.specs.Layout.{vertexDegree}
 use Rattle.table.specs.Inner.Arrays.{countsOf, countIn, classIn}
-use Rattle.table.proofs.Counts.{counted}
+use Rattle.table.proofs.Counts.{counted, counted-total}
 use Rattle.adjacency.specs.Adjacency.{edge}
 use Rattle.adjacency.proofs.Classes.{class-at}
 use Rattle.joining.specs.Inner.Work.{degreesOf}
@@ -41,7 +40,7 @@ module _ (n : ℕ) (cells classes starts : List ℕ) (a : Arranged n cells class
 
   same-total : total degrees D ≡ n
   unfolding T counts D
-  same-total = ap (λ (d : ℕ → ℕ). total degrees d) (counted cells (countsOf (matrixOf cells)) refl) ∙ sym (a .count)
+  same-total = counted-total cells (countsOf (matrixOf cells)) refl ∙ sym (a .count)
 
   -- the classes of the array are those of the layout
   pub class-same : (v : ℕ) → v < n → classIn classes v ≡ vertexDegree (matrixOf cells) v

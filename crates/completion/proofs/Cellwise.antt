@@ -18,7 +18,8 @@ use Rattle.graph.specs.Graph.{jdm, edges, atEdge}
 use Rattle.graph.specs.Tests.{leastDegree, mostDegree, degrees}
 use Rattle.graph.proofs.Edge.{atEdge-here}
 use Rattle.graph.proofs.Necessary.{necessary-always}
-use Rattle.graph.proofs.Completion.{allCells, cells-twice}
+use Rattle.graph.specs.Theorems.{allCells}
+use Rattle.graph.proofs.Completion.{cells-twice}
 use Rattle.finite.proofs.Sum.{sumTo-mono₂}
 use Rattle.adjacency.specs.Adjacency.{edge}
 use Rattle.joining.specs.Join.{joinBytes}

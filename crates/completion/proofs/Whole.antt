@@ -6,11 +6,11 @@ use mathlib.Core.List.{List}
 use Prim.Native.Nat.{ℕ, _≤_, _<_}
 use native.Mathlib.Omega.{arith}
 use Rattle.graph.specs.Numbering.{total}
-use Rattle.graph.specs.Tests.{degrees}
+use Rattle.graph.specs.Tests.{degrees, vertices, vertexDegree}
 use Rattle.table.specs.Inner.Cells.{matrixOf}
-use Rattle.table.specs.Layout.{mostVertices, vertices, vertexDegree}
+use Rattle.table.specs.Layout.{mostVertices}
 use Rattle.table.specs.Inner.Arrays.{countsOf, classesOf, countIn, classIn}
-use Rattle.table.proofs.Counts.{counted}
+use Rattle.table.proofs.Counts.{counted-total}
 use Rattle.journal.specs.Journal.{phase, jdmOf}
 use Rattle.state.specs.Valid.{lengthsOk, valid}
 use Rattle.state.proofs.Facts.{StateFacts, Laid, valid-facts}
@@ -40,7 +40,7 @@ module _ (j g cells : List ℕ) (lengths : lengthsOk j g ≡ true) (sound : vali
   vertices-few = rw same-cells (laid .vertices-le)
 
   pub total-few : (counts : List ℕ) → counts ≡ countsOf (matrixOf cells) → total degrees (countIn counts) ≤ mostVertices
-  total-few counts e = rw (counted cells counts e) vertices-few
+  total-few counts e = rw (counted-total cells counts e) vertices-few
 
   filling : Filling (vertices (matrixOf cells)) (vertexDegree (matrixOf cells)) (matrixOf cells) g
   filling =

@@ -19,7 +19,8 @@ use Rattle.graph.specs.Target.{Target, Open}
 use Rattle.graph.specs.Switch.{Joined}
 use Rattle.graph.specs.Tests.{leastDegree, mostDegree, degrees}
 use Rattle.graph.proofs.Necessary.{necessary-always}
-use Rattle.graph.proofs.Completion.{allCells, Ended, completes}
+use Rattle.graph.specs.Theorems.{Rule, allCells, Ended}
+use Rattle.graph.proofs.Completion.{completes-by-any-rule}
 use Rattle.table.specs.Layout.{mostVertices}
 use Rattle.adjacency.specs.Adjacency.{edge}
 use Rattle.adjacency.proofs.Facts.{ZeroOutside}
@@ -142,6 +143,21 @@ module _ (n : ℕ) (cls : ℕ → ℕ) (T : ℕ → ℕ → ℕ) where
             ),
           )
 
+  -- the lowest open pair is one rule
+  abbrev lowest-pair : Rule n degrees cls own T Ran
+  lowest-pair =
+      record {
+        graph = λ s. edge (s .adjacency);
+        joins = λ s. s .joins;
+        short = isIncomplete n cls T;
+        next = next n cls T;
+        Good = Good;
+        partial = λ s p. p .0 .partial;
+        stops = stops;
+        picks = picks;
+        counts = λ s. refl;
+      }
+
   -- what completing ends in
   pub record Finished (g : List ℕ) (r : Ran) : Type 0 where
     pub filling : Filling n cls T (r .adjacency)
@@ -164,7 +180,5 @@ module _ (n : ℕ) (cls : ℕ → ℕ) (T : ℕ → ℕ → ℕ) where
       start : Ran
       start = record { adjacency = g; joins = 0; switches = 0 }
 
-      r : Ended n degrees cls own T (f .target) (λ s. edge (s .adjacency)) (λ s. s .joins) (isIncomplete n cls T) (next n cls T) Good (λ s p. p .0 .partial)
-          stops picks (λ s. refl) start (run mostEdges n cls T start)
-      r = completes n degrees cls own T (f .target) (λ s. edge (s .adjacency)) (λ s. s .joins) (isIncomplete n cls T) (next n cls T) Good (λ s p. p .0 .partial)
-          stops picks (λ s. refl) mostEdges start (f, out) (omega (arith, few-edges (f .target) (f .few)))
+      r : Ended n degrees cls own T lowest-pair start (run mostEdges n cls T start)
+      r = completes-by-any-rule n degrees cls own T (f .target) Ran lowest-pair mostEdges start (f, out) (omega (arith, few-edges (f .target) (f .few)))

@@ -19,8 +19,8 @@ use crate::pair::Span;
 use joining::cell::STARTS;
 use joining::cell::block_sum;
 use table::cells::CELLS;
-use table::cells::DEGREES;
 use table::cells::cell;
+use table::degree::DEGREES;
 use table::layout::MOST_VERTICES;
 
 // Cell (k, l) between the starts of its classes.

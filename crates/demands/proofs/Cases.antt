@@ -26,7 +26,8 @@ use Rattle.answer.specs.declared.WrittenAnswer.{WrittenAnswer}
 use Rattle.answer.specs.declared.WrittenAnswer.the-variants as Write
 use Rattle.finite.specs.Range.{δ, sumTo, allTo, lowFrom, lowest, catTo, iterate}
 use Rattle.graph.specs.Graph.{jdm, edges}
-use Rattle.table.specs.Layout.{vertices, layoutVerdict}
+use Rattle.graph.specs.Tests.{vertices}
+use Rattle.table.specs.Layout.{layoutVerdict}
 use Rattle.journal.specs.Journal.{phase, blocks, slotLength, jdmOf}
 use Rattle.state.specs.Checks.{stateVerdict}
 use Rattle.state.proofs.Checks.{state-go}

@@ -33,9 +33,9 @@ use Rattle.answer.specs.declared.CompleteAnswer.{CompleteAnswer}
 use Rattle.answer.specs.declared.CompleteAnswer.the-variants as Complete
 use Rattle.answer.specs.declared.WrittenAnswer.{WrittenAnswer}
 use Rattle.answer.specs.declared.WrittenAnswer.the-variants as Write
-use Rattle.graph.specs.Tests.{degrees, firstOdd, firstUneven, firstOverfull, firstOverfullIn}
+use Rattle.graph.specs.Tests.{degrees, firstOdd, firstUneven, firstOverfull, firstOverfullIn, vertices}
 use Rattle.table.specs.Block.{blockLength, records, firstBad}
-use Rattle.table.specs.Layout.{mostVertices, vertices, layoutVerdict}
+use Rattle.table.specs.Layout.{mostVertices, layoutVerdict}
 use Rattle.journal.specs.Journal.{mostBlocks, phase, blocks, slotLength, sameBlock, jdmOf}
 use Rattle.adjacency.specs.Adjacency.{edge}
 use Rattle.state.specs.Checks.{stateVerdict, phaseVerdict}

@@ -21,7 +21,7 @@ use Rattle.answer.specs.declared.CompleteAnswer.the-variants.{Completed, Refuse
 use Rattle.finite.proofs.All.{and-left, and-right, and-false}
 use Rattle.graph.specs.Graph.{Simple, ownJdm}
 use Rattle.table.specs.Block.{wellFormed, blockCell}
-use Rattle.table.specs.Layout.{vertices}
+use Rattle.graph.specs.Tests.{vertices}
 use Rattle.journal.specs.Journal.{phase, blocks, jdmOf}
 use Rattle.adjacency.specs.Adjacency.{edge}
 use Rattle.state.specs.Valid.{lengthsOk, valid}

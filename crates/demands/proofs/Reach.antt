@@ -17,9 +17,9 @@ use Rattle.answer.specs.declared.RemoveAnswer.{RemoveAnswer}
 use Rattle.answer.specs.declared.RemoveAnswer.the-variants as Remove
 use Rattle.answer.specs.declared.CompleteAnswer.{CompleteAnswer}
 use Rattle.answer.specs.declared.CompleteAnswer.the-variants as Complete
-use Rattle.graph.specs.Tests.{passes}
+use Rattle.graph.specs.Tests.{passes, vertices}
 use Rattle.table.specs.Block.{wellFormed, blockCell}
-use Rattle.table.specs.Layout.{mostVertices, vertices}
+use Rattle.table.specs.Layout.{mostVertices}
 use Rattle.journal.specs.Journal.{mostBlocks, phase, blocks, jdmOf, stored, laid}
 use Rattle.journal.proofs.Store.{phase-stored, blocks-stored, jdm-stored}
 use Rattle.journal.proofs.Laid.{blocks-laid, jdm-laid, phase-laid}

@@ -15,7 +15,7 @@ use Rattle.answer.specs.declared.RemoveAnswer.{RemoveAnswer}
 use Rattle.answer.specs.declared.RemoveAnswer.the-variants as Remove
 use Rattle.answer.specs.declared.CompleteAnswer.the-variants.{Completed}
 use Rattle.table.specs.Block.{blockCell}
-use Rattle.table.specs.Layout.{vertices}
+use Rattle.graph.specs.Tests.{vertices}
 use Rattle.adjacency.specs.Adjacency.{edge}
 use Rattle.intake.specs.Take.{takeAnswer}
 use Rattle.editing.specs.Add.{addAnswer}

@@ -7,12 +7,11 @@ use mathlib.Core.Logic.{_↔_, _≢_}
 use Prim.Native.Nat.{ℕ, _+_, _*_, _≤_, _<_}
 use Rattle.finite.specs.Range.{sumTo}
 use Rattle.graph.specs.Graph.{Simple, jdm, ownJdm, edges}
-use Rattle.graph.specs.Tests.{degrees, rowSum}
+use Rattle.graph.specs.Tests.{degrees, rowSum, vertices, vertexDegree}
 use Rattle.graph.specs.Theorems.{Realized}
 use Rattle.answer.specs.Numbers.{layOutNumbers}
 use Rattle.answer.specs.declared.AddAnswer.the-variants.{Added}
 use Rattle.answer.specs.declared.CompleteAnswer.the-variants.{Completed}
-use Rattle.table.specs.Layout.{vertices, vertexDegree}
 use Rattle.adjacency.specs.Adjacency.{edge}
 use Rattle.state.specs.Valid.{valid}
 use Rattle.intake.specs.LayOut.{layOutAnswer}

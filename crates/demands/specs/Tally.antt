@@ -11,9 +11,9 @@ use Rattle.answer.specs.declared.RemoveAnswer.{RemoveAnswer}
 use Rattle.answer.specs.declared.RemoveAnswer.the-variants as Remove
 use Rattle.answer.specs.declared.CompleteAnswer.{CompleteAnswer}
 use Rattle.answer.specs.declared.CompleteAnswer.the-variants as Complete
-use Rattle.graph.specs.Tests.{passes}
+use Rattle.graph.specs.Tests.{passes, vertices}
 use Rattle.table.specs.Block.{wellFormed, blockCell}
-use Rattle.table.specs.Layout.{mostVertices, vertices}
+use Rattle.table.specs.Layout.{mostVertices}
 use Rattle.journal.specs.Journal.{mostBlocks}
 use Rattle.editing.specs.Add.{addAnswer}
 use Rattle.editing.specs.Remove.{removeAnswer}

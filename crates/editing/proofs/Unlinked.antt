@@ -11,11 +11,11 @@ use Rattle.answer.specs.declared.AddAnswer.{AddAnswer}
 use Rattle.answer.specs.declared.AddAnswer.the-variants.{Added, Refused}
 use Rattle.graph.specs.Graph.{Graph, jdm}
 use Rattle.graph.specs.Numbering.{total, classOf}
-use Rattle.graph.specs.Tests.{degrees}
+use Rattle.graph.specs.Tests.{degrees, vertices, vertexDegree}
 use Rattle.table.specs.Inner.Cells.{matrixOf}
-use Rattle.table.specs.Layout.{vertices, vertexDegree, mostVertices}
+use Rattle.table.specs.Layout.{mostVertices}
 use Rattle.table.specs.Inner.Arrays.{countsOf, classesOf, countIn, classIn}
-use Rattle.table.proofs.Counts.{counted}
+use Rattle.table.proofs.Counts.{counted, counted-total}
 use Rattle.journal.specs.Journal.{jdmOf}
 use Rattle.adjacency.specs.Adjacency.{edge}
 use Rattle.adjacency.proofs.Classes.{class-at}
@@ -29,7 +29,7 @@ use Rattle.editing.specs.Inner.Work.{Unlinked, addedAdjacency}
 
 module _ (c t : List ℕ) (e : t ≡ countsOf (matrixOf c)) where
   pub starts-few : vertices (matrixOf c) ≤ mostVertices → total degrees (countIn t) ≤ mostVertices
-  starts-few few = rw (counted c t e) few
+  starts-few few = rw (counted-total c t e) few
 
   pub start-few : vertices (matrixOf c) ≤ mostVertices → (k : ℕ) → k ≤ degrees → getD (startsOf t) k 0 ≤ mostVertices
   start-few few k h = le-trans (start-most t k h) (starts-few few)
@@ -38,7 +38,10 @@ module _ (c t : List ℕ) (e : t ≡ countsOf (matrixOf c)) where
   pub block-cell : (E : Graph) (k l : ℕ) → k < degrees → l < degrees
       → blockSum E (getD (startsOf t) k 0) (getD (startsOf t) (k + 1) 0) (getD (startsOf t) l 0) (getD (startsOf t) (l + 1) 0)
       ≡ jdm (vertices (matrixOf c)) (vertexDegree (matrixOf c)) E k l
-  block-cell E k l kd ld = cell-block t E k l kd ld ∙ ap (λ (D : ℕ → ℕ). jdm (total degrees D) (classOf degrees D) E k l) (counted c t e)
+  block-cell E k l kd ld =
+      cell-block t E k l kd ld
+      ∙ ap (λ (D : ℕ → ℕ). jdm (total degrees (countIn t)) (classOf degrees D) E k l) (counted c t e)
+      ∙ ap (λ (n : ℕ). jdm n (vertexDegree (matrixOf c)) E k l) (counted-total c t e)
 
 module _ (T : ℕ → ℕ → ℕ) (g : List ℕ) (v w : ℕ) (u : Unlinked T g v w) where
   -- the array of classes agrees with the layout

@@ -11,6 +11,7 @@ pub mod Choice
 pub mod Switch
 pub mod Join
 pub mod Numbering
+pub mod Counts
 pub mod Existence
 pub mod Passes
 pub mod Realizability

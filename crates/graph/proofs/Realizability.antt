@@ -3,7 +3,7 @@
 use mathlib.Core.Path.{_≡_, sym, ap, _∙_}
 use mathlib.Core.Bool.{true}
 use mathlib.Core.Logic.{⊎-elim}
-use Prim.Native.Nat.{ℕ, _+_, _*_, _<_}
+use Prim.Native.Nat.{ℕ, _+_, _*_, _/_, _<_}
 use native.Mathlib.Nat.{eq-zero-or-pos, add-zero, div-add-mod, mul-mod-left, mul-div-cancel}
 use native.Mathlib.Decide.{decLt}
 use native.Mathlib.Omega.{arith}
@@ -12,13 +12,12 @@ use Rattle.finite.proofs.Delta.{δ-move}
 use Rattle.finite.proofs.Sum.{sumTo-cong, sumTo-const, sumTo-scale-right, sumTo-mono, sumTo-split, sumTo-zero}
 use Rattle.graph.specs.Graph.{Graph, Simple, degree, size, jdm, ownJdm}
 use Rattle.graph.specs.Target.{Target, Partial}
-use Rattle.graph.specs.Numbering.{total, classOf}
-use Rattle.graph.specs.Tests.{mostDegree, degrees, rowSum, count, passes, Table}
+use Rattle.graph.specs.Tests.{mostDegree, degrees, rowSum, count, vertices, vertexDegree, passes, Table}
 use Rattle.graph.specs.Theorems.{Realized, Realizability, Necessary}
 use Rattle.graph.proofs.Matrix.{jdm-none, cellMost-cong}
 use Rattle.graph.proofs.Necessary.{necessary-always}
 use Rattle.graph.proofs.Complete.{complete-is-exact, complete-has-target}
-use Rattle.graph.proofs.Numbering.{classOf-below, classOf-size}
+use Rattle.graph.proofs.Counts.{count-at, vertex-class, class-size}
 use Rattle.graph.proofs.Existence.{target-reached}
 use Rattle.graph.proofs.Passes.{Passed, passes-passed}
 
@@ -28,21 +27,15 @@ module _ (T : ℕ → ℕ → ℕ) (table : Table T) where
 
   -- A table that passes is a target, its vertices numbered by degree.
   module _ (passed : Passed T) where
-    abbrev vertices : ℕ
-    vertices = total degrees (count T)
-
-    abbrev degreeOf : ℕ → ℕ
-    degreeOf = classOf degrees (count T)
-
-    pub table-target : Target vertices degrees degreeOf (λ k. k) T
+    pub table-target : Target (vertices T) degrees (vertexDegree T) (λ k. k) T
     table-target =
         record {
-          classed = classOf-below degrees (count T);
+          classed = vertex-class T;
           symmetric = λ k l p q. table .symmetric k l;
           even = λ k p. ⊎-elim (λ e. rw (none-of-0 k k e)) (λ a. passed .even k a p) (eq-zero-or-pos k);
-          rows = λ k p. rw (classOf-size degrees (count T) k p) (⊎-elim (row-0 k) (λ a. row k a p) (eq-zero-or-pos k));
+          rows = λ k p. rw (class-size T k p) (⊎-elim (row-0 k) (λ a. row k a p) (eq-zero-or-pos k));
           fits = λ k l p q.
-              rw (cellMost-cong (size vertices degreeOf) (count T) k l (classOf-size degrees (count T) k p) (classOf-size degrees (count T) l q))
+              rw (cellMost-cong (size (vertices T) (vertexDegree T)) (count T) k l (class-size T k p) (class-size T l q))
               (⊎-elim (λ e. omega (arith, none-of-0 k l e))
               (λ a. ⊎-elim (λ e. omega (arith, table .symmetric k l, none-of-0 l k e)) (λ b. passed .fits k l a p b q) (eq-zero-or-pos l))
               (eq-zero-or-pos k));
@@ -52,25 +45,25 @@ module _ (T : ℕ → ℕ → ℕ) (table : Table T) where
         row-0 k e = rw (sumTo-zero degrees (T k) (λ l q. none-of-0 k l e), e)
 
         row : (k : ℕ) → 0 < k → k < degrees → rowSum T k ≡ k * count T k
-        row k a p = sym (rw (passed .rows k a p, add-zero (k * count T k)) at (div-add-mod (rowSum T k) k))
+        row k a p = rw (count-at T k a) (sym (rw (passed .rows k a p, add-zero (k * (rowSum T k / k))) at (div-add-mod (rowSum T k) k)))
 
-    module _ (E : Graph) (part : Partial vertices degrees degreeOf (λ k. k) T E)
-        (full : (k l : ℕ) → k < degrees → l < degrees → jdm vertices degreeOf E k l ≡ T k l) where
+    module _ (E : Graph) (part : Partial (vertices T) degrees (vertexDegree T) (λ k. k) T E)
+        (full : (k l : ℕ) → k < degrees → l < degrees → jdm (vertices T) (vertexDegree T) E k l ≡ T k l) where
       -- no vertex has a degree past the table's
-      low : (v : ℕ) → v < vertices → degree vertices E v < degrees
-      low v p = rw (complete-is-exact vertices degrees degreeOf (λ k. k) T E table-target part full v p) (classOf-below degrees (count T) v p)
+      low : (v : ℕ) → v < vertices T → degree (vertices T) E v < degrees
+      low v p = rw (complete-is-exact (vertices T) degrees (vertexDegree T) (λ k. k) T E table-target part full v p) (vertex-class T v p)
 
-      past : (k l : ℕ) → mostDegree < k → ownJdm vertices E k l ≡ 0
-      past k l a = jdm-none vertices (degree vertices E) E k l (λ v p e. absurd (omega (arith, low v p)))
+      past : (k l : ℕ) → mostDegree < k → ownJdm (vertices T) E k l ≡ 0
+      past k l a = jdm-none (vertices T) (degree (vertices T) E) E k l (λ v p e. absurd (omega (arith, low v p)))
 
       -- in every cell, those of degree 0 and above 40 included
-      pub has-table : (k l : ℕ) → ownJdm vertices E k l ≡ T k l
+      pub has-table : (k l : ℕ) → ownJdm (vertices T) E k l ≡ T k l
       has-table k l = go (decLt k degrees) (decLt l degrees)
         where
-          go : Dec (k < degrees) → Dec (l < degrees) → ownJdm vertices E k l ≡ T k l
-          go (yes p) (yes q) = complete-has-target vertices degrees degreeOf T E table-target part full k l p q
+          go : Dec (k < degrees) → Dec (l < degrees) → ownJdm (vertices T) E k l ≡ T k l
+          go (yes p) (yes q) = complete-has-target (vertices T) degrees (vertexDegree T) T E table-target part full k l p q
           go (yes p) (no q) =
-              necessary-always vertices degrees (degree vertices E) E (part .simple) low .symmetric k l
+              necessary-always (vertices T) degrees (degree (vertices T) E) E (part .simple) low .symmetric k l
               ∙ past l k (omega arith)
               ∙ sym (table .none-above l k (omega arith))
               ∙ table .symmetric l k
@@ -100,7 +93,7 @@ module _ (T : ℕ → ℕ → ℕ) (table : Table T) where
         above i q = table .symmetric k (degrees + i) ∙ table .none-above (degrees + i) k (omega arith)
 
     counted : (k : ℕ) → 0 < k → size n (degree n E) k ≡ count T k
-    counted k a = rw (row k) (sym (mul-div-cancel (size n (degree n E) k) a))
+    counted k a = rw (count-at T k a, row k) (sym (mul-div-cancel (size n (degree n E) k) a))
 
     graph-passed : Passed T
     graph-passed =
@@ -117,8 +110,8 @@ realizability T table = (forth, back)
     forth : passes T ≡ true → Realized T
     forth h =
         let passed = passes-passed T .0 h in
-        let r = target-reached (vertices T table passed) degrees (degreeOf T table passed) (λ k. k) T (table-target T table passed) in
-        (vertices T table passed, r .0, r .1 .simple, has-table T table passed (r .0) (r .1) (r .2))
+        let r = target-reached (vertices T) degrees (vertexDegree T) (λ k. k) T (table-target T table passed) in
+        (vertices T, r .0, r .1 .simple, has-table T table passed (r .0) (r .1) (r .2))
 
     back : Realized T → passes T ≡ true
     back r = passes-passed T .1 (graph-passed T table (r .0) (r .1) (r .2) (r .3))

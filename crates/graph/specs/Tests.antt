@@ -1,11 +1,13 @@
--- Document 01's tests 9, 10 and 11 on a joint degree matrix over the degrees 1 to 40 ("Laying out").
+-- Document 01's S(k), D(k) and N, the numbering of the vertices, and its tests 9, 10 and 11, on a joint degree matrix over the degrees 1 to 40
+-- ("Laying out").
 -- Assumes nothing.
 use mathlib.Core.Path.{_≡_}
-use mathlib.Core.Bool.{Bool, _&&_, not}
+use mathlib.Core.Bool.{Bool, _&&_, not, cond}
 use Prim.Native.Nat.{ℕ, _+_, _/_, _%_, _<_}
 use lib.Dec.{eqb, ltb}
 use Rattle.finite.specs.Range.{sumTo, lowest}
 use Rattle.graph.specs.Target.{cellMost}
+use Rattle.graph.specs.Numbering.{classOf}
 
 -- a degree of the table runs from 1 to 40; `degrees` is the first number past them
 abbrev pub leastDegree : ℕ
@@ -21,9 +23,17 @@ degrees = mostDegree + 1
 abbrev pub rowSum : (ℕ → ℕ → ℕ) → ℕ → ℕ
 rowSum T k = sumTo degrees (T k)
 
--- D(k) = S(k) / k
+-- D(k) = S(k) / k; the table has no vertices of a degree below the least
 abbrev pub count : (ℕ → ℕ → ℕ) → ℕ → ℕ
-count T k = rowSum T k / k
+count T k = cond (ltb k leastDegree) 0 (rowSum T k / k)
+
+-- N, the sum of all D(k), from the least degree on
+abbrev pub vertices : (ℕ → ℕ → ℕ) → ℕ
+vertices T = sumTo mostDegree (λ i. count T (leastDegree + i))
+
+-- the degree of vertex v: vertices are numbered by rising degree
+abbrev pub vertexDegree : (ℕ → ℕ → ℕ) → ℕ → ℕ
+vertexDegree T = classOf degrees (count T)
 
 -- cell (k, k) is odd
 abbrev pub odd : (ℕ → ℕ → ℕ) → ℕ → Bool

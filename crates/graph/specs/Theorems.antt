@@ -2,10 +2,10 @@
 -- stands in the module of proofs/ that is named beside it.
 -- Assumes nothing.
 use mathlib.Core.Path.{_≡_}
-use mathlib.Core.Bool.{true, false}
+use mathlib.Core.Bool.{Bool, true, false}
 use mathlib.Core.Logic.{_↔_, _≢_}
 use Prim.Native.Nat.{ℕ, _+_, _*_, _%_, _≤_, _<_}
-use Rattle.finite.specs.Range.{δ, sumTo}
+use Rattle.finite.specs.Range.{δ, sumTo, iterate}
 use Rattle.graph.specs.Graph.{Graph, Simple, degree, edges, size, jdm, ownJdm, atEdge, AddsEdge}
 use Rattle.graph.specs.Target.{cellMost, Target, Partial, Open}
 use Rattle.graph.specs.Switch.{unsaturated, substitute, transfer, Switched, Joined}
@@ -126,3 +126,35 @@ Realized T = (n : ℕ) × (E : Graph) × Simple n E × ((k l : ℕ) → ownJdm n
 -- .. if and only if T passes document 01's tests 9, 10 and 11.
 abbrev pub Realizability : Type 0
 Realizability = (T : ℕ → ℕ → ℕ) → Table T → (passes T ≡ true) ↔ Realized T
+
+-- 8. Completing by any rule (proofs/Completion.antt). A rule works on states of its own; a state stands for a graph and the joins so far. It sees
+-- whether a cell is short, and where one is it joins some open pair. `Good` is what it needs to hold all along.
+pub record Rule (n C : ℕ) (cls deg : ℕ → ℕ) (T : ℕ → ℕ → ℕ) (S : Type 0) : Type 1 where
+  pub graph : S → Graph
+  pub joins : S → ℕ
+  pub short : S → Bool
+  pub next : S → S
+  pub Good : S → Type 0
+  pub partial : (s : S) → Good s → Partial n C cls deg T (graph s)
+  pub stops : (s : S) → Good s → short s ≡ false → (k l : ℕ) → k < C → l < C → jdm n cls (graph s) k l ≡ T k l
+  pub picks : (s : S) → Good s → short s ≡ true →
+      (v w : ℕ) × Open n cls T (graph s) v w × Joined n cls deg (graph s) v w (graph (next s)) × Good (next s)
+  pub counts : (s : S) → joins (next s) ≡ joins s + 1
+
+-- the sum of all cells, (k, l) and (l, k) both counted
+abbrev pub allCells : ℕ → (ℕ → ℕ → ℕ) → ℕ
+allCells C M = sumTo C (λ k. sumTo C (M k))
+
+-- from s the rule ends in r: every cell is at its target, and it made exactly as many joins as edges were missing
+pub record Ended (n C : ℕ) (cls deg : ℕ → ℕ) (T : ℕ → ℕ → ℕ) {S : Type 0} (rule : Rule n C cls deg T S) (s r : S) : Type 0 where
+  pub good : rule .Good r
+  pub full : (k l : ℕ) → k < C → l < C → jdm n cls (rule .graph r) k l ≡ T k l
+  pub counted : rule .joins r + edges n (rule .graph s) ≡ rule .joins s + edges n (rule .graph r)
+  pub missing : allCells C T ≡ 2 * edges n (rule .graph r)
+
+-- with fuel for what is missing
+abbrev pub CompletesByAnyRule : Type 1
+CompletesByAnyRule =
+    (n C : ℕ) (cls deg : ℕ → ℕ) (T : ℕ → ℕ → ℕ) → Target n C cls deg T → (S : Type 0) (rule : Rule n C cls deg T S) →
+    (fuel : ℕ) (s : S) → rule .Good s → allCells C T ≤ 2 * (edges n (rule .graph s) + fuel) →
+    Ended n C cls deg T rule s (iterate fuel (rule .short) (rule .next) s)

@@ -9,7 +9,7 @@ use native.Mathlib.Omega.{arith}
 use lib.Dec.{eqb, leb}
 use borrow.Author.Tests.{eqb-true, eq-eqb, leb-true, le-leb}
 use Rattle.finite.proofs.All.{and-left, and-right, and-both}
-use Rattle.graph.specs.Tests.{passes}
+use Rattle.graph.specs.Tests.{passes, vertices}
 use Rattle.graph.specs.Theorems.{Realized}
 use Rattle.graph.proofs.Realizability.{realizability}
 use Rattle.answer.specs.Numbers.{layOutNumbers}
@@ -21,7 +21,7 @@ use Rattle.answer.specs.declared.Verdict.the-variants.{Go}
 use Rattle.answer.specs.declared.LayOutAnswer.{LayOutAnswer}
 use Rattle.answer.specs.declared.LayOutAnswer.the-variants.{LaidOut, Refused}
 use Rattle.answer.proofs.Checks.{unless-stopped-passed}
-use Rattle.table.specs.Layout.{mostVertices, vertices, layoutVerdict}
+use Rattle.table.specs.Layout.{mostVertices, layoutVerdict}
 use Rattle.table.proofs.Verdict.{layout-go, go-layout, layout-passed, layout-refused}
 use Rattle.journal.specs.Journal.{phase, jdmOf, laid}
 use Rattle.journal.proofs.Facts.{journal-facts}

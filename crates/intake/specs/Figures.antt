@@ -9,7 +9,8 @@ use Rattle.answer.specs.declared.Figures.{Figures}
 use Rattle.answer.specs.declared.FiguresAnswer.{FiguresAnswer}
 use Rattle.answer.specs.declared.FiguresAnswer.the-variants.{Reported, Refused}
 use Rattle.graph.specs.Graph.{edges}
-use Rattle.table.specs.Layout.{vertices, wanted}
+use Rattle.graph.specs.Tests.{vertices}
+use Rattle.table.specs.Layout.{wanted}
 use Rattle.journal.specs.Journal.{phase, blocks, jdmOf}
 use Rattle.adjacency.specs.Adjacency.{edge}
 use Rattle.state.specs.Checks.{stateVerdict}

@@ -6,7 +6,8 @@ use Rattle.answer.specs.Refusals.{unlessStopped}
 use Rattle.answer.specs.declared.Verdict.{Verdict}
 use Rattle.answer.specs.declared.LayOutAnswer.{LayOutAnswer}
 use Rattle.answer.specs.declared.LayOutAnswer.the-variants.{LaidOut, Refused}
-use Rattle.table.specs.Layout.{vertices, layoutVerdict}
+use Rattle.graph.specs.Tests.{vertices}
+use Rattle.table.specs.Layout.{layoutVerdict}
 use Rattle.journal.specs.Journal.{jdmOf, laid}
 use Rattle.state.specs.Checks.{phaseVerdict}
 

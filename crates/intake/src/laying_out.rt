@@ -2,7 +2,8 @@
 ghost use mathlib.Core.Path.{_≡_};
 ghost use mathlib.Core.Bool.{true};
 ghost use lib.ListN.{length};
-ghost use Rattle.table.specs.Layout.{vertices, layoutVerdict};
+ghost use Rattle.graph.specs.Tests.{vertices};
+ghost use Rattle.table.specs.Layout.{layoutVerdict};
 ghost use Rattle.journal.specs.Journal.{journalSize, journalOk, jdmOf};
 ghost use Rattle.intake.specs.LayOut.{laidOut, layOutAnswer, layOutJournal};
 use answer::LayOutAnswer;

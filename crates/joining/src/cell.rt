@@ -11,7 +11,7 @@ ghost use Rattle.adjacency.specs.Adjacency.{adjacencySize, side, edge};
 ghost use Rattle.joining.specs.Inner.Block.{startsOf, blockSum};
 use adjacency::SIDE;
 use adjacency::byte_sum;
-use table::cells::DEGREES;
+use table::degree::DEGREES;
 
 // One entry for each class, and one past the last.
 pub const STARTS: usize = DEGREES + 1;

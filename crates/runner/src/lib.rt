@@ -10,7 +10,7 @@ use answer::number_of;
 use journal::JOURNAL_SIZE;
 use journal::MOST_BLOCKS;
 use libc::STDOUT_FILENO;
-use table::cells::DEGREES;
+use table::degree::DEGREES;
 use table::layout::MOST_VERTICES;
 use table::record::BLOCK_MOST;
 

@@ -6,11 +6,11 @@ use mathlib.Core.List.{List}
 use Prim.Native.Nat.{ℕ}
 use lib.Dec.{leb}
 use borrow.Author.Tests.{leb-true, le-leb}
-use Rattle.graph.specs.Tests.{passes}
+use Rattle.graph.specs.Tests.{passes, vertices, vertexDegree}
 use Rattle.answer.specs.declared.Refusal.{Refusal}
 use Rattle.answer.specs.declared.Verdict.{Verdict}
 use Rattle.answer.specs.declared.Verdict.the-variants.{Go, Stop}
-use Rattle.table.specs.Layout.{mostVertices, vertices, vertexDegree, layoutVerdict}
+use Rattle.table.specs.Layout.{mostVertices, layoutVerdict}
 use Rattle.table.proofs.Verdict.{layout-go, go-layout}
 use Rattle.adjacency.specs.Adjacency.{adjacencyOk}
 use Rattle.state.specs.Valid.{laidOk}

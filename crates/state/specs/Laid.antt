@@ -5,7 +5,7 @@ use mathlib.Core.List.{List}
 use Prim.Native.Nat.{ℕ}
 use lib.Dec.{ltb}
 use Rattle.graph.specs.Graph.{jdm}
-use Rattle.table.specs.Layout.{vertices, vertexDegree}
+use Rattle.graph.specs.Tests.{vertices, vertexDegree}
 use Rattle.journal.specs.Journal.{jdmOf}
 use Rattle.adjacency.specs.Adjacency.{edge}
 

@@ -5,9 +5,9 @@ use mathlib.Core.List.{List}
 use Prim.Native.Nat.{ℕ}
 use lib.Dec.{eqb, leb}
 use lib.ListN.{length}
-use Rattle.graph.specs.Tests.{passes}
+use Rattle.graph.specs.Tests.{passes, vertices, vertexDegree}
 use Rattle.slices.specs.Slices.{allZero}
-use Rattle.table.specs.Layout.{mostVertices, vertices, vertexDegree}
+use Rattle.table.specs.Layout.{mostVertices}
 use Rattle.journal.specs.Journal.{journalSize, phase, journalOk, jdmOf}
 use Rattle.adjacency.specs.Adjacency.{adjacencySize, adjacencyOk}
 

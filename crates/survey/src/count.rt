@@ -12,9 +12,9 @@ ghost use Rattle.survey.specs.Survey.{firstAbove};
 ghost use Rattle.survey.specs.Inner.Counting.{countEdge, countCell, timesCounted, degreeIn, firstAboveIn, HasRoom, HasDegrees, HasCells, cellMostOwn, CellsSmall};
 use slices::wide;
 use table::cells::CELLS;
-use table::cells::DEGREES;
 use table::cells::place_of;
 use table::cells::wide32;
+use table::degree::DEGREES;
 use table::layout::MOST_VERTICES;
 
 const MOST_DEGREE: usize = DEGREES - 1;

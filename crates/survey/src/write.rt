@@ -11,8 +11,8 @@ ghost use Rattle.survey.specs.Survey.{cellRecord, recordsOf};
 ghost use Rattle.survey.specs.Inner.Counting.{CellsSmall, recordsMost};
 use slices::put;
 use table::cells::CELLS;
-use table::cells::DEGREES;
 use table::cells::cell;
+use table::degree::DEGREES;
 
 // The record of cell (k, l) from place at on, if the cell is not 0. The place behind it.
 fn put_record(cells: &[u32; CELLS], k: usize, l: usize, out: &mut [u8], at: usize) -> usize

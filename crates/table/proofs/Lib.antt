@@ -1,4 +1,5 @@
 pub mod Block
+pub mod Made
 pub mod Matrix
 pub mod Counts
 pub mod Overfull

@@ -8,7 +8,7 @@ use native.Mathlib.Omega.{arith}
 use lib.Dec.{eqb, leb}
 use borrow.Author.Tests.{leb-true, le-leb}
 use Rattle.finite.proofs.All.{and-left, and-right, and-both}
-use Rattle.graph.specs.Tests.{degrees, firstOdd, firstUneven, firstOverfull, firstOverfullIn, passes}
+use Rattle.graph.specs.Tests.{degrees, firstOdd, firstUneven, firstOverfull, firstOverfullIn, passes, vertices}
 use Rattle.answer.specs.Numbers.{numberOf}
 use Rattle.answer.specs.Refusals.{refusal, stop, unless}
 use Rattle.answer.specs.declared.Cause.the-variants.{OddDiagonal, UnevenRow, OverfullCell, TooManyVertices}
@@ -16,7 +16,7 @@ use Rattle.answer.specs.declared.Refusal.{Refusal}
 use Rattle.answer.specs.declared.Verdict.{Verdict}
 use Rattle.answer.specs.declared.Verdict.the-variants.{Go, Stop}
 use Rattle.answer.proofs.Checks.{unless-go}
-use Rattle.table.specs.Layout.{mostVertices, vertices, layoutVerdict}
+use Rattle.table.specs.Layout.{mostVertices, layoutVerdict}
 
 -- one of the three tests before the number of vertices
 abbrev pub IsTest : Refusal → Type 0

@@ -3,8 +3,7 @@
 use Prim.Native.Nat.{ℕ, _/_}
 use lib.Dec.{eqb, leb}
 use Rattle.finite.specs.Range.{sumTo}
-use Rattle.graph.specs.Numbering.{total, classOf}
-use Rattle.graph.specs.Tests.{degrees, rowSum, count, firstOdd, firstUneven, firstOverfull, firstOverfullIn}
+use Rattle.graph.specs.Tests.{degrees, rowSum, vertices, firstOdd, firstUneven, firstOverfull, firstOverfullIn}
 use Rattle.answer.specs.Refusals.{refusal, stop, unless}
 use Rattle.answer.specs.declared.Cause.the-variants.{OddDiagonal, UnevenRow, OverfullCell, TooManyVertices}
 use Rattle.answer.specs.declared.Verdict.{Verdict}
@@ -13,14 +12,6 @@ use Rattle.answer.specs.declared.Verdict.the-variants.{Go, Stop}
 -- the most vertices of a layout
 abbrev pub mostVertices : ℕ
 mostVertices = 200
-
--- N, the sum of all D(k)
-abbrev pub vertices : (ℕ → ℕ → ℕ) → ℕ
-vertices T = total degrees (count T)
-
--- the degree of vertex v: vertices are numbered by rising degree
-abbrev pub vertexDegree : (ℕ → ℕ → ℕ) → ℕ → ℕ
-vertexDegree T = classOf degrees (count T)
 
 -- edges wanted: half the sum of all cells, (k, l) and (l, k) both counted
 abbrev pub wanted : (ℕ → ℕ → ℕ) → ℕ

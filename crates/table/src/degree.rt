@@ -1,8 +1,10 @@
 // A degree of the table.
 ghost use mathlib.Core.Path.{_≡_};
-ghost use Rattle.table.specs.Block.{isDegree, madeDegree};
+ghost use lib.Dec.{leb};
+ghost use Rattle.table.specs.Block.{madeDegree};
 
-pub struct Degree(pub u8);
+// The field is private: from_byte is the only way to make one.
+pub struct Degree(u8);
 
 // A degree made from a record byte, or none.
 pub enum MadeDegree {
@@ -11,27 +13,27 @@ pub enum MadeDegree {
 }
 
 impl Degree {
-    pub const LEAST: u8 = 1;
+    pub const LEAST: Degree = Degree(1);
 
-    pub const MOST: u8 = 40;
+    pub const MOST: Degree = Degree(40);
 
     pub fn from_byte(b: u8) -> MadeDegree
         ensures { λ r. ⌜ r ≡ madeDegree b ⌝ }
     {
-        if (Degree::LEAST <= b) & (b <= Degree::MOST) {
+        if (Degree::LEAST.0 <= b) & (b <= Degree::MOST.0) {
             MadeDegree::Made(Degree(b))
         } else {
             MadeDegree::OutOfRange
         }
     }
-}
 
-pub fn is_degree(b: u8) -> bool
-    ensures { λ r. ⌜ r ≡ isDegree b ⌝ }
-{
-    let made = Degree::from_byte(b);
-    match made {
-        MadeDegree::Made(_) => true,
-        MadeDegree::OutOfRange => false,
+    // This degree is not above the other.
+    pub fn at_most(self, other: Degree) -> bool
+        ensures { λ r. ⌜ r ≡ leb (self .0) (other .0) ⌝ }
+    {
+        self.0 <= other.0
     }
 }
+
+// The degrees are the numbers 1 to DEGREES - 1.
+pub const DEGREES: usize = Degree::MOST.0 as usize + 1;

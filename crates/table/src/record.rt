@@ -1,9 +1,13 @@
 // Records of a block.
 ghost use mathlib.Core.Path.{_≡_};
 ghost use Prim.Native.Nat.{_+_, _*_, _≤_, _<_};
+ghost use mathlib.Core.Bool.{_&&_};
+ghost use lib.Dec.{leb};
 ghost use lib.ListN.{length};
-ghost use Rattle.table.specs.Block.{recordSize, blockLength, recordCount, goodRecord, firstBad};
+ghost use Rattle.table.specs.Block.{recordSize, isDegree, blockLength, recordCount, goodRecord, firstBad};
 ghost use Rattle.table.specs.Inner.Cells.{recordMost};
+use crate::degree::Degree;
+use crate::degree::MadeDegree;
 use slices::wide;
 
 pub const RECORD_SIZE: usize = 4;
@@ -27,14 +31,25 @@ pub fn record_count(block: &[u8], i: usize) -> usize
     wide(block[at + 2]) + 256 * wide(block[at + 3])
 }
 
+// Both are degrees, and k is not above l.
+fn good_pair(k: u8, l: u8) -> bool
+    ensures { λ r. ⌜ r ≡ isDegree k && isDegree l && leb k l ⌝ }
+{
+    let MadeDegree::Made(a) = Degree::from_byte(k) else {
+        return false;
+    };
+    let MadeDegree::Made(b) = Degree::from_byte(l) else {
+        return false;
+    };
+    a.at_most(b)
+}
+
 pub fn good_record(block: &[u8], i: usize) -> bool
     requires { ⌜ recordSize * i + recordSize ≤ length (now block) ⌝ }
     ensures { λ r. ⌜ r ≡ goodRecord (now (block .entry)) i ⌝ }
 {
     let at = RECORD_SIZE * i;
-    let k = block[at];
-    let l = block[at + 1];
-    crate::degree::is_degree(k) & crate::degree::is_degree(l) & (k <= l)
+    good_pair(block[at], block[at + 1])
 }
 
 // The first record that is not good, or the number of records.

@@ -5,7 +5,7 @@ use Prim.Native.Nat.{ℕ, _<_}
 use native.Mathlib.Omega.{arith}
 use borrow.Author.Tests.{not-true, not-false}
 use Rattle.table.specs.Inner.Cells.{matrixOf}
-use Rattle.table.specs.Layout.{vertexDegree}
+use Rattle.graph.specs.Tests.{vertexDegree}
 use Rattle.table.specs.Inner.Arrays.{classIn}
 use Rattle.adjacency.proofs.Classes.{degreesWithin-same, cellsWithin-same, class-at, class-below, class-rises}
 use Rattle.adjacency.proofs.adjacency_ok.Statement.{statement}

@@ -7,10 +7,10 @@ use Prim.Native.Nat.{ℕ, _+_, _*_, _≤_, _<_}
 use lib.ListN.{getD}
 use Rattle.graph.specs.Graph.{jdm, edges}
 use Rattle.graph.specs.Switch.{unsaturated}
-use Rattle.graph.specs.Tests.{degrees}
+use Rattle.graph.specs.Tests.{degrees, vertices}
 use Rattle.adjacency.specs.Adjacency.{side, edge}
 use Rattle.table.specs.Inner.Cells.{matrixOf}
-use Rattle.table.specs.Layout.{mostVertices, vertices}
+use Rattle.table.specs.Layout.{mostVertices}
 use Rattle.table.specs.Inner.Arrays.{countsOf, classesOf, classIn}
 use Rattle.joining.specs.Join.{own}
 use Rattle.joining.specs.Inner.Work.{degreesOf}

@@ -27,7 +27,7 @@ is-laid-ok-spec =
     let m = c .before .before .before .before .before in
     let l = m .before .before in
     let n = l .before .before .before in
-    let go = layout-go _ (sym (l .layout-check .ensures) ∙ m .enum-told2 .given .1) in
+    let go = layout-go (matrixOf (n .before .before .cells-of .result)) (sym (l .layout-check .ensures) ∙ m .enum-told2 .given .1) in
     (n .before .before .cells-of .ensures .1, n .counts .ensures, go .1))  -- classes-requires
     (λ c κs.
     let s = c .before .before in
@@ -35,7 +35,7 @@ is-laid-ok-spec =
     let m = v .before .before .before in
     let l = m .before .before in
     let k = l .before .before .before .before .before in
-    let go = layout-go _ (sym (l .layout-check .ensures) ∙ m .enum-told2 .given .1) in
+    let go = layout-go (matrixOf (k .cells-of .result)) (sym (l .layout-check .ensures) ∙ m .enum-told2 .given .1) in
     let e = v .vertex-count .ensures in
     (k .before .before .before .pre .1, e, rw e (go .1), s .classes .ensures, k .cells-of .ensures .1))  -- adjacency-ok-requires
     (λ c.

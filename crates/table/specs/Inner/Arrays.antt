@@ -10,8 +10,8 @@ use lib.ListN.{getD, replicate}
 use Rattle.finite.specs.Range.{sumTo, allTo}
 use Rattle.graph.specs.Target.{cellMost}
 use Rattle.finite.specs.Inner.Fill.{fillTo}
-use Rattle.graph.specs.Tests.{degrees, count}
-use Rattle.table.specs.Layout.{vertices, vertexDegree, mostVertices}
+use Rattle.graph.specs.Tests.{degrees, count, vertices, vertexDegree}
+use Rattle.table.specs.Layout.{mostVertices}
 
 -- all D(k), by degree
 abbrev pub countsOf : (ℕ → ℕ → ℕ) → List ℕ

@@ -5,7 +5,7 @@ use native.Mathlib.Omega.{arith}
 use borrow.Author.Needs.{needs}
 use borrow.Author.Tests.{lt-ltb, le-ltb, eq-eqb, ne-eqb}
 use Rattle.answer.specs.declared.AddAnswer.the-variants.{Refused}
-use Rattle.table.specs.Layout.{vertices}
+use Rattle.graph.specs.Tests.{vertices}
 use Rattle.journal.specs.Journal.{jdmOf}
 use Rattle.editing.specs.Inner.Work.{addUnlinked, addedAdjacency}
 use Rattle.editing.proofs.Unlinked.{adjacency-of}

@@ -1,6 +1,6 @@
 -- `editing::laid::laid_vertices` meets its contract.
 use mathlib.Core.Path.{ap, _∙_}
-use Rattle.table.specs.Layout.{vertices}
+use Rattle.graph.specs.Tests.{vertices}
 use Rattle.editing.proofs.laid.laid_vertices.Statement.{statement}
 use Rattle.editing.proofs.laid.laid_vertices.Tie as tie
 

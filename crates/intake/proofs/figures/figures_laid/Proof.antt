@@ -3,7 +3,8 @@
 use mathlib.Core.Path.{ap, _∙_}
 use Prim.Native.Nat.{ℕ}
 use Rattle.graph.specs.Graph.{edges}
-use Rattle.table.specs.Layout.{vertices, wanted}
+use Rattle.graph.specs.Tests.{vertices}
+use Rattle.table.specs.Layout.{wanted}
 use Rattle.adjacency.specs.Adjacency.{edge}
 use Rattle.intake.proofs.figures.figures_laid.Statement.{statement}
 use Rattle.intake.proofs.figures.figures_laid.Tie as tie

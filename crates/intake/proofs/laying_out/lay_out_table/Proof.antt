@@ -4,7 +4,8 @@ use mathlib.Core.Path.{sym, ap, _∙_}
 use borrow.Author.Needs.{needs}
 use Rattle.answer.specs.declared.LayOutAnswer.the-variants.{LaidOut}
 use Rattle.answer.specs.declared.Verdict.{Verdict}
-use Rattle.table.specs.Layout.{vertices, layoutVerdict}
+use Rattle.graph.specs.Tests.{vertices}
+use Rattle.table.specs.Layout.{layoutVerdict}
 use Rattle.journal.specs.Journal.{jdmOf}
 use Rattle.intake.specs.LayOut.{laidOut}
 use Rattle.intake.proofs.laying_out.lay_out_table.Statement.{statement}

@@ -5,7 +5,6 @@ use mathlib.Core.Path.{_≡_, sym, ap, _∙_}
 use Prim.Native.Nat.{ℕ, _-_, _≤_}
 use native.Mathlib.Omega.{arith}
 use lib.ListN.{replicate}
-use Rattle.finite.specs.Range.{sumTo}
 use Rattle.finite.specs.Inner.Fill.{fillTo}
 use Rattle.finite.proofs.Fold.{fillTo-none, fillTo-more}
 use Rattle.finite.proofs.Sum.{sumTo-none, sumTo-more}
@@ -13,7 +12,7 @@ use Rattle.graph.specs.Numbering.{classOf}
 use Rattle.graph.specs.Tests.{degrees}
 use Rattle.table.specs.Layout.{mostVertices}
 use Rattle.table.specs.Inner.Arrays.{countIn, Reaches}
-use Rattle.table.proofs.Counts.{counted}
+use Rattle.table.proofs.Counts.{counted, counted-total}
 use Rattle.table.proofs.layout.classes.Statement.{statement}
 use Rattle.table.proofs.layout.classes.Tie as tie
 
@@ -39,7 +38,7 @@ classes-spec =
     let l = c .before in
     let n = l .before .before in
     let s = n .before in
-    let e = ap (λ (D : ℕ → ℕ). sumTo degrees D) (counted (s .args .cells .now) (s .args .counts .now) (s .pre .1)) in
+    let e = counted-total (s .args .cells .now) (s .args .counts .now) (s .pre .1) in
     (l .loop .inv .2, omega arith, omega arith))  -- run-at-requires
     (λ c. omega arith)  -- cast-t
     (λ c. omega arith)  -- array-write-t

@@ -1,14 +1,14 @@
 -- `table::layout::vertex_count` meets its contract: after k turns n is the sum of the first k counts.
 -- Assumes nothing.
-use mathlib.Core.Path.{_≡_, ap, _∙_}
-use Prim.Native.Nat.{ℕ, _≤_, _-_, _*_}
+use mathlib.Core.Path.{_≡_, _∙_}
+use Prim.Native.Nat.{_≤_, _-_, _*_}
 use native.Mathlib.Omega.{arith}
 use Rattle.finite.specs.Range.{sumTo}
 use Rattle.finite.proofs.Sum.{sumTo-none, sumTo-more}
 use Rattle.graph.specs.Tests.{degrees}
 use Rattle.table.specs.Inner.Cells.{cellSumMost}
 use Rattle.table.specs.Inner.Arrays.{countIn}
-use Rattle.table.proofs.Counts.{counted, counts-most}
+use Rattle.table.proofs.Counts.{counted-total, counts-most}
 use Rattle.table.proofs.layout.vertex_count.Statement.{statement}
 use Rattle.table.proofs.layout.vertex_count.Tie as tie
 
@@ -42,4 +42,4 @@ vertex-count-spec =
     let s = l .before in
     let e : l .loop .k ≡ degrees = omega arith in
     (rw e at (l .loop .inv .1))
-    ∙ ap (λ (D : ℕ → ℕ). sumTo degrees D) (counted (s .args .cells .now) (s .args .counts .now) (s .pre .1))))  -- returns
+    ∙ counted-total (s .args .cells .now) (s .args .counts .now) (s .pre .1)))  -- returns

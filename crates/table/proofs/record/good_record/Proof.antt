@@ -8,9 +8,8 @@ pub good-record-spec : {M : Type 1} → statement M
 good-record-spec =
     tie.close (tie.spec
     (λ c. omega arith)  -- mul-at
-    (λ c. omega arith)  -- shared-slice-read-k
-    (λ c. omega arith)  -- add-l
-    (λ c. omega arith)  -- shared-slice-read-l
-    (λ c κs. tt)  -- is-degree-requires
-    (λ c κs. tt)  -- is-degree-requires-2
-    (λ c. rw (c .before .is-degree .ensures, c .is-degree2 .ensures)))  -- returns
+    (λ c. omega arith)  -- shared-slice-read-good-pair
+    (λ c. omega arith)  -- add-good-pair
+    (λ c. omega arith)  -- shared-slice-read-good-pair-2
+    (λ c κs. tt)  -- good-pair-requires
+    (λ c. c .good-pair .ensures))  -- returns

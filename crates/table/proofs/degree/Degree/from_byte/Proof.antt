@@ -9,5 +9,5 @@ use Rattle.table.proofs.degree.Degree.from_byte.Tie as tie
 pub from-byte-spec : {M : Type 1} → statement M
 from-byte-spec =
     tie.close (tie.spec
-    (λ c. let t : isDegree (c .before .args .b) ≡ true = c .if1 .taken in rw t)  -- returns
-    (λ c. let t : isDegree (c .before .args .b) ≡ false = c .if1 .left in rw t))  -- returns-2
+    (λ c. let t : isDegree (c .before .before .before .args .b) ≡ true = c .if1 .taken in rw t)  -- returns
+    (λ c. let t : isDegree (c .before .before .before .args .b) ≡ false = c .if1 .left in rw t))  -- returns-2
