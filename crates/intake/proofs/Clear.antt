@@ -12,15 +12,7 @@ use Rattle.journal.proofs.Empty.{phase-empty, blocks-empty, jdm-empty, valid-em
 use Rattle.adjacency.specs.Adjacency.{adjacencySize}
 use Rattle.state.specs.Valid.{lengthsOk, valid}
 use Rattle.state.proofs.Facts.{lengths-journal, lengths-adjacency, lengths-both, facts-valid-0}
-use Rattle.intake.specs.Clear.{clearAnswer, clearBytes}
-
--- a state just cleared
-pub record ClearedState (j g : List ℕ) : Type 0 where
-  pub lengths : lengthsOk j g ≡ true
-  pub sound : valid j g ≡ true
-  pub taking : phase j ≡ 0
-  pub no-blocks : blocks j ≡ 0
-  pub no-cells : jdmOf j ≡ (λ k l. 0)
+use Rattle.intake.specs.Clear.{clearAnswer, clearBytes, ClearedState, ClearingClears}
 
 -- the lengths are variables here, so that no list is written out
 zeros-cleared : (m n : ℕ) → m ≡ journalSize → n ≡ adjacencySize → ClearedState (replicate m 0) (replicate n 0)
@@ -51,3 +43,6 @@ module _ (j g : List ℕ) (l : lengthsOk j g ≡ true) where
 
   pub clear-adjacency : clearBytes (clearAnswer j g) g ≡ replicate adjacencySize 0
   clear-adjacency = zeroed g adjacencySize (lengths-adjacency j g l)
+
+pub clearing-clears : ClearingClears
+clearing-clears j g l = (clear-answer j g l, clear-journal j g l, clear-adjacency j g l, cleared-state)

@@ -1,5 +1,7 @@
 -- Clearing (document 01): it looks only at the two lengths and sets every byte to zero.
 -- Assumes nothing.
+use mathlib.Core.Path.{_≡_}
+use mathlib.Core.Bool.{true}
 use mathlib.Core.List.{List}
 use Prim.Native.Nat.{ℕ}
 use lib.ListN.{length, replicate}
@@ -7,7 +9,9 @@ use Rattle.answer.specs.Refusals.{refusal, unless}
 use Rattle.answer.specs.declared.Cause.the-variants.{Length}
 use Rattle.answer.specs.declared.ClearAnswer.{ClearAnswer}
 use Rattle.answer.specs.declared.ClearAnswer.the-variants.{Cleared, Refused}
-use Rattle.state.specs.Valid.{lengthsOk}
+use Rattle.journal.specs.Journal.{journalSize, phase, blocks, jdmOf}
+use Rattle.adjacency.specs.Adjacency.{adjacencySize}
+use Rattle.state.specs.Valid.{lengthsOk, valid}
 
 abbrev pub clearAnswer : List ℕ → List ℕ → ClearAnswer
 clearAnswer j g = unless (lengthsOk j g) (Refused (refusal Length 0 0)) Cleared
@@ -16,3 +20,20 @@ clearAnswer j g = unless (lengthsOk j g) (Refused (refusal Length 0 0)) Cleared
 abbrev pub clearBytes : ClearAnswer → List ℕ → List ℕ
 clearBytes Cleared s = replicate (length s) 0
 clearBytes (Refused r) s = s
+
+-- a state just cleared
+pub record ClearedState (j g : List ℕ) : Type 0 where
+  pub lengths : lengthsOk j g ≡ true
+  pub sound : valid j g ≡ true
+  pub taking : phase j ≡ 0
+  pub no-blocks : blocks j ≡ 0
+  pub no-cells : jdmOf j ≡ (λ k l. 0)
+
+-- What is proved of clearing (proofs/Clear.antt): any two lists of the right lengths become the same valid state, with no blocks.
+abbrev pub ClearingClears : Type 0
+ClearingClears =
+    (j g : List ℕ) → lengthsOk j g ≡ true →
+    (clearAnswer j g ≡ Cleared)
+    × (clearBytes (clearAnswer j g) j ≡ replicate journalSize 0)
+    × (clearBytes (clearAnswer j g) g ≡ replicate adjacencySize 0)
+    × ClearedState (replicate journalSize 0) (replicate adjacencySize 0)

@@ -7,7 +7,7 @@ use Rattle.answer.specs.Refusals.{refusal, unless, unlessStopped}
 use Rattle.answer.specs.declared.Cause.the-variants.{BlockNumber}
 use Rattle.answer.specs.declared.LengthAnswer.{LengthAnswer}
 use Rattle.answer.specs.declared.LengthAnswer.the-variants.{Length, Refused}
-use Rattle.journal.specs.Journal.{blocks, slotLength, blockAt}
+use Rattle.journal.specs.Journal.{blocks, slotLength, blockFrom, blockAt}
 use Rattle.state.specs.Checks.{stateVerdict}
 
 -- the checks 1, 2, 6, then the length
@@ -21,3 +21,8 @@ lengthAnswer j g number =
 abbrev pub heldPart : LengthAnswer → List ℕ → ℕ → List ℕ
 heldPart (Length n) j number = blockAt j number
 heldPart (Refused r) j number = []
+
+-- where in the journal that part begins; the empty part of a refusal, at the journal's first byte
+abbrev pub heldFrom : LengthAnswer → ℕ → ℕ
+heldFrom (Length n) number = blockFrom number
+heldFrom (Refused r) number = 0

@@ -1,6 +1,7 @@
 // Reading a held block back.
 ghost use mathlib.Core.Path.{_≡_};
-ghost use Rattle.intake.specs.Held.{lengthAnswer, heldPart};
+ghost use Rattle.slices.specs.Slices.{further};
+ghost use Rattle.intake.specs.Held.{lengthAnswer, heldPart, heldFrom};
 use answer::Cause;
 use answer::LengthAnswer;
 use answer::Verdict;
@@ -27,7 +28,8 @@ pub fn held_block_length(journal: &[u8], adjacency: &[u8], number: usize) -> Len
 }
 
 // Held block `number`, the part of the journal itself; an empty part where there is none.
-pub fn held_block<'a>(journal: &'a [u8], adjacency: &'a [u8], number: usize) -> &'a [u8]
+pub fn held_block<'a, 'b>(journal: &'a [u8], adjacency: &'b [u8], number: usize) -> &'a [u8]
+    ensures { λ r. ⌜ r .ptr ≡ further (journal .entry .ptr) (heldFrom (lengthAnswer (now (journal .entry)) (now (adjacency .entry)) number) number) ⌝ }
     ensures { λ r. ⌜ now r ≡ heldPart (lengthAnswer (now (journal .entry)) (now (adjacency .entry)) number) (now (journal .entry)) number ⌝ }
 {
     let answer = held_block_length(journal, adjacency, number);

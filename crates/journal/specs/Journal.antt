@@ -34,8 +34,12 @@ slotAt i = 2 + slotSize * i
 abbrev pub slotLength : List ℕ → ℕ → ℕ
 slotLength j i = getD j (slotAt i) 0
 
+-- where the block of slot i begins
+abbrev pub blockFrom : ℕ → ℕ
+blockFrom i = slotAt i + 1
+
 abbrev pub blockAt : List ℕ → ℕ → List ℕ
-blockAt j i = take (slotLength j i) (drop (slotAt i + 1) j)
+blockAt j i = take (slotLength j i) (drop (blockFrom i) j)
 
 abbrev pub slotRest : List ℕ → ℕ → List ℕ
 slotRest j i = take (blockMost - slotLength j i) (drop (slotAt i + 1 + slotLength j i) j)

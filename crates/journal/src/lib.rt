@@ -3,12 +3,12 @@ ghost use mathlib.Core.Path.{_≡_};
 ghost use mathlib.Core.Bool.{true, _&&_};
 ghost use lib.Dec.{eqb};
 ghost use Rattle.finite.specs.Range.{allTo};
-ghost use Rattle.slices.specs.Slices.{allZero};
+ghost use Rattle.slices.specs.Slices.{allZero, further};
 ghost use Prim.Native.Nat.{_+_, _*_, _≤_, _<_};
 ghost use lib.ListN.{length};
 ghost use Rattle.table.specs.Block.{blockMost, blockLength, records, firstBad};
 ghost use Rattle.table.specs.Inner.Cells.{matrixOf, AtMost, cellSumMost};
-ghost use Rattle.journal.specs.Journal.{journalSize, mostBlocks, slotLength, blockAt, slotRest, slotOk, journalOk, jdmOf, sameBlock, stored, laid, phase, blocks};
+ghost use Rattle.journal.specs.Journal.{journalSize, mostBlocks, slotLength, blockFrom, blockAt, slotRest, slotOk, journalOk, jdmOf, sameBlock, stored, laid, phase, blocks};
 use slices::all_zero;
 use slices::same_bytes;
 use slices::wide;
@@ -50,7 +50,7 @@ pub fn slot_length(journal: &[u8], i: usize) -> usize
 // The block of slot i, a part of the journal itself.
 pub fn block_part(journal: &[u8], i: usize) -> &[u8]
     requires { ⌜ (length (now journal) ≡ journalSize) × (i < mostBlocks) × (slotLength (now journal) i ≤ blockMost) ⌝ }
-    ensures { λ r. ⌜ (now r ≡ blockAt (now (journal .entry)) i) × (length (now r) ≤ blockMost) ⌝ }
+    ensures { λ r. ⌜ (now r ≡ blockAt (now (journal .entry)) i) × (length (now r) ≤ blockMost) × (r .ptr ≡ further (journal .entry .ptr) (blockFrom i)) ⌝ }
 {
     let n = slot_length(journal, i);
     let from = 3 + SLOT_SIZE * i;

@@ -7,6 +7,7 @@ use native.Mathlib.Nat.{add-zero, zero-add}
 use native.Mathlib.Decide.{decLt}
 use native.Mathlib.Omega.{arith}
 use lib.ListN.{length, getD, set, take, drop, length-take, length-drop, length-set, List·getD-eq-default}
+use Rattle.slices.specs.Slices.{further}
 use lib.Seq.{sets, sets-eq, take-append-seam, drop-append-seam, getD-take, getD-drop, getD-set-same, getD-set-other, ext-getD}
 
 -- the n elements from place k on
@@ -67,3 +68,7 @@ module _ (l vs : List ℕ) (h : length vs ≤ length l) where
 
   pub drop-sets : drop (length vs) (sets l 0 vs) ≡ drop (length vs) l
   drop-sets = rw sets-start (drop-append-seam vs (drop (length vs) l))
+
+-- a part that leaves out nothing begins where the slice does
+pub further-none : (start : ℕ × ℕ) → further start 0 ≡ start
+further-none start = ap (λ (n : ℕ). (start .0, n)) (zero-add (start .1))

@@ -11,11 +11,16 @@ use answer::Cause;
 use answer::WrittenAnswer;
 use answer::refuse;
 use slices::copy_in;
+use table::cells::CELLS;
 use table::layout::MOST_VERTICES;
+use table::record::RECORD_SIZE;
 
-pub mod count;
-pub mod edges;
-pub mod write;
+mod count;
+mod edges;
+mod write;
+
+// Room for a record of each cell, so that the length is known before a byte of the output changes.
+const RECORDS_MOST: usize = RECORD_SIZE * CELLS;
 
 // Writes the records of the list's own joint degree matrix, or refuses and changes no byte.
 pub fn jdm_of_edges(edges: &[u8], output: &mut [u8]) -> WrittenAnswer
@@ -36,8 +41,7 @@ pub fn jdm_of_edges(edges: &[u8], output: &mut [u8]) -> WrittenAnswer
         return WrittenAnswer::Refused(refuse(Cause::DegreeAbove, above, 0));
     }
     let cells = cells_of(edges, &counts);
-    // Room for a record of each of the 41 × 41 cells, so that the length is known before a byte of the output changes.
-    let mut records = [0u8; 6724];
+    let mut records = [0u8; RECORDS_MOST];
     let length = put_records(&cells, &mut records);
     if output.len() < length {
         return WrittenAnswer::Refused(refuse(Cause::OutputLength, 0, 0));

@@ -25,4 +25,4 @@ block-part-spec =
     let i = s .args .i in
     let e : (3 + slotSize * i + n .slot-length .result) - (3 + slotSize * i) ≡ slotLength j i = omega arith in
     let d : 3 + slotSize * i ≡ slotAt i + 1 = omega arith in
-    rw (e, d) (refl, omega (arith, length-block j i (s .pre .0) (s .pre .1) (s .pre .2)))))  -- returns
+    rw (e, d) (refl, omega (arith, length-block j i (s .pre .0) (s .pre .1) (s .pre .2)), refl)))  -- returns

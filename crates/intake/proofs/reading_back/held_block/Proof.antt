@@ -1,9 +1,10 @@
 -- `intake::reading_back::held_block` meets its contract.
 -- Assumes nothing.
-use mathlib.Core.Path.{sym, _∙_}
+use mathlib.Core.Path.{refl, sym, _∙_}
 use Prim.Native.Nat.{_<_}
 use native.Mathlib.Omega.{arith}
 use borrow.Author.Needs.{needs}
+use Rattle.slices.proofs.Part.{further-none}
 use Rattle.journal.specs.Journal.{mostBlocks}
 use Rattle.journal.proofs.Facts.{journal-facts, slot-most}
 use Rattle.state.proofs.Facts.{lengths-journal, valid-journal}
@@ -28,7 +29,7 @@ held-block-spec =
     (λ c. search needs)  -- slice-aggregate-result
     (λ c.
     let t = c .before in
-    rw (← (t .before .before .held-block-length .ensures), t .enum-told .given .1) (c .block-part .ensures .0))  -- returns
+    rw (← (t .before .before .held-block-length .ensures), t .enum-told .given .1) (c .block-part .ensures .2, c .block-part .ensures .0))  -- returns
     (λ c.
     let t = c .before in
-    rw (← (t .before .before .held-block-length .ensures), t .enum-told2 .given .1)))  -- returns-2
+    rw (← (t .before .before .held-block-length .ensures), t .enum-told2 .given .1) (sym (further-none (t .before .before .before .before .before .args .journal .ptr)), refl)))  -- returns-2
