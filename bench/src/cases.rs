@@ -1,6 +1,6 @@
 //! The calls that are measured, and the states they are made on.
 
-use outside_tests::call::{Call, Entry, Memory};
+use comparison::call::{Call, Entry, Memory};
 use reference::graphs::{self, Graph};
 use reference::journal::{self, record, LAID, TAKING};
 use reference::random::Random;

@@ -1,6 +1,6 @@
 //! Loads a table from a file of records, drags some edges by hand, completes and prints.
 //!
-//!     cargo run --example lay_bench -- RECORDS [V-W ...]
+//!     cargo run -p replica --example lay_out -- RECORDS [V-W ...]
 //!
 //! RECORDS is a file of 4-byte records (k, l, 16-bit count, low byte first). Each V-W joins two
 //! vertices before the rest is completed; -V-W removes an edge again. Without a file, the table of

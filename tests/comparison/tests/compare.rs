@@ -7,11 +7,11 @@
 //! * REPLICA_ONLY: one job as named in a message of failure, for example "call list 17"
 //! * REPLICA_TRACE: print every call before it is made
 
-use outside_tests::blocks::Size;
-use outside_tests::both::Both;
-use outside_tests::count::Count;
-use outside_tests::tables::{self, Start};
-use outside_tests::{joins, lists};
+use comparison::blocks::Size;
+use comparison::both::Both;
+use comparison::count::Count;
+use comparison::tables::{self, Start};
+use comparison::{joins, lists};
 use reference::graphs;
 use reference::random::Random;
 use reference::search::matrices_of_all_graphs;

@@ -1,11 +1,11 @@
 #!/bin/sh
 # Prints the instructions that one call of each entry takes, counted by callgrind.
-#   bench.sh [ENTRY [CASE]]
+#   run.sh [ENTRY [CASE]]
 # The library is looked for as the Rust crate does: REPLICA_LIB_DIR, else target/staticlib.
 set -eu
-cd "$(dirname "$0")"
+cd "$(dirname "$0")/.."
 cargo build --release --quiet --package bench
-folder=${CARGO_TARGET_DIR:-target}
+folder=${CARGO_TARGET_DIR:-target/cargo}
 bench=$folder/release/bench
 log=$(mktemp)
 trap 'rm -f "$log"' EXIT

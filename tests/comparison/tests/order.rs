@@ -1,7 +1,7 @@
 //! Directed cases for the order of checks, on both sides and against numbers written down here.
 
-use outside_tests::both::Both;
-use outside_tests::call::Call;
+use comparison::both::Both;
+use comparison::call::Call;
 use reference::journal::record;
 use reference::{ADJACENCY_LENGTH, JOURNAL_LENGTH};
 

@@ -1,7 +1,7 @@
 //! Times the library against the reference, in one run.
 
 use crate::cases::Case;
-use outside_tests::call::{on_library, on_reference, Memory};
+use comparison::call::{on_library, on_reference, Memory};
 use std::hint::black_box;
 use std::time::{Duration, Instant};
 

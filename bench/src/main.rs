@@ -11,7 +11,7 @@ mod cases;
 mod ratios;
 
 use cases::Case;
-use outside_tests::call::on_library;
+use comparison::call::on_library;
 use std::process::ExitCode;
 
 fn main() -> ExitCode {

@@ -1,14 +1,26 @@
-//! The program `replica`: its output for many inputs, byte by byte. It is tried when the variable
-//! REPLICA_PROGRAM names it.
+//! The program `replica`: its output for many inputs, byte by byte. It is the one that
+//! `rt check replica` builds, or the one that the variable REPLICA_PROGRAM names.
 
-use outside_tests::blocks::{self, Size};
+use comparison::blocks::{self, Size};
 use reference::program::output;
 use reference::random::Random;
 use std::io::Write;
+use std::path::PathBuf;
 use std::process::{Command, Stdio};
 
-fn run(program: &str, input: &[u8]) -> String {
-    let mut child = Command::new(program)
+fn program() -> PathBuf {
+    let own = concat!(env!("CARGO_MANIFEST_DIR"), "/../../target/bin/replica");
+    let program = PathBuf::from(std::env::var_os("REPLICA_PROGRAM").unwrap_or(own.into()));
+    assert!(
+        program.is_file(),
+        "{} is not there: run `rt check replica`, or name a program in REPLICA_PROGRAM",
+        program.display()
+    );
+    program
+}
+
+fn run(input: &[u8]) -> String {
+    let mut child = Command::new(program())
         .stdin(Stdio::piped())
         .stdout(Stdio::piped())
         .spawn()
@@ -49,10 +61,6 @@ fn fixed_inputs() -> Vec<Vec<u8>> {
 
 #[test]
 fn the_program_prints_what_the_reference_prints() {
-    let Ok(program) = std::env::var("REPLICA_PROGRAM") else {
-        println!("REPLICA_PROGRAM is not set: the program is not tried");
-        return;
-    };
     let mut inputs = fixed_inputs();
     let mut random = Random::new(5);
     for _ in 0..150 {
@@ -63,6 +71,6 @@ fn the_program_prints_what_the_reference_prints() {
         inputs.push(input);
     }
     for input in inputs {
-        assert_eq!(run(&program, &input), output(&input), "input {input:?}");
+        assert_eq!(run(&input), output(&input), "input {input:?}");
     }
 }
