@@ -1,7 +1,7 @@
 /*
  * replica.h - build a simple graph with a given joint degree matrix
  *
- * Link with libcapi.a.
+ * Link with libreplica.a (pkg-config replica).
  *
  * WHAT IT DOES
  *

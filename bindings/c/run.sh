@@ -1,19 +1,35 @@
 #!/bin/sh
-# Compiles the C example against the header and the static library, runs it, and checks its output.
-# The library is looked for as the Rust crate does: REPLICA_LIB_DIR, else target/staticlib.
+# Compiles the example against an installed library and nothing else, runs it, and checks its output.
+#
+#   run.sh [PREFIX]      without PREFIX the library is installed into a temporary one first
 set -eu
 here=$(cd "$(dirname "$0")" && pwd)
-root=$(cd "$here/../.." && pwd)
-lib=${REPLICA_LIB_DIR:-$root/target/staticlib}
-out=${TMPDIR:-/tmp}/replica_example.$$
-trap 'rm -f "$out"' EXIT
+work=$(mktemp -d)
+trap 'rm -rf "$work"' EXIT
+if [ $# -eq 0 ]; then
+    "$here/../../install" "$work/prefix"
+    prefix=$work/prefix
+else
+    prefix=$(cd "$1" && pwd)
+fi
 
-${CC:-gcc} -std=c99 -Wall -Wextra -Wpedantic -Werror -I "$root/include" \
-    -o "$out" "$here/example.c" "$lib/libcapi.a" ${LDLIBS:-}
-printed=$("$out")
-echo "$printed"
-expected=$(printf '0 3\n1 2\n1 3\n2 3')
-if [ "$printed" != "$expected" ]; then
+# As a stranger would: the example alone, in a folder of its own.
+cp "$here/example.c" "$work"
+cd "$work"
+if command -v pkg-config >/dev/null; then
+    PKG_CONFIG_PATH=$prefix/lib/pkgconfig
+    export PKG_CONFIG_PATH
+    flags=$(pkg-config --cflags --libs replica)
+else
+    flags="-I$prefix/include -L$prefix/lib -lreplica"
+fi
+# The flags are words; a prefix has no white space.
+# shellcheck disable=SC2086
+${CC:-cc} -std=c99 -Wall -Wextra -Wpedantic -Werror -o example example.c $flags
+./example >printed
+cat printed
+printf '0 3\n1 2\n1 3\n2 3\n' >expected
+if ! cmp -s printed expected; then
     echo "FAILED: other edges than those of document 004" >&2
     exit 1
 fi
