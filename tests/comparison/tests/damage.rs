@@ -1,0 +1,114 @@
+//! States in phase 0 with one byte damaged, place by place: every entry that checks validity refuses
+//! what is not valid, and changes nothing.
+
+use comparison::both::Both;
+use comparison::call::{on_library, Call};
+use reference::journal::{record, slot_start};
+use reference::{validity, ADJACENCY_LENGTH, JOURNAL_LENGTH};
+
+const NOT_VALID: [u64; 6] = [2, 0, 0, 0, 0, 0];
+
+/// A call of each entry that checks validity. On a valid state none of them is refused with 2.
+fn calls() -> [Call; 8] {
+    let (v, w) = (0, 1);
+    [
+        Call::TakeBlock {
+            number: 0,
+            block: record(1, 1, 2).to_vec(),
+        },
+        Call::HeldBlock { number: 0 },
+        Call::LayOut,
+        Call::AddEdge { v, w },
+        Call::RemoveEdge { v, w },
+        Call::Complete,
+        Call::EdgeList { output: vec![9; 8] },
+        Call::Figures,
+    ]
+}
+
+/// States in phase 0: no block, blocks of three lengths, and a full journal.
+fn states() -> Vec<Both> {
+    let plans: [Vec<usize>; 3] = [
+        vec![],
+        vec![1, 3, 16],
+        (0..64).map(|i| 1 + i % 16).collect(),
+    ];
+    let state = |plan: &Vec<usize>| {
+        let mut both = Both::new("damage");
+        for (number, &records) in (0..).zip(plan) {
+            let block = record(1, 1, 2).repeat(records);
+            let answer = both.call(Call::TakeBlock { number, block });
+            assert_eq!(answer[..2], [0, 0]);
+        }
+        both
+    };
+    plans.iter().map(state).collect()
+}
+
+/// Every byte of the matrix must be 0: each in turn is not, the first and the last among them.
+#[test]
+fn every_byte_of_the_matrix() {
+    for both in states() {
+        let (mut journal, mut adjacency) = (both.journal, both.adjacency);
+        let before = journal.clone();
+        for place in 0..ADJACENCY_LENGTH {
+            adjacency[place] = [1, 2, 128, 255][place % 4];
+            let damaged = adjacency.clone();
+            for call in calls() {
+                let mut output = call.output().to_vec();
+                let input = call.input().to_vec();
+                let numbers = on_library(&call, &mut journal, &mut adjacency, &input, &mut output);
+                assert_eq!(numbers, NOT_VALID, "byte {place}, {call:?}");
+                assert_eq!(output, call.output(), "byte {place}, {call:?}");
+            }
+            assert!(journal == before && adjacency == damaged, "byte {place}");
+            adjacency[place] = 0;
+        }
+    }
+}
+
+/// The same through the comparison, on some of the bytes and on pairs that mirror each other.
+#[test]
+fn bytes_of_the_matrix_on_both_sides() {
+    let last = ADJACENCY_LENGTH - 1;
+    for mut both in states() {
+        let places = (0..ADJACENCY_LENGTH).step_by(997);
+        for place in places.chain([1, 199, 200, last - 200, last - 1, last]) {
+            let mut adjacency = both.adjacency.clone();
+            adjacency[place] = 1;
+            adjacency[place % 200 * 200 + place / 200] = 1;
+            for call in calls() {
+                let answer = both.call_on(both.journal.clone(), adjacency.clone(), call);
+                assert_eq!(answer, NOT_VALID, "byte {place}");
+            }
+        }
+    }
+}
+
+/// Every byte of the journal is another one. Some of these journals are valid: other counts, other
+/// degrees. The reference says which, and behind the blocks none is.
+#[test]
+fn every_byte_of_the_journal() {
+    for mut both in states() {
+        let blocks = both.journal[1] as usize;
+        let (mut valid, mut refused) = (0, 0);
+        for place in 0..JOURNAL_LENGTH {
+            for byte in [both.journal[place] ^ 1, 255] {
+                let mut journal = both.journal.clone();
+                journal[place] = byte;
+                let expected = validity::valid(&journal, &both.adjacency);
+                let behind = place >= slot_start(blocks);
+                assert!(
+                    !(behind && expected),
+                    "the reference lets byte {place} pass"
+                );
+                for call in calls() {
+                    let answer = both.call_on(journal.clone(), both.adjacency.clone(), call);
+                    assert_eq!(answer[0] != 2, expected, "byte {place}");
+                }
+                *if expected { &mut valid } else { &mut refused } += 1;
+            }
+        }
+        assert!(refused > 0 && (valid > 0 || blocks == 0));
+    }
+}
