@@ -68,6 +68,26 @@ impl Both {
         numbers
     }
 
+    /// Finds a held block: the bytes of the journal at the answered place are those that were sent.
+    pub fn read_back(&mut self, number: u64, sent: &[u8]) {
+        let numbers = self.call(Call::HeldBlock { number });
+        assert_eq!(numbers[0], 0, "{}: block {number}", self.label);
+        self.compare_held(numbers, number, sent);
+    }
+
+    /// The same for a call that was made already and not refused.
+    pub fn compare_held(&mut self, numbers: Six, number: u64, sent: &[u8]) {
+        let (start, length) = (numbers[1] as usize, numbers[2] as usize);
+        assert_eq!(
+            self.journal.get(start..start + length),
+            Some(sent),
+            "{}, call {}: block {number} is not the one that was sent",
+            self.label,
+            self.calls
+        );
+        self.count.read_back += 1;
+    }
+
     /// Where a message comes from.
     fn place(&self, call: &Call) -> String {
         format!("{}, call {}, {call:?}", self.label, self.calls)

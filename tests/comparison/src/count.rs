@@ -16,6 +16,8 @@ pub struct Count {
     pub joins: u64,
     pub switches: u64,
     pub pairs_joined: u64,
+    /// Held blocks compared with what was sent.
+    pub read_back: u64,
 }
 
 impl Count {
@@ -55,6 +57,7 @@ impl Count {
         self.joins += other.joins;
         self.switches += other.switches;
         self.pairs_joined += other.pairs_joined;
+        self.read_back += other.read_back;
     }
 
     pub fn calls(&self) -> u64 {
@@ -79,6 +82,9 @@ impl Count {
                     missing.push(format!("{} never refused with {number}", entry.name()));
                 }
             }
+        }
+        if self.read_back == 0 {
+            missing.push("no block was read back".to_string());
         }
         missing
     }
@@ -112,5 +118,6 @@ impl Count {
             "edges joined  {} with {} switches; {} completions",
             self.joins, self.switches, self.completions
         );
+        println!("blocks        {} read back as sent", self.read_back);
     }
 }

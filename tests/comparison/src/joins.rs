@@ -79,6 +79,13 @@ pub fn run(seed: u64, both: &mut Both) {
         } else {
             check_taking(&tally, both);
         }
+        if !tally.blocks.is_empty() {
+            let number = random.below(tally.blocks.len());
+            both.read_back(number as u64, &tally.blocks[number]);
+        }
+    }
+    for (number, block) in (0..).zip(&tally.blocks) {
+        both.read_back(number, block);
     }
     both.count.call_lists += 1;
 }

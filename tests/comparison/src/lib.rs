@@ -9,6 +9,7 @@
 //! * [`lists`]: long random call lists
 //! * [`tables`]: tables laid out and completed, checked by a count of their own
 //! * [`joins`]: which pairs can be joined, over small states
+//! * [`program`]: the program as a child process
 
 pub mod blocks;
 pub mod both;
@@ -17,4 +18,5 @@ pub mod count;
 pub mod joins;
 pub mod lent;
 pub mod lists;
+pub mod program;
 pub mod tables;

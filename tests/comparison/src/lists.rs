@@ -15,14 +15,21 @@ pub fn run(seed: u64, size: Size, both: &mut Both) {
     let plan = blocks::plan(size, &mut random);
     // About every second step takes the next block.
     let steps = 3 * plan.len() + random.between(30, 100);
-    let mut list = List { random, plan, both };
+    let sent = Some(Vec::new());
+    let mut list = List {
+        random,
+        plan,
+        both,
+        sent,
+    };
     for _ in 0..steps {
         list.step();
     }
     // Whatever the list left behind, its end is a full one if it can be.
-    list.both.call(Call::LayOut);
-    list.both.call(Call::Complete);
+    list.call(Call::LayOut);
+    list.call(Call::Complete);
     list.list_edges();
+    list.read_all_back();
     list.both.count.call_lists += 1;
 }
 
@@ -30,6 +37,8 @@ struct List<'a> {
     random: Random,
     plan: Vec<Vec<u8>>,
     both: &'a mut Both,
+    /// The blocks answered as taken since the last clear; none after a damage that stayed.
+    sent: Option<Vec<Vec<u8>>>,
 }
 
 /// What joins and removals are chosen from, in a valid laid state.
@@ -52,9 +61,41 @@ impl List<'_> {
             0..=2 => self.damage(),
             3..=4 => self.other_lengths(),
             5 if self.random.chance(30) => {
-                self.both.call(Call::Clear);
+                self.call(Call::Clear);
             }
             _ => self.ordinary(),
+        }
+    }
+
+    /// Makes the call, and compares what the journal holds with what was sent.
+    fn call(&mut self, call: Call) {
+        let numbers = self.both.call(call.clone());
+        if numbers[0] != 0 {
+            return;
+        }
+        match (call, &mut self.sent) {
+            (Call::Clear, sent) => *sent = Some(Vec::new()),
+            (Call::TakeBlock { block, .. }, Some(sent)) if numbers[1] == 0 => sent.push(block),
+            (Call::TakeBlock { number, block }, Some(sent)) => {
+                assert_eq!(
+                    sent.get(number as usize),
+                    Some(&block),
+                    "held, but not sent"
+                );
+            }
+            (Call::HeldBlock { number }, Some(sent)) => {
+                let block = sent.get(number as usize).expect("held, but not sent");
+                self.both.compare_held(numbers, number, block);
+            }
+            (Call::LayOut, _) => self.read_all_back(),
+            _ => {}
+        }
+    }
+
+    /// Every block lies in the journal as it was sent.
+    fn read_all_back(&mut self) {
+        for (number, block) in (0..).zip(self.sent.iter().flatten()) {
+            self.both.read_back(number, block);
         }
     }
 
@@ -67,7 +108,7 @@ impl List<'_> {
         } else {
             self.when_taking()
         };
-        self.both.call(call);
+        self.call(call);
     }
 
     fn when_taking(&mut self) -> Call {
@@ -401,6 +442,7 @@ impl List<'_> {
     fn damage(&mut self) {
         let journal = self.both.journal.clone();
         let adjacency = self.both.adjacency.clone();
+        let sent = self.sent.take();
         for _ in 0..self.random.between(1, 2) {
             if self.random.chance(50) {
                 self.damage_journal();
@@ -416,6 +458,7 @@ impl List<'_> {
         if !valid || self.random.chance(50) {
             self.both.journal = journal;
             self.both.adjacency = adjacency;
+            self.sent = sent;
         }
     }
 

@@ -69,6 +69,7 @@ pub fn simple(adjacency: &[u8]) -> bool {
 pub fn run(matrix: &Matrix, start: Start, random: &mut Random, both: &mut Both) -> bool {
     let blocks = take_all(matrix, random, both);
     let numbers = both.call(Call::LayOut);
+    read_all_back(&blocks, both);
     if numbers[0] != 0 {
         assert!((9..=12).contains(&numbers[0]));
         both.count.tables_refused += 1;
@@ -88,6 +89,7 @@ pub fn run_from_part_of(graph: &Graph, random: &mut Random, both: &mut Both) {
     let blocks = take_all(&graph.matrix(), random, both);
     let vertices = graph.vertices() as u64;
     assert_eq!(both.call(Call::LayOut), [0, vertices, 0, 0, 0, 0]);
+    read_all_back(&blocks, both);
     let percent = random.between(1, 99);
     let mut edges: Vec<(usize, usize)> = graph.edges().iter().copied().collect();
     edges.retain(|_| random.chance(percent));
@@ -118,6 +120,13 @@ fn take_all(matrix: &Matrix, random: &mut Random, both: &mut Both) -> Vec<Vec<u8
         }
     }
     blocks
+}
+
+/// Every block lies in the journal as it was sent.
+fn read_all_back(blocks: &[Vec<u8>], both: &mut Both) {
+    for (number, block) in (0..).zip(blocks) {
+        both.read_back(number, block);
+    }
 }
 
 fn take(both: &mut Both, number: u64, block: &[u8], expected: [u64; 6]) {

@@ -1,14 +1,13 @@
-//! The program `replica`: its output for many inputs, byte by byte. It is the one that
-//! `rt check replica` builds, or the one that the variable REPLICA_PROGRAM names.
+//! The program `replica`: its output for many inputs, byte by byte.
 
 use comparison::blocks::{self, Size};
+use comparison::program::{ended, program};
 use reference::program::output;
 use reference::random::Random;
 use std::io::Write;
-use std::path::PathBuf;
-use std::process::{Child, ChildStdin, Command, Output, Stdio};
+use std::process::{ChildStdin, Stdio};
 use std::thread::sleep;
-use std::time::{Duration, Instant};
+use std::time::Duration;
 
 /// The input of document 01 and what it prints.
 const DOCUMENT_01: [u8; 12] = [1, 3, 1, 0, 2, 2, 2, 0, 2, 3, 2, 0];
@@ -16,32 +15,6 @@ const DOCUMENT_01_OUTPUT: &str = "boards 4 links 4 switches 0\n0 3\n1 2\n1 3\n2 
 
 /// A pause in which a program that does not wait for the rest of its input goes on without it.
 const PAUSE: Duration = Duration::from_millis(200);
-/// No input takes longer than a fraction of this.
-const MOST_TIME: Duration = Duration::from_secs(30);
-
-fn program() -> Command {
-    let own = concat!(env!("CARGO_MANIFEST_DIR"), "/../../target/bin/replica");
-    let program = PathBuf::from(std::env::var_os("REPLICA_PROGRAM").unwrap_or(own.into()));
-    assert!(
-        program.is_file(),
-        "{} is not there: run `rt check replica`, or name a program in REPLICA_PROGRAM",
-        program.display()
-    );
-    Command::new(program)
-}
-
-/// What the program wrote, when it has ended. It is stopped and the test fails if it does not end.
-fn ended(mut child: Child) -> Output {
-    let start = Instant::now();
-    while child.try_wait().expect("a child").is_none() {
-        if start.elapsed() > MOST_TIME {
-            child.kill().expect("a child");
-            panic!("the program does not end");
-        }
-        sleep(Duration::from_millis(1));
-    }
-    child.wait_with_output().expect("a child")
-}
 
 /// Runs the program; `feed` writes its input, which ends then. What it prints fits into a pipe.
 fn run_fed(feed: impl FnOnce(&mut ChildStdin)) -> String {
