@@ -43,6 +43,8 @@ pub fn all() -> Vec<Case> {
     for size in SIZES {
         cases.extend(completions(size));
     }
+    let ring = laid(&graphs::regular(200, 2).matrix());
+    cases.push(case("regular-2-200", Call::Complete, ring, no_edges()));
     for size in SIZES {
         cases.extend(edges_by_hand(size));
     }
@@ -68,7 +70,7 @@ fn no_edges() -> Vec<u8> {
 }
 
 /// A journal with these records in blocks of 16, written without any entry.
-fn journal_of(phase: u8, records: &[u8]) -> Vec<u8> {
+pub fn journal_of(phase: u8, records: &[u8]) -> Vec<u8> {
     let mut bytes = vec![0; JOURNAL_LENGTH];
     bytes[0] = phase;
     for (i, block) in records.chunks(BLOCK_LENGTH).enumerate() {
@@ -182,8 +184,8 @@ fn completions(size: usize) -> Vec<Case> {
 fn edges_by_hand(size: usize) -> Vec<Case> {
     let graph = regular(size);
     let journal = laid(&graph.matrix());
-    let complete = graph.adjacency();
-    let mut one_missing = complete.clone();
+    // The same state for an edge without switches, one with two, and a removal.
+    let mut one_missing = graph.adjacency();
     adjacency::remove(&mut one_missing, 0, 1);
     // Two vertices far from the missing edge and from each other: both are saturated.
     let (v, w) = (size as u64 / 4, 3 * size as u64 / 4);
@@ -199,13 +201,13 @@ fn edges_by_hand(size: usize) -> Vec<Case> {
             &named("switches"),
             Call::AddEdge { v, w },
             journal.clone(),
-            one_missing,
+            one_missing.clone(),
         ),
         case(
             &named("plain"),
-            Call::RemoveEdge { v: 0, w: 1 },
+            Call::RemoveEdge { v: 0, w: 2 },
             journal,
-            complete,
+            one_missing,
         ),
     ]
 }

@@ -1,17 +1,21 @@
 //! Measures the entries of the library.
 //!
-//!     bench list            every ENTRY and CASE, one pair a line
-//!     bench ENTRY CASE      set-up, then exactly one call of the entry
-//!     bench ratios [ENTRY]  times the library against the reference
+//!     bench list             every ENTRY and CASE, and "twin" where there is one
+//!     bench ENTRY CASE       set-up, then exactly one call of the entry
+//!     bench twin ENTRY CASE  the same, on the twin
+//!     bench ratios [ENTRY]   times the library against the reference
 //!
 //! Set-up calls no entry of the library, so the instructions of the one call can be read with
-//! `valgrind --tool=callgrind --toggle-collect=replica_ENTRY bench ENTRY CASE`.
+//! `valgrind --tool=callgrind --toggle-collect=replica_ENTRY bench ENTRY CASE`, those of the twin
+//! with `--toggle-collect=twin_ENTRY bench twin ENTRY CASE`.
 
 mod cases;
 mod ratios;
+mod twin;
 
 use cases::Case;
-use comparison::call::on_library;
+use comparison::call::{on_library, Call, Memory};
+use reference::six::Six;
 use std::process::ExitCode;
 
 fn main() -> ExitCode {
@@ -25,19 +29,10 @@ fn main() -> ExitCode {
             cases.retain(|case| case.entry().name() == entry);
             ratios::print(&cases);
         }
-        [entry, name] => {
-            let cases = cases::all();
-            let found = cases
-                .iter()
-                .find(|case| case.entry().name() == entry && case.name == name);
-            let Some(case) = found else {
-                eprintln!("there is no case {entry} {name}; try: bench list");
-                return ExitCode::FAILURE;
-            };
-            return call_once(case);
-        }
+        ["twin", entry, name] => return call_once(entry, name, on_twin),
+        [entry, name] => return call_once(entry, name, |call, memory| Some(once(call, memory))),
         _ => {
-            eprintln!("bench list | bench ENTRY CASE | bench ratios [ENTRY]");
+            eprintln!("bench list | bench [twin] ENTRY CASE | bench ratios [ENTRY]");
             return ExitCode::FAILURE;
         }
     }
@@ -46,24 +41,124 @@ fn main() -> ExitCode {
 
 fn list() {
     for case in cases::all() {
-        println!("{} {}", case.entry().name(), case.name);
+        let mut memory = case.memory();
+        let twin = on_twin(&case.call, &mut memory).map_or("", |_| "twin");
+        println!("{} {} {twin}", case.entry().name(), case.name);
     }
 }
 
-/// Makes the one call and prints its answer.
-fn call_once(case: &Case) -> ExitCode {
-    let mut memory = case.memory();
-    let numbers = on_library(
-        &case.call,
+/// The call on the library.
+fn once(call: &Call, memory: &mut Memory) -> Six {
+    on_library(
+        call,
         &mut memory.journal,
         &mut memory.adjacency,
         &memory.input,
         &mut memory.output,
-    );
+    )
+}
+
+/// The call on the twin, which has three of the entries.
+fn on_twin(call: &Call, memory: &mut Memory) -> Option<Six> {
+    let (journal, adjacency) = (&memory.journal, &mut memory.adjacency);
+    match *call {
+        Call::AddEdge { v, w } => Some(twin::twin_add_edge(journal, adjacency, v, w)),
+        Call::RemoveEdge { v, w } => Some(twin::twin_remove_edge(journal, adjacency, v, w)),
+        Call::Complete => Some(twin::twin_complete(journal, adjacency)),
+        _ => None,
+    }
+}
+
+fn found(entry: &str, name: &str) -> Option<Case> {
+    let mut cases = cases::all().into_iter();
+    cases.find(|case| case.entry().name() == entry && case.name == name)
+}
+
+/// Makes the one call and prints its answer.
+fn call_once(
+    entry: &str,
+    name: &str,
+    side: impl Fn(&Call, &mut Memory) -> Option<Six>,
+) -> ExitCode {
+    let Some(case) = found(entry, name) else {
+        eprintln!("there is no case {entry} {name}; try: bench list");
+        return ExitCode::FAILURE;
+    };
+    let Some(numbers) = side(&case.call, &mut case.memory()) else {
+        eprintln!("the twin has no {entry}");
+        return ExitCode::FAILURE;
+    };
     println!("{numbers:?}");
     if numbers[0] != 0 {
         eprintln!("the call was refused: nothing was measured");
         return ExitCode::FAILURE;
     }
     ExitCode::SUCCESS
+}
+
+#[cfg(test)]
+mod tests {
+    use super::*;
+    use reference::graphs;
+    use reference::journal::LAID;
+    use reference::random::Random;
+    use std::collections::BTreeSet;
+
+    /// The twin answers as the library does and leaves the same bytes.
+    fn compare(call: &Call, memory: Memory, place: &str) -> Option<u64> {
+        let (mut library, mut twin) = (memory.clone(), memory);
+        let numbers = on_twin(call, &mut twin)?;
+        assert_eq!(numbers, once(call, &mut library), "{place}");
+        assert!(twin == library, "{place}: other bytes");
+        Some(numbers[0])
+    }
+
+    #[test]
+    fn the_twin_on_every_case() {
+        for case in cases::all() {
+            let place = format!("{} {}", case.entry().name(), case.name);
+            compare(&case.call, case.memory(), &place);
+        }
+    }
+
+    /// Parts of random graphs, some of them damaged: every answer is reached.
+    #[test]
+    fn the_twin_on_random_states() {
+        let mut random = Random::new(8);
+        let mut answered = BTreeSet::new();
+        for number in 0..3_000 {
+            let most = *random.pick(&[4, 10, 60, 200]);
+            let graph = graphs::any(most, &mut random).by_rising_degree();
+            let percent = random.between(0, 100);
+            let mut part = graphs::Graph::new(graph.vertices());
+            for &(v, w) in graph.edges() {
+                if random.chance(percent) {
+                    part.join(v, w);
+                }
+            }
+            let mut journal = cases::journal_of(LAID, &graph.matrix().records());
+            let mut adjacency = part.adjacency();
+            match random.below(12) {
+                0 => journal[random.below(200)] ^= 1 << random.below(8),
+                1 => adjacency[random.below(40_000)] ^= 1 << random.below(8),
+                2 => drop(adjacency.pop()),
+                3 => drop(journal.pop()),
+                4 => journal[0] = 0,
+                5 => adjacency[random.below(graph.vertices().max(1) * 200)] ^= 1,
+                _ => {}
+            }
+            let mut vertex = || random.below(graph.vertices() + 2) as u64;
+            let (v, w) = (vertex(), vertex());
+            for call in [
+                Call::AddEdge { v, w },
+                Call::RemoveEdge { v, w },
+                Call::Complete,
+            ] {
+                let memory = Memory::of(&journal, &adjacency, &call);
+                answered.extend(compare(&call, memory, &format!("state {number}, {call:?}")));
+            }
+        }
+        let refusals = [1, 2, 3, 13, 14, 15, 16, 17];
+        assert!([0].iter().chain(&refusals).eq(&answered), "{answered:?}");
+    }
 }

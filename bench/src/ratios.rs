@@ -59,6 +59,7 @@ fn time(case: &Case, call: impl Fn(&mut Memory) -> [u64; 6]) -> Duration {
 mod tests {
     use super::*;
     use crate::cases;
+    use comparison::call::Call;
 
     /// Every case does its work, and the states written by hand are what they should be.
     #[test]
@@ -67,6 +68,10 @@ mod tests {
             let mut memory = case.memory();
             let numbers = on_reference(&case.call, &mut memory);
             assert_eq!(numbers[0], 0, "{} {}", case.entry().name(), case.name);
+            if matches!(case.call, Call::AddEdge { .. }) {
+                let switches = if case.name.starts_with("plain") { 0 } else { 2 };
+                assert_eq!(numbers[1], switches, "{}", case.name);
+            }
         }
     }
 }

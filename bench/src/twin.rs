@@ -1,0 +1,358 @@
+//! add_edge, remove_edge and complete written by hand to be fast, to hold the library's instructions
+//! against. It makes the library's savings (docs/DECISIONS.md 17 and 21), and what the check of a
+//! state has counted is handed on. Answers are the six numbers of the C interface.
+
+use reference::six::Six;
+use reference::{BLOCK_LENGTH, JOURNAL_LENGTH, MOST_BLOCKS, MOST_DEGREE, MOST_VERTICES};
+
+const DEGREES: usize = MOST_DEGREE + 1;
+const SIDE: usize = MOST_VERTICES;
+const SLOT_LENGTH: usize = 1 + BLOCK_LENGTH;
+
+/// The adjacency matrix, row by row.
+type Rows = [[u8; SIDE]; SIDE];
+
+fn refused(number: u64) -> Six {
+    [number, 0, 0, 0, 0, 0]
+}
+
+/// What the check of a laid state finds out about it.
+struct Laid {
+    /// N.
+    vertices: usize,
+    /// The degree of each vertex.
+    classes: [u8; SIDE],
+    /// The first vertex of each class, and one past the last.
+    starts: [usize; DEGREES + 1],
+    /// For k at most l, what cell (k, l) is short of.
+    short: [[u32; DEGREES]; DEGREES],
+    /// The edges at each vertex.
+    held: [u8; SIDE],
+}
+
+/// The sum of the blocks.
+struct Table {
+    cells: [[u32; DEGREES]; DEGREES],
+    row_sums: [u32; DEGREES],
+}
+
+fn all_zero(bytes: &[u8]) -> bool {
+    bytes.iter().fold(0, |all, byte| all | byte) == 0
+}
+
+/// The table of a well-formed journal.
+fn table_of(journal: &[u8; JOURNAL_LENGTH]) -> Option<Table> {
+    let blocks = journal[1] as usize;
+    if journal[0] > 1 || blocks > MOST_BLOCKS {
+        return None;
+    }
+    let mut table = Table {
+        cells: [[0; DEGREES]; DEGREES],
+        row_sums: [0; DEGREES],
+    };
+    let (used, unused) = journal[2..].split_at(SLOT_LENGTH * blocks);
+    for slot in used.chunks_exact(SLOT_LENGTH) {
+        let length = slot[0] as usize;
+        if length == 0 || length > BLOCK_LENGTH || length % 4 != 0 {
+            return None;
+        }
+        let (block, rest) = slot[1..].split_at(length);
+        for record in block.chunks_exact(4) {
+            let (k, l) = (record[0] as usize, record[1] as usize);
+            if k == 0 || k > l || l > MOST_DEGREE {
+                return None;
+            }
+            let count = u32::from(u16::from_le_bytes([record[2], record[3]]));
+            table.cells[k][l] += count;
+            table.row_sums[k] += count;
+            if k != l {
+                table.row_sums[l] += count;
+            }
+        }
+        if !all_zero(rest) {
+            return None;
+        }
+    }
+    all_zero(unused).then_some(table)
+}
+
+/// Tests 9 to 12; D(k) of every degree.
+fn counts_of(table: &Table) -> Option<[usize; DEGREES]> {
+    let mut counts = [0; DEGREES];
+    let mut vertices = 0;
+    for (k, count) in counts.iter_mut().enumerate().skip(1) {
+        let sum = table.row_sums[k] as usize;
+        *count = sum / k;
+        vertices += *count;
+        if sum % k != 0 || table.cells[k][k] % 2 != 0 {
+            return None;
+        }
+    }
+    if vertices > SIDE {
+        return None;
+    }
+    // At most 200 vertices: the products are small. A degree without vertices has no cells.
+    for k in (1..DEGREES).filter(|&k| counts[k] > 0) {
+        let mut fits = table.cells[k][k] as usize <= counts[k] * (counts[k] - 1);
+        for l in k + 1..DEGREES {
+            fits &= table.cells[k][l] as usize <= counts[k] * counts[l];
+        }
+        if !fits {
+            return None;
+        }
+    }
+    Some(counts)
+}
+
+/// Row v mirrors its column, 0 or 1 up to the diagonal, which is 0.
+fn mirrored(rows: &Rows, v: usize) -> bool {
+    let mut differs = rows[v][v];
+    let mut above = 0;
+    for (&byte, across) in rows[v].iter().zip(&rows[..v]) {
+        differs |= byte ^ across[v];
+        above |= byte;
+    }
+    differs == 0 && above <= 1
+}
+
+/// Rows and cells in one pass: a class's rows are added up, and the sums over each class are its
+/// cells.
+fn checked_rows(table: Table, counts: &[usize; DEGREES], rows: &Rows) -> Option<Laid> {
+    let mut laid = Laid {
+        vertices: 0,
+        classes: [0; SIDE],
+        starts: [0; DEGREES + 1],
+        short: table.cells,
+        held: [0; SIDE],
+    };
+    for (k, count) in counts.iter().enumerate() {
+        let end = laid.starts[k] + count;
+        laid.classes[laid.starts[k]..end].fill(k as u8);
+        laid.starts[k + 1] = end;
+    }
+    let n = laid.starts[DEGREES];
+    laid.vertices = n;
+    for k in (1..DEGREES).filter(|&k| counts[k] > 0) {
+        let mut sums = [0u8; SIDE];
+        for v in laid.starts[k]..laid.starts[k + 1] {
+            if !mirrored(rows, v) {
+                return None;
+            }
+            // Bytes above 1 behind the diagonal are found in the row they mirror.
+            let mut degree = 0u16;
+            for (sum, &byte) in sums[..n].iter_mut().zip(&rows[v]) {
+                *sum = sum.wrapping_add(byte);
+                degree += u16::from(byte);
+            }
+            if degree > k as u16 || !all_zero(&rows[v][n..]) {
+                return None;
+            }
+            laid.held[v] = degree as u8;
+        }
+        for l in (k..DEGREES).filter(|&l| counts[l] > 0) {
+            let part = &sums[laid.starts[l]..laid.starts[l + 1]];
+            let sum = part.iter().map(|&sum| u32::from(sum)).sum();
+            laid.short[k][l] = laid.short[k][l].checked_sub(sum)?;
+        }
+    }
+    all_zero(rows[n..].as_flattened()).then_some(laid)
+}
+
+/// The rows, if there are as many as there should be.
+fn rows_of(adjacency: &mut [u8]) -> Option<&mut Rows> {
+    let (rows, rest) = adjacency.as_chunks_mut::<SIDE>();
+    rest.is_empty().then_some(())?;
+    rows.try_into().ok()
+}
+
+/// Checks 1, 2 and 3.
+fn check<'a>(journal: &[u8], adjacency: &'a mut [u8]) -> Result<(Laid, &'a mut Rows), Six> {
+    let journal: &[u8; JOURNAL_LENGTH] = journal.try_into().map_err(|_| refused(1))?;
+    let rows = rows_of(adjacency).ok_or(refused(1))?;
+    let table = table_of(journal).ok_or(refused(2))?;
+    if journal[0] == 0 {
+        let valid = all_zero(rows.as_flattened());
+        return Err(refused(if valid { 3 } else { 2 }));
+    }
+    let counts = counts_of(&table).ok_or(refused(2))?;
+    let laid = checked_rows(table, &counts, rows).ok_or(refused(2))?;
+    Ok((laid, rows))
+}
+
+/// Checks 13 and 14.
+fn pair_of(laid: &Laid, v: u64, w: u64) -> Result<(usize, usize), Six> {
+    if v >= laid.vertices as u64 || w >= laid.vertices as u64 {
+        return Err(refused(13));
+    }
+    if v == w {
+        return Err(refused(14));
+    }
+    Ok((v as usize, w as usize))
+}
+
+fn set(rows: &mut Rows, v: usize, w: usize, byte: u8) {
+    rows[v][w] = byte;
+    rows[w][v] = byte;
+}
+
+/// Document 01's t: the lowest vertex, not b, linked to a and not to b. Sixteen are tested at once,
+/// the last eight of a row one by one.
+fn transfer(rows: &Rows, a: usize, b: usize) -> usize {
+    let (of_a, last_of_a) = rows[a].as_chunks::<16>();
+    let (of_b, last_of_b) = rows[b].as_chunks::<16>();
+    let mut from = 0;
+    for (x, y) in of_a.iter().zip(of_b) {
+        let mut found = u128::from_le_bytes(*x) & !u128::from_le_bytes(*y);
+        while found != 0 {
+            let t = from + found.trailing_zeros() as usize / 8;
+            if t != b {
+                return t;
+            }
+            found &= found - 1;
+        }
+        from += 16;
+    }
+    let mut last = last_of_a.iter().zip(last_of_b).zip(from..);
+    last.find(|&((&x, &y), t)| x > y && t != b)
+        .map_or(from, |(_, t)| t)
+}
+
+/// The lowest vertex of from, .., to - 1 with fewer than k edges; `to` where there is none.
+fn unsaturated(held: &[u8; SIDE], from: usize, to: usize, k: u8) -> usize {
+    let mut v = from;
+    while v < to && held[v] >= k {
+        v += 1;
+    }
+    v
+}
+
+/// Makes room at `a`; the vertex that a switch cut off from it. No unsaturated vertex of its class,
+/// the other named one apart, is below `from`.
+#[inline(always)]
+fn relieve(laid: &mut Laid, rows: &mut Rows, a: usize, other: usize, from: usize) -> Option<usize> {
+    let k = laid.classes[a];
+    if laid.held[a] < k {
+        return None;
+    }
+    let end = laid.starts[k as usize + 1];
+    let mut b = unsaturated(&laid.held, from, end, k);
+    if b == other {
+        b = unsaturated(&laid.held, b + 1, end, k);
+    }
+    if b == end {
+        b = other;
+    }
+    let t = transfer(rows, a, b);
+    set(rows, a, t, 0);
+    set(rows, b, t, 1);
+    laid.held[a] -= 1;
+    laid.held[b] += 1;
+    Some(t)
+}
+
+/// Joins v and w: the switches, and the vertex cut off from v.
+fn join(
+    laid: &mut Laid,
+    rows: &mut Rows,
+    (v, w): (usize, usize),
+    (from_v, from_w): (usize, usize),
+) -> (u64, Option<usize>) {
+    let cut_v = relieve(laid, rows, v, w, from_v);
+    let cut_w = relieve(laid, rows, w, v, from_w);
+    set(rows, v, w, 1);
+    laid.held[v] += 1;
+    laid.held[w] += 1;
+    (cut_v.is_some() as u64 + cut_w.is_some() as u64, cut_v)
+}
+
+/// Joins until cell (k, l) is not short; joins and switches. The row of the pair, the column, and the
+/// lowest unsaturated vertex of either class are resumed.
+fn fill_cell(laid: &mut Laid, rows: &mut Rows, k: usize, l: usize) -> (u64, u64) {
+    let joins = laid.short[k][l] / if k == l { 2 } else { 1 };
+    let (rows_end, columns_end) = (laid.starts[k + 1], laid.starts[l + 1]);
+    let mut switches = 0;
+    let (mut v, mut w) = (laid.starts[k], 0);
+    let (mut low_v, mut low_w) = (laid.starts[k], laid.starts[l]);
+    for _ in 0..joins {
+        loop {
+            let first = if k == l { v + 1 } else { laid.starts[l] };
+            w = w.max(first);
+            while w < columns_end && rows[v][w] != 0 {
+                w += 1;
+            }
+            if w < columns_end {
+                break;
+            }
+            v += 1;
+            w = 0;
+        }
+        low_v = unsaturated(&laid.held, low_v, rows_end, k as u8);
+        low_w = unsaturated(&laid.held, low_w, columns_end, l as u8);
+        let (made, cut) = join(laid, rows, (v, w), (low_v, low_w));
+        switches += made;
+        // What the switch of v freed in its row is open again.
+        w = cut.map_or(w + 1, |t| t.min(w + 1));
+    }
+    (u64::from(joins), switches)
+}
+
+fn add(journal: &[u8], adjacency: &mut [u8], v: u64, w: u64) -> Result<Six, Six> {
+    let (mut laid, rows) = check(journal, adjacency)?;
+    let (v, w) = pair_of(&laid, v, w)?;
+    if rows[v][w] == 1 {
+        return Err(refused(15));
+    }
+    let (k, l) = (laid.classes[v.min(w)], laid.classes[v.max(w)]);
+    if laid.short[k as usize][l as usize] == 0 {
+        return Err([16, u64::from(k), u64::from(l), 0, 0, 0]);
+    }
+    let start = |laid: &Laid, vertex: usize| laid.starts[laid.classes[vertex] as usize];
+    let from = (start(&laid, v), start(&laid, w));
+    let (switches, _) = join(&mut laid, rows, (v, w), from);
+    Ok([0, switches, 0, 0, 0, 0])
+}
+
+fn remove(journal: &[u8], adjacency: &mut [u8], v: u64, w: u64) -> Result<Six, Six> {
+    let (laid, rows) = check(journal, adjacency)?;
+    let (v, w) = pair_of(&laid, v, w)?;
+    if rows[v][w] == 0 {
+        return Err(refused(17));
+    }
+    set(rows, v, w, 0);
+    Ok([0; 6])
+}
+
+fn fill(journal: &[u8], adjacency: &mut [u8]) -> Result<Six, Six> {
+    let (mut laid, rows) = check(journal, adjacency)?;
+    let (mut joins, mut switches) = (0, 0);
+    for k in 1..DEGREES {
+        for l in k..DEGREES {
+            if laid.short[k][l] > 0 {
+                let (joined, switched) = fill_cell(&mut laid, rows, k, l);
+                joins += joined;
+                switches += switched;
+            }
+        }
+    }
+    Ok([0, joins, switches, 0, 0, 0])
+}
+
+// Callgrind finds these three by their names.
+
+#[no_mangle]
+#[inline(never)]
+pub fn twin_add_edge(journal: &[u8], adjacency: &mut [u8], v: u64, w: u64) -> Six {
+    add(journal, adjacency, v, w).unwrap_or_else(|refusal| refusal)
+}
+
+#[no_mangle]
+#[inline(never)]
+pub fn twin_remove_edge(journal: &[u8], adjacency: &mut [u8], v: u64, w: u64) -> Six {
+    remove(journal, adjacency, v, w).unwrap_or_else(|refusal| refusal)
+}
+
+#[no_mangle]
+#[inline(never)]
+pub fn twin_complete(journal: &[u8], adjacency: &mut [u8]) -> Six {
+    fill(journal, adjacency).unwrap_or_else(|refusal| refusal)
+}
