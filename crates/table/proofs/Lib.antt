@@ -1,6 +1,6 @@
 pub mod Block
 pub mod Made
 pub mod Matrix
-pub mod Counts
+pub mod Counted
 pub mod Overfull
 pub mod Verdict

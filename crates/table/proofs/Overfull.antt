@@ -14,7 +14,7 @@ use Rattle.graph.specs.Target.{cellMost}
 use Rattle.graph.proofs.Matrix.{cellMost-sym}
 use Rattle.graph.specs.Tests.{leastDegree, degrees, count, overfull, firstOverfullIn}
 use Rattle.table.specs.Inner.Arrays.{cellFits, rowFits}
-use Rattle.table.proofs.Counts.{square-less}
+use Rattle.table.proofs.Counted.{square-less}
 
 module _ (T : ℕ → ℕ → ℕ) (k : ℕ) where
   fits-below : (l : ℕ) → l < k → cellFits T k l ≡ true

@@ -3,7 +3,7 @@
 use native.Mathlib.Nat.{mul-le-mul}
 use native.Mathlib.Omega.{arith}
 use borrow.Author.Tests.{eq-eqb, ne-eqb}
-use Rattle.table.proofs.Counts.{le-square, square-less}
+use Rattle.table.proofs.Counted.{le-square, square-less}
 use Rattle.table.specs.Inner.Arrays.{countIn}
 use Rattle.table.proofs.layout.cell_most.Statement.{statement}
 use Rattle.table.proofs.layout.cell_most.Tie as tie

@@ -12,7 +12,7 @@ use Rattle.graph.specs.Numbering.{classOf}
 use Rattle.graph.specs.Tests.{degrees}
 use Rattle.table.specs.Layout.{mostVertices}
 use Rattle.table.specs.Inner.Arrays.{countIn, Reaches}
-use Rattle.table.proofs.Counts.{counted, counted-total}
+use Rattle.table.proofs.Counted.{counted, counted-total}
 use Rattle.table.proofs.layout.classes.Statement.{statement}
 use Rattle.table.proofs.layout.classes.Tie as tie
 

@@ -4,7 +4,7 @@ use mathlib.Core.Path.{ap, _∙_}
 use Prim.Native.Nat.{ℕ}
 use native.Mathlib.Omega.{arith}
 use Rattle.graph.specs.Target.{cellMost}
-use Rattle.table.proofs.Counts.{counted, counts-most}
+use Rattle.table.proofs.Counted.{counted, counts-most}
 use Rattle.table.proofs.layout.is_overfull.Statement.{statement}
 use Rattle.table.proofs.layout.is_overfull.Tie as tie
 

@@ -8,7 +8,7 @@ use Rattle.finite.specs.Range.{allTo}
 use Rattle.graph.specs.Tests.{degrees}
 use Rattle.table.specs.Inner.Cells.{matrixOf}
 use Rattle.table.specs.Inner.Arrays.{countIn, cellFits}
-use Rattle.table.proofs.Counts.{counted, counts-most, le-square}
+use Rattle.table.proofs.Counted.{counted, counts-most, le-square}
 use Rattle.table.proofs.Overfull.{fits-first, fits-next}
 use Rattle.table.proofs.layout.row_fits.Statement.{statement}
 use Rattle.table.proofs.layout.row_fits.Tie as tie

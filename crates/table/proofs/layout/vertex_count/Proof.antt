@@ -8,7 +8,7 @@ use Rattle.finite.proofs.Sum.{sumTo-none, sumTo-more}
 use Rattle.graph.specs.Tests.{degrees}
 use Rattle.table.specs.Inner.Cells.{cellSumMost}
 use Rattle.table.specs.Inner.Arrays.{countIn}
-use Rattle.table.proofs.Counts.{counted-total, counts-most}
+use Rattle.table.proofs.Counted.{counted-total, counts-most}
 use Rattle.table.proofs.layout.vertex_count.Statement.{statement}
 use Rattle.table.proofs.layout.vertex_count.Tie as tie
 
