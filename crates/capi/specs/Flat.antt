@@ -1,10 +1,10 @@
 -- Answers as the C interface hands them back: document 01's numbers in a struct of six.
 -- Assumes nothing.
-use Prim.Native.Nat.{ℕ, _+_}
+use Prim.Native.Nat.{ℕ}
 use Rattle.answer.specs.Numbers.{Numbers, done, refused}
 use Rattle.answer.specs.declared.LengthAnswer.{LengthAnswer}
 use Rattle.answer.specs.declared.LengthAnswer.the-variants.{Length, Refused}
-use Rattle.journal.specs.Journal.{slotAt}
+use Rattle.journal.specs.Journal.{blockFrom}
 use Rattle.capi.specs.declared.ReplicaAnswer.{ReplicaAnswer}
 
 abbrev pub flat : Numbers → ReplicaAnswer
@@ -20,5 +20,5 @@ flat n =
 
 -- a held block: its offset in the journal and its length
 abbrev pub heldNumbers : ℕ → LengthAnswer → Numbers
-heldNumbers number (Length n) = done (slotAt number + 1) n
+heldNumbers number (Length n) = done (blockFrom number) n
 heldNumbers number (Refused r) = refused r

@@ -28,7 +28,7 @@ use Rattle.state.specs.Valid.{lengthsOk, valid}
 use Rattle.state.proofs.Facts.{edgeTotal, valid-facts, lengths-journal, valid-journal}
 use Rattle.intake.specs.Take.{takeAnswer, takeJournal}
 use Rattle.intake.specs.LayOut.{layOutAnswer, layOutJournal}
-use Rattle.intake.proofs.Clear.{cleared-state}
+use Rattle.intake.proofs.Cleared.{cleared-state}
 use Rattle.intake.proofs.Take.{isTaken, isNext, TakenFacts, taken-facts, take-taken, take-lengths, take-valid}
 use Rattle.intake.proofs.LayOut.{isLaidOut, laysOut as laysOutNow, LaidOutFacts, lay-out-facts, lay-out-laid-out, lay-out-lengths, lay-out-valid}
 use Rattle.editing.specs.Add.{addAnswer, addAdjacency}

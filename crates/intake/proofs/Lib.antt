@@ -1,4 +1,4 @@
 pub mod Take
 pub mod Held
 pub mod LayOut
-pub mod Clear
+pub mod Cleared

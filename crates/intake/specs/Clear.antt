@@ -29,7 +29,7 @@ pub record ClearedState (j g : List ℕ) : Type 0 where
   pub no-blocks : blocks j ≡ 0
   pub no-cells : jdmOf j ≡ (λ k l. 0)
 
--- What is proved of clearing (proofs/Clear.antt): any two lists of the right lengths become the same valid state, with no blocks.
+-- What is proved of clearing (proofs/Cleared.antt): any two lists of the right lengths become the same valid state, with no blocks.
 abbrev pub ClearingClears : Type 0
 ClearingClears =
     (j g : List ℕ) → lengthsOk j g ≡ true →
