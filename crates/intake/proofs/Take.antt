@@ -217,10 +217,10 @@ module _ (j g : List ℕ) (number : ℕ) (b : List ℕ) (f : TakenFacts j g numb
       facts-valid-0 (stored j b) g (phase-stored j b size ok (f .room) (f .good) ∙ f .taking) (valid-stored j b size ok (f .room) (f .good))
       (valid-facts j g (f .lengths) (f .sound) .empty (f .taking))
 
-  stored-low : number < blocks (stored j b)
+  pub stored-low : number < blocks (stored j b)
   stored-low = omega (arith, f .next, blocks-stored j b size ok (f .room) (f .good))
 
-  stored-same : blockAt (stored j b) number ≡ b
+  pub stored-same : blockAt (stored j b) number ≡ b
   stored-same = rw (f .next) (blockAt-new j b size ok (f .room) (f .good))
 
   stored-jdm : jdmOf (stored j b) ≡ (λ k l. jdmOf j k l + blockCell b k l)
