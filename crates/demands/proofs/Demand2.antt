@@ -1,5 +1,5 @@
--- Demand 2 (specs/Demand2.antt): the blocks answered as taken or held add up to the tally's table, and a completed state that nothing
--- moved since holds a simple graph with it.
+-- Demand 2 (specs/Demand2.antt): the blocks answered as taken or held add up to the tally's table, and a state that was completed, or has no
+-- short cell, holds a simple graph with it.
 -- Assumes nothing.
 use mathlib.Core.Path.{_≡_, refl, sym, ap, subst, fun-ext, _∙_}
 use mathlib.Core.Bool.{Bool, true, false, _&&_, _||_, not, cond, true≢false}
@@ -21,11 +21,14 @@ use Rattle.answer.specs.declared.CompleteAnswer.the-variants.{Completed, Refuse
 use Rattle.finite.proofs.All.{and-left, and-right, and-false}
 use Rattle.graph.specs.Graph.{Simple, ownJdm}
 use Rattle.table.specs.Block.{wellFormed, blockCell}
-use Rattle.graph.specs.Tests.{vertices}
+use Rattle.graph.proofs.Passes.{passes-passed}
+use Rattle.graph.proofs.Realizability.{has-table}
 use Rattle.journal.specs.Journal.{phase, blocks, jdmOf}
+use Rattle.journal.proofs.Table.{jdm-table}
 use Rattle.adjacency.specs.Adjacency.{edge}
 use Rattle.state.specs.Valid.{lengthsOk, valid}
 use Rattle.state.specs.Laid.{vertexCount}
+use Rattle.state.proofs.Facts.{StateFacts, Laid, valid-facts}
 use Rattle.intake.specs.Take.{takeAnswer}
 use Rattle.intake.proofs.Take.{isTaken, taken-facts, held-facts, take-taken}
 use Rattle.intake.proofs.LayOut.{lay-out-laid-out}
@@ -33,10 +36,13 @@ use Rattle.editing.specs.Add.{addAnswer, addAdjacency}
 use Rattle.editing.specs.Remove.{removeAnswer, removeAdjacency}
 use Rattle.completion.specs.Complete.{completeAnswer, completeAdjacency}
 use Rattle.completion.proofs.Entry.{CompleteFacts, completed-facts, facts-completed, complete-works}
-use Rattle.demands.specs.Calls.{Call, take, layOut, add, remove, complete, readBack, list, figures, State, cleared, after, afterAll}
+use Rattle.demands.specs.Calls.{Call, take, layOut, add, remove, complete, readBack, list, figures, survey, State, cleared, after, afterAll}
 use Rattle.demands.specs.Tally.{Tally, noTally, told, toldAdd, toldRemove, toldComplete, counts, withBlock, laysOut, nowLaid, tally, tallyAll}
-use Rattle.demands.specs.Demand2.{accepted, member, answered, answeredSum, addRefused, removeRefused, quiet, Demand2}
-use Rattle.demands.proofs.Reach.{Reach, reach, reach-cleared, after-call, same-next}
+use Rattle.demands.specs.Matrix.{Short, HasTable}
+use Rattle.demands.specs.Accepted.{accepted}
+use Rattle.demands.specs.Demand2.{member, answered, answeredSum, addRefused, removeRefused, quiet, Demand2}
+use Rattle.demands.proofs.Reach.{Reach, reach, reach-cleared, after-call, same-next, after-append}
+use Rattle.demands.proofs.Kept.{accepted-once}
 
 -- the numbers that came already are those below m
 abbrev Seen : List ℕ → ℕ → Type 0
@@ -133,6 +139,7 @@ answered-tally (complete ∷ cs) s t seen r h k l =
 answered-tally (readBack number ∷ cs) s t seen r h k l = answered-tally cs s t seen r h k l
 answered-tally (list out ∷ cs) s t seen r h k l = answered-tally cs s t seen r h k l
 answered-tally (figures ∷ cs) s t seen r h k l = answered-tally cs s t seen r h k l
+answered-tally (survey e out ∷ cs) s t seen r h k l = answered-tally cs s t seen r h k l
 
 -- the blocks answered since the clear add up to the journal's table
 answered-jdm : (calls : List Call) → answeredSum calls ≡ jdmOf (afterAll cleared calls .journal)
@@ -140,10 +147,6 @@ answered-jdm calls =
     fun-ext (λ k. fun-ext (λ l.
     sym (zero-add (answeredSum calls k l)) ∙ answered-tally calls cleared noTally [] reach-cleared (λ i. sym (le-ltb i 0 (omega arith))) k l))
     ∙ sym (reach calls .table)
-
-after-append : (a b : List Call) (s : State) → afterAll s (a ++ b) ≡ afterAll (afterAll s a) b
-after-append [] b s = refl
-after-append (c ∷ a) b s = after-append a b (after s c)
 
 -- a state that completing left, and that nothing has moved since
 record Done (s : State) : Type 0 where
@@ -207,17 +210,16 @@ done-rest (complete ∷ cs) s d q =
 done-rest (readBack number ∷ cs) s d q = done-rest cs s d q
 done-rest (list out ∷ cs) s d q = done-rest cs s d q
 done-rest (figures ∷ cs) s d q = done-rest cs s d q
+done-rest (survey e out ∷ cs) s d q = done-rest cs s d q
 
-pub demand-2 : Demand2
-demand-2 before rest joins switches e q =
-    subst (λ (T : ℕ → ℕ → ℕ). Simple (vertices T) (edge g) × ((k l : ℕ) → ownJdm (vertices T) (edge g) k l ≡ T k l)) (sym same) (d .simple, d .table)
+-- completed, and nothing moved since
+completed-has : (before rest : List Call) (joins switches : ℕ)
+    → completeAnswer (afterAll cleared before .journal) (afterAll cleared before .adjacency) ≡ Completed joins switches
+    → quiet (after (afterAll cleared before) complete) rest ≡ true
+    → HasTable (answeredSum (before ++ complete ∷ rest)) (afterAll (after (afterAll cleared before) complete) rest)
+completed-has before rest joins switches e q =
+    subst (λ (T : ℕ → ℕ → ℕ). HasTable T (afterAll (after (afterAll cleared before) complete) rest)) (sym same) (record { simple = d .simple; exact = d .table })
   where
-    s : State
-    s = afterAll cleared before
-
-    g : List ℕ
-    g = afterAll (after (afterAll cleared before) complete) rest .adjacency
-
     d : Done (afterAll (after (afterAll cleared before) complete) rest)
     d =
         done-rest rest (after (afterAll cleared before) complete)
@@ -227,3 +229,33 @@ demand-2 before rest joins switches e q =
 
     same : answeredSum (before ++ complete ∷ rest) ≡ jdmOf (afterAll (after (afterAll cleared before) complete) rest .journal)
     same = answered-jdm (before ++ complete ∷ rest) ∙ ap (λ (s : State). jdmOf (s .journal)) (after-append before (complete ∷ rest) cleared)
+
+-- laid, and no cell short: no cell is above the table on a valid state, so that every cell is the table's
+finished-has : (s : State) (lengths : lengthsOk (s .journal) (s .adjacency) ≡ true) (sound : valid (s .journal) (s .adjacency) ≡ true)
+    → phase (s .journal) ≡ 1 → ((k l : ℕ) → Short (jdmOf (s .journal)) s k l → ⊥) → HasTable (jdmOf (s .journal)) s
+finished-has s lengths sound phased full =
+    record {
+      simple = laid .partial .simple;
+      exact =
+          has-table (jdmOf (s .journal)) (jdm-table (s .journal) (facts .journal-ok)) (passes-passed (jdmOf (s .journal)) .0 (laid .passed))
+          (edge (s .adjacency)) (laid .partial) (λ k l p q. omega (arith, laid .partial .within k l p q, full k l));
+    }
+  where
+    facts : StateFacts (s .journal) (s .adjacency)
+    facts = valid-facts (s .journal) (s .adjacency) lengths sound
+
+    laid : Laid (s .journal) (s .adjacency)
+    laid = facts .laid phased
+
+pub demand-2 : Demand2
+demand-2 =
+    record {
+      completed = completed-has;
+      finished = λ calls phased full.
+          let r = reach calls in
+          let same = answered-jdm calls in
+          subst (λ (T : ℕ → ℕ → ℕ). HasTable T (afterAll cleared calls)) (sym same)
+          (finished-has (afterAll cleared calls) (r .lengths) (r .sound) phased
+          (subst (λ (T : ℕ → ℕ → ℕ). (k l : ℕ) → Short T (afterAll cleared calls) k l → ⊥) same full));
+      once = accepted-once;
+    }

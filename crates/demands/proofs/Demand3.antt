@@ -30,6 +30,7 @@ use Rattle.completion.specs.Complete.{completed, completeAnswer, completeAdjace
 use Rattle.completion.proofs.Entry.{CompleteFacts, facts-completed, CompleteWorks, complete-works}
 use Rattle.demands.specs.Calls.{State, cleared, afterAll}
 use Rattle.demands.specs.Tally.{Tally, noTally, tallyAll}
+use Rattle.demands.specs.Matrix.{Short, HasTable}
 use Rattle.demands.specs.Demand3 as D
 use Rattle.demands.proofs.Reach.{Reach, reach, laid-counted, phase-0, phase-1}
 
@@ -106,7 +107,7 @@ module _ (s : State) (lengths : Rattle.state.specs.Valid.lengthsOk (s .journal)
           }
 
   -- a short cell has an open pair; no cell past the degrees is short
-  some-pair : (k l : ℕ) → D.Short (jdmOf (s .journal)) s k l → (v w : ℕ) × D.OpenPair (jdmOf (s .journal)) s v w
+  some-pair : (k l : ℕ) → Short (jdmOf (s .journal)) s k l → (v w : ℕ) × D.OpenPair (jdmOf (s .journal)) s v w
   some-pair k l h =
       let o = short-has-open-pair (vertexCount (s .journal)) degrees (degreeAt (s .journal)) (λ k. k) (jdmOf (s .journal)) (edge (s .adjacency)) (laid .target)
       (laid .partial) k l (below k l h) (below l k (mirrored k l h)) h in (
@@ -121,14 +122,14 @@ module _ (s : State) (lengths : Rattle.state.specs.Valid.lengthsOk (s .journal)
         },
       )
     where
-      below : (k l : ℕ) → D.Short (jdmOf (s .journal)) s k l → k < degrees
+      below : (k l : ℕ) → Short (jdmOf (s .journal)) s k l → k < degrees
       below k l h = go (native.Mathlib.Decide.decLt k degrees)
         where
           go : Dec (k < degrees) → k < degrees
           go (yes p) = p
           go (no p) = absurd (omega (arith, h, jdm-table (s .journal) (facts .journal-ok) .none-above k l (omega arith)))
 
-      mirrored : (k l : ℕ) → D.Short (jdmOf (s .journal)) s k l → D.Short (jdmOf (s .journal)) s l k
+      mirrored : (k l : ℕ) → Short (jdmOf (s .journal)) s k l → Short (jdmOf (s .journal)) s l k
       mirrored k l h =
           omega (
             arith,
@@ -155,8 +156,9 @@ module _ (s : State) (lengths : Rattle.state.specs.Valid.lengthsOk (s .journal)
             missing = omega (arith, x .all, x .more, counted);
             more =
                 subst (λ (h : List ℕ). edgeTotal (s .journal) h ≡ edgeTotal (s .journal) (s .adjacency) + completed (s .journal) (s .adjacency) .joins) (sym e) (x .more);
-            simple = subst (λ (h : List ℕ). Simple (vertexCount (s .journal)) (edge h)) (sym e) (x .simple);
-            has-table = λ k l. subst (λ (h : List ℕ). Rattle.graph.specs.Graph.ownJdm (vertexCount (s .journal)) (edge h) k l ≡ jdmOf (s .journal) k l) (sym e) (x .table k l);
+            has-table =
+                subst (λ (h : List ℕ). HasTable (jdmOf (s .journal)) (record { journal = s .journal; adjacency = h })) (sym e)
+                (record { simple = x .simple; exact = x .table });
           }
 
       go : completeAnswer (s .journal) (s .adjacency) ≡ Completed (completed (s .journal) (s .adjacency) .joins) (completed (s .journal) (s .adjacency) .switches)
@@ -198,7 +200,7 @@ demand-3 calls = (not-laid, laid-out)
               );
           pair = λ k l h.
               let q = some-pair (afterAll cleared calls) (r .lengths) (r .sound) (phase-1 _ _ r e) k l
-              (subst (λ (T : ℕ → ℕ → ℕ). D.Short T (afterAll cleared calls) k l) (sym (r .table)) h) in
+              (subst (λ (T : ℕ → ℕ → ℕ). Short T (afterAll cleared calls) k l) (sym (r .table)) h) in
               (q .0, q .1, subst (λ (T : ℕ → ℕ → ℕ). D.OpenPair T (afterAll cleared calls) (q .0) (q .1)) (r .table) (q .2));
           completes =
               completes (afterAll cleared calls) (r .lengths) (r .sound) (phase-1 _ _ r e) (tallyAll cleared noTally calls) (r .table)

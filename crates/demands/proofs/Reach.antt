@@ -3,7 +3,7 @@
 -- Assumes nothing.
 use mathlib.Core.Path.{_≡_, refl, sym, ap, subst, _∙_}
 use mathlib.Core.Bool.{Bool, true, false, _&&_, not, cond, true≢false}
-use mathlib.Core.List.{List, [], _∷_}
+use mathlib.Core.List.{List, [], _∷_, _++_}
 use Prim.Native.Nat.{ℕ, _+_, _-_}
 use native.Mathlib.Omega.{arith}
 use lib.Dec.{eqb, ltb, leb}
@@ -37,7 +37,7 @@ use Rattle.editing.proofs.Add.{added-facts, add-works}
 use Rattle.editing.proofs.Remove.{removed-facts, remove-works}
 use Rattle.completion.specs.Complete.{completeAnswer, completeAdjacency}
 use Rattle.completion.proofs.Entry.{completed-facts, complete-works}
-use Rattle.demands.specs.Calls.{Call, take, layOut, add, remove, complete, readBack, list, figures, State, cleared, after, afterAll}
+use Rattle.demands.specs.Calls.{Call, take, layOut, add, remove, complete, readBack, list, figures, survey, State, cleared, after, afterAll}
 use Rattle.demands.specs.Tally.{Tally, noTally, told, toldAdd, toldRemove, toldComplete, counts, withBlock, laysOut, nowLaid, withEdges, tally, tallyAll}
 
 -- the phase that the tally says
@@ -223,6 +223,7 @@ module _ (s : State) (t : Tally) (r : Reach s t) where
   after-call (readBack number) = r
   after-call (list out) = r
   after-call figures = r
+  after-call (survey e out) = r
 
 -- over a whole list
 pub reach-from : (calls : List Call) (s : State) (t : Tally) → Reach s t → Reach (afterAll s calls) (tallyAll s t calls)
@@ -231,3 +232,7 @@ reach-from (c ∷ cs) s t r = reach-from cs (after s c) (tally t (told s c)) (af
 
 pub reach : (calls : List Call) → Reach (afterAll cleared calls) (tallyAll cleared noTally calls)
 reach calls = reach-from calls cleared noTally reach-cleared
+
+pub after-append : (a b : List Call) (s : State) → afterAll s (a ++ b) ≡ afterAll (afterAll s a) b
+after-append [] b s = refl
+after-append (c ∷ a) b s = after-append a b (after s c)

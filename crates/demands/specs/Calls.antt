@@ -11,7 +11,8 @@ use Rattle.editing.specs.Add.{addAnswer, addAdjacency}
 use Rattle.editing.specs.Remove.{removeAnswer, removeAdjacency}
 use Rattle.completion.specs.Complete.{completeAnswer, completeAdjacency}
 
--- the calls that demand 3 lists: those that may change the state, with any arguments, and the reading ones between them
+-- the calls that demand 3 lists: those that may change the state, with any arguments, and the reading ones between them; a survey, which is
+-- lent no state, may stand there too
 pub data Call : Type 0 where
   take : ℕ → List ℕ → Call
   layOut : Call
@@ -21,6 +22,7 @@ pub data Call : Type 0 where
   readBack : ℕ → Call
   list : List ℕ → Call
   figures : Call
+  survey : List ℕ → List ℕ → Call
 
 pub record State : Type 0 where
   pub journal : List ℕ
@@ -57,6 +59,7 @@ after s complete =
 after s (readBack number) = s
 after s (list out) = s
 after s figures = s
+after s (survey e out) = s
 
 -- the state after a list of calls
 abbrev pub afterAll : State → List Call → State

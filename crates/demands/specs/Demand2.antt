@@ -1,33 +1,25 @@
--- Demand 2: a finished state holds a simple graph whose matrix, by equation (1) at its own degrees, equals in every cell the sum of the
--- blocks answered as taken or held since the last clear, each block number once.
+-- Demand 2: "A finished bench, touched by these entries alone since its last clear, holds a simple graph whose table, counted by equation (1)
+-- of the 2K construction paper, equals in every cell the sum of the blocks answered as taken or held since then, each block number once".
 -- Assumes nothing.
 use mathlib.Core.Path.{_≡_}
 use mathlib.Core.Bool.{Bool, true, false, _&&_, _||_, not, cond}
 use mathlib.Core.List.{List, [], _∷_, _++_}
 use Prim.Native.Nat.{ℕ, _+_}
 use lib.Dec.{eqb}
-use Rattle.graph.specs.Graph.{Simple, ownJdm}
-use Rattle.answer.specs.declared.TakeAnswer.{TakeAnswer}
-use Rattle.answer.specs.declared.TakeAnswer.the-variants as Take
 use Rattle.answer.specs.declared.AddAnswer.{AddAnswer}
 use Rattle.answer.specs.declared.AddAnswer.the-variants as Add
 use Rattle.answer.specs.declared.RemoveAnswer.{RemoveAnswer}
 use Rattle.answer.specs.declared.RemoveAnswer.the-variants as Remove
 use Rattle.answer.specs.declared.CompleteAnswer.the-variants.{Completed}
 use Rattle.table.specs.Block.{blockCell}
-use Rattle.graph.specs.Tests.{vertices}
-use Rattle.adjacency.specs.Adjacency.{edge}
+use Rattle.journal.specs.Journal.{phase}
 use Rattle.intake.specs.Take.{takeAnswer}
 use Rattle.editing.specs.Add.{addAnswer}
 use Rattle.editing.specs.Remove.{removeAnswer}
 use Rattle.completion.specs.Complete.{completeAnswer}
-use Rattle.demands.specs.Calls.{Call, take, layOut, add, remove, complete, readBack, list, figures, State, cleared, after, afterAll}
-
--- the block was taken, or held already
-abbrev pub accepted : TakeAnswer → Bool
-accepted (Take.Taken next) = true
-accepted Take.Held = true
-accepted (Take.Refused r) = false
+use Rattle.demands.specs.Calls.{Call, take, layOut, add, remove, complete, readBack, list, figures, survey, State, cleared, after, afterAll}
+use Rattle.demands.specs.Matrix.{Short, HasTable}
+use Rattle.demands.specs.Accepted.{accepted, AcceptedIn}
 
 abbrev pub member : ℕ → List ℕ → Bool
 member n [] = false
@@ -48,6 +40,7 @@ answered seen s (complete ∷ cs) k l = answered seen (after s complete) cs k l
 answered seen s (readBack number ∷ cs) k l = answered seen s cs k l
 answered seen s (list out ∷ cs) k l = answered seen s cs k l
 answered seen s (figures ∷ cs) k l = answered seen s cs k l
+answered seen s (survey e out ∷ cs) k l = answered seen s cs k l
 
 -- the sum since the clear
 abbrev pub answeredSum : List Call → ℕ → ℕ → ℕ
@@ -72,15 +65,19 @@ quiet s (complete ∷ cs) = quiet (after s complete) cs
 quiet s (readBack number ∷ cs) = quiet s cs
 quiet s (list out ∷ cs) = quiet s cs
 quiet s (figures ∷ cs) = quiet s cs
+quiet s (survey e out ∷ cs) = quiet s cs
 
--- Calls since the clear, a completing that was not refused, and calls after it that added and removed nothing: in the end the matrix
--- holds a simple graph on N vertices with the summed table.
-abbrev pub Demand2 : Type 0
-Demand2 =
-    (before rest : List Call) (joins switches : ℕ) →
-    let s = afterAll cleared before in
-    completeAnswer (s .journal) (s .adjacency) ≡ Completed joins switches →
-    quiet (after s complete) rest ≡ true →
-    let T = answeredSum (before ++ complete ∷ rest) in
-    let g = afterAll (after s complete) rest .adjacency in
-    Simple (vertices T) (edge g) × ((k l : ℕ) → ownJdm (vertices T) (edge g) k l ≡ T k l)
+pub record Demand2 : Type 0 where
+  -- completed: calls since the clear, a completing that was not refused, and calls after it that added and removed nothing
+  pub completed : (before rest : List Call) (joins switches : ℕ) →
+      let s = afterAll cleared before in
+      completeAnswer (s .journal) (s .adjacency) ≡ Completed joins switches →
+      quiet (after s complete) rest ≡ true →
+      HasTable (answeredSum (before ++ complete ∷ rest)) (afterAll (after s complete) rest)
+  -- finished in any way, "touched by these entries alone since its last clear": laid, and no cell is short
+  pub finished : (calls : List Call) →
+      let s = afterAll cleared calls in
+      let T = answeredSum calls in
+      phase (s .journal) ≡ 1 → ((k l : ℕ) → Short T s k l → ⊥) → HasTable T s
+  -- "each block number once": the blocks answered as taken or held under one number are one block
+  pub once : (calls : List Call) (number : ℕ) (b b′ : List ℕ) → AcceptedIn calls number b → AcceptedIn calls number b′ → b ≡ b′

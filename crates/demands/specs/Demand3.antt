@@ -6,7 +6,7 @@ use mathlib.Core.List.{List}
 use mathlib.Core.Logic.{_↔_, _≢_}
 use Prim.Native.Nat.{ℕ, _+_, _*_, _≤_, _<_}
 use Rattle.finite.specs.Range.{sumTo}
-use Rattle.graph.specs.Graph.{Simple, jdm, ownJdm, edges}
+use Rattle.graph.specs.Graph.{edges}
 use Rattle.graph.specs.Tests.{degrees, rowSum, vertices, vertexDegree}
 use Rattle.graph.specs.Theorems.{Realized}
 use Rattle.answer.specs.Numbers.{layOutNumbers}
@@ -18,6 +18,7 @@ use Rattle.intake.specs.LayOut.{layOutAnswer}
 use Rattle.editing.specs.Add.{addAnswer}
 use Rattle.completion.specs.Complete.{completeAnswer}
 use Rattle.demands.specs.Calls.{Call, add, complete, State, cleared, after, afterAll}
+use Rattle.demands.specs.Matrix.{Short, HasTable}
 use Rattle.demands.specs.Tally.{Tally, noTally, tallyAll}
 
 -- laying out is refused for want of a graph: with 9, 10 or 11
@@ -29,10 +30,6 @@ RefusedForWantOfAGraph s =
 -- the edges of the matrix on the vertices of the table T
 abbrev pub edgesLaid : (ℕ → ℕ → ℕ) → State → ℕ
 edgesLaid T s = edges (vertices T) (edge (s .adjacency))
-
--- The edges counted as equation (1) does, but at the degrees laid out, stay below T in the cell (k, l).
-abbrev pub Short : (ℕ → ℕ → ℕ) → State → ℕ → ℕ → Type 0
-Short T s k l = jdm (vertices T) (vertexDegree T) (edge (s .adjacency)) k l < T k l
 
 -- two different vertices below N, not linked, whose cell is short
 pub record OpenPair (T : ℕ → ℕ → ℕ) (s : State) (v w : ℕ) : Type 0 where
@@ -58,8 +55,7 @@ pub record Completes (t : Tally) (s : State) : Type 0 where
   pub answer : completeAnswer (s .journal) (s .adjacency) ≡ Completed joins switches
   pub missing : 2 * (t .edges + joins) ≡ sumTo degrees (rowSum (t .table))
   pub more : edgesLaid (t .table) (after s complete) ≡ edgesLaid (t .table) s + joins
-  pub simple : Simple (vertices (t .table)) (edge (after s complete .adjacency))
-  pub has-table : (k l : ℕ) → ownJdm (vertices (t .table)) (edge (after s complete .adjacency)) k l ≡ t .table k l
+  pub has-table : HasTable (t .table) (after s complete)
 
 -- not laid: refused with 9, 10 or 11 if and only if no simple graph of any size has T
 pub record NotLaid (t : Tally) (s : State) : Type 0 where

@@ -1,7 +1,9 @@
 pub mod Calls
+pub mod Matrix
 pub mod Tally
+pub mod Accepted
 pub mod Demand1
 pub mod Demand2
 pub mod Demand3
-pub mod Cases
+pub mod ReadBack
 pub mod Listed

@@ -18,7 +18,7 @@ use Rattle.journal.specs.Journal.{mostBlocks}
 use Rattle.editing.specs.Add.{addAnswer}
 use Rattle.editing.specs.Remove.{removeAnswer}
 use Rattle.completion.specs.Complete.{completeAnswer}
-use Rattle.demands.specs.Calls.{Call, take, layOut, add, remove, complete, readBack, list, figures, State, after}
+use Rattle.demands.specs.Calls.{Call, take, layOut, add, remove, complete, readBack, list, figures, survey, State, after}
 
 -- what the tally is told of a call
 pub data Told : Type 0 where
@@ -38,6 +38,7 @@ told s complete = toldComplete (completeAnswer (s .journal) (s .adjacency))
 told s (readBack number) = toldNothing
 told s (list out) = toldNothing
 told s figures = toldNothing
+told s (survey e out) = toldNothing
 
 -- a block count, a table T, laid or not, and an edge count
 pub record Tally : Type 0 where

@@ -7,7 +7,7 @@ use Prim.Native.Nat.{ℕ}
 use lib.ListN.{length, replicate, length-replicate}
 use Rattle.answer.specs.declared.ClearAnswer.the-variants.{Cleared}
 use Rattle.slices.proofs.Zero.{getD-zeros}
-use Rattle.journal.specs.Journal.{journalSize, phase, blocks, jdmOf}
+use Rattle.journal.specs.Journal.{journalSize, phase}
 use Rattle.journal.proofs.Empty.{phase-empty, blocks-empty, jdm-empty, valid-empty}
 use Rattle.adjacency.specs.Adjacency.{adjacencySize}
 use Rattle.state.specs.Valid.{lengthsOk, valid}

@@ -37,11 +37,12 @@ use Rattle.intake.specs.Figures.{figuresOf}
 use Rattle.editing.specs.Add.{addLaid, addAdjacency}
 use Rattle.editing.specs.Remove.{removeLaid, removeAdjacency}
 use Rattle.editing.specs.List.{listLaid}
+use Rattle.survey.specs.Survey.{surveyAnswer}
 use Rattle.completion.specs.Complete.{completed, completeAdjacency}
-use Rattle.demands.specs.Calls.{Call, take, layOut, add, remove, complete, readBack, list, figures, State, cleared, after, afterAll}
+use Rattle.demands.specs.Calls.{Call, take, layOut, add, remove, complete, readBack, list, figures, survey, State, cleared, after, afterAll}
 use Rattle.demands.specs.Tally.{Tally, noTally, told, tally}
-use Rattle.demands.specs.Cases.{answerOf, answersOf, Case, sameNumbers, sameList, edgesAfter, holds, allHold, starred}
+use Rattle.worked.specs.Cases.{answerOf, answersOf, Case, sameNumbers, sameList, edgesAfter, holds, allHold, starred}
 use Rattle.demands.proofs.Reach.{Reach, reach-cleared, after-call}
 
 -- The answers past the checks 1 and 2.
 abbrev phaseRest : ℕ → List ℕ → Verdict
@@ -74,6 +75,7 @@ answerRest s complete = completeNumbers (completeRest (s .journal) (s .adjacency
 answerRest s (readBack number) = lengthNumbers (lengthRest (s .journal) number)
 answerRest s (list out) = writtenNumbers (listRest (s .journal) (s .adjacency) (length out))
 answerRest s figures = figuresNumbers (Figs.Reported (figuresOf (eqb (phase (s .journal)) 0) (s .journal) (s .adjacency)))
+answerRest s (survey e out) = writtenNumbers (surveyAnswer e (length out))
 
 abbrev afterRest : State → Call → State
 afterRest s (take number b) = record { journal = takeJournal (takeOnValid (s .journal) number b) (s .journal) b; adjacency = s .adjacency }
@@ -87,6 +89,7 @@ afterRest s complete =
 afterRest s (readBack number) = s
 afterRest s (list out) = s
 afterRest s figures = s
+afterRest s (survey e out) = s
 
 abbrev afterAllRest : State → List Call → State
 afterAllRest s [] = s
@@ -110,6 +113,7 @@ module _ (s : State) (t : Tally) (r : Reach s t) where
   answer-rest (readBack number) = rw checked
   answer-rest (list out) = rw checked
   answer-rest figures = rw checked
+  answer-rest (survey e out) = refl
 
   after-rest : (c : Call) → after s c ≡ afterRest s c
   after-rest (take number b) = rw checked
@@ -120,6 +124,7 @@ module _ (s : State) (t : Tally) (r : Reach s t) where
   after-rest (readBack number) = refl
   after-rest (list out) = refl
   after-rest figures = refl
+  after-rest (survey e out) = refl
 
 all-rest : (calls : List Call) (s : State) (t : Tally) → Reach s t
     → (answersOf s calls ≡ answersRest s calls) × (afterAll s calls ≡ afterAllRest s calls)

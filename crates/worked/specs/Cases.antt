@@ -15,8 +15,9 @@ use Rattle.intake.specs.Figures.{figuresAnswer}
 use Rattle.editing.specs.Add.{addAnswer}
 use Rattle.editing.specs.Remove.{removeAnswer}
 use Rattle.editing.specs.List.{listBytes, listAnswer}
+use Rattle.survey.specs.Survey.{surveyAnswer}
 use Rattle.completion.specs.Complete.{completeAnswer}
-use Rattle.demands.specs.Calls.{Call, take, layOut, add, remove, complete, readBack, list, figures, State, cleared, after, afterAll}
+use Rattle.demands.specs.Calls.{Call, take, layOut, add, remove, complete, readBack, list, figures, survey, State, cleared, after, afterAll}
 
 -- the answer of a call, in document 01's numbers
 abbrev pub answerOf : State → Call → Numbers
@@ -28,6 +29,7 @@ answerOf s complete = completeNumbers (completeAnswer (s .journal) (s .adjacency
 answerOf s (readBack number) = lengthNumbers (lengthAnswer (s .journal) (s .adjacency) number)
 answerOf s (list out) = writtenNumbers (listAnswer (s .journal) (s .adjacency) (length out))
 answerOf s figures = figuresNumbers (figuresAnswer (s .journal) (s .adjacency))
+answerOf s (survey e out) = writtenNumbers (surveyAnswer e (length out))
 
 -- the answers of a list of calls
 abbrev pub answersOf : State → List Call → List Numbers

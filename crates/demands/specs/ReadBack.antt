@@ -1,0 +1,23 @@
+-- What is read back is what was taken, after every list of calls from a cleared state.
+-- Assumes nothing.
+use mathlib.Core.Path.{_≡_}
+use mathlib.Core.List.{List}
+use Prim.Native.Nat.{ℕ, _<_}
+use lib.ListN.{length}
+use Rattle.answer.specs.declared.LengthAnswer.the-variants.{Length}
+use Rattle.journal.specs.Journal.{blocks}
+use Rattle.intake.specs.Held.{lengthAnswer, heldPart}
+use Rattle.demands.specs.Calls.{Call, State, cleared, afterAll}
+use Rattle.demands.specs.Accepted.{AcceptedIn}
+
+-- under this number the state holds block b: it is one of its blocks, and reading it back gives b's length and b's bytes
+pub record Holds (s : State) (number : ℕ) (b : List ℕ) : Type 0 where
+  pub low : number < blocks (s .journal)
+  pub sized : lengthAnswer (s .journal) (s .adjacency) number ≡ Length (length b)
+  pub same : heldPart (lengthAnswer (s .journal) (s .adjacency) number) (s .journal) number ≡ b
+
+pub record ReadsBack : Type 0 where
+  -- every block answered as taken or held is held from then on, whatever calls came after it ..
+  pub accepted-held : (calls : List Call) (number : ℕ) (b : List ℕ) → AcceptedIn calls number b → Holds (afterAll cleared calls) number b
+  -- .. and nothing else is: each block of the journal was answered so
+  pub held-accepted : (calls : List Call) (number : ℕ) → number < blocks (afterAll cleared calls .journal) → (b : List ℕ) × AcceptedIn calls number b
