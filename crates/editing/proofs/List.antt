@@ -1,4 +1,4 @@
--- Listing the edges, on the definitions: where a row begins, and how long the list is.
+-- Listing the edges, on the definitions: where a row begins, how long the list is, and that a matrix of zeros has none.
 -- Assumes nothing.
 use mathlib.Core.Path.{_≡_, refl, ap, _∙_}
 use mathlib.Core.Bool.{Bool, true, false, _&&_, cond}
@@ -7,7 +7,7 @@ use Prim.Native.Nat.{ℕ, _+_, _*_, _≤_, _<_}
 use native.Mathlib.Decide.{ℕ-discrete}
 use native.Mathlib.Omega.{arith}
 use lib.Dec.{ltb}
-use lib.ListN.{length}
+use lib.ListN.{length, getD}
 use borrow.Author.Tests.{lt-ltb, le-ltb, eq-eqb, ne-eqb}
 use Rattle.finite.specs.Range.{sumTo, catTo}
 use Rattle.finite.proofs.Sum.{sumTo-cong, sumTo-const, sumTo-mono, sumTo-mirror, sumTo-cong-lower, sumTo-scale-lower}
@@ -15,6 +15,7 @@ use Rattle.finite.proofs.Fold.{catTo-empty, catTo-length}
 use Rattle.graph.specs.Graph.{Graph, Simple, edges}
 use Rattle.table.specs.Layout.{mostVertices}
 use Rattle.adjacency.specs.Adjacency.{adjacencySize, edge}
+use Rattle.adjacency.proofs.Empty.{no-edge}
 use Rattle.editing.specs.List.{edgeBytes, listBytes}
 
 -- an edge is written at its lower end
@@ -34,6 +35,12 @@ edge-none g v w e = rw (ne-eqb (edge g v w) 1 e) (go (ltb v w))
 -- row v has nothing up to its diagonal
 pub row-starts : (g : List ℕ) (v : ℕ) → catTo (v + 1) (edgeBytes g v) ≡ []
 row-starts g v = catTo-empty (edgeBytes g v) (v + 1) (λ w h. edge-below g v w (omega arith))
+
+-- a matrix of zeros has no edges to list
+pub list-none : (n : ℕ) (g : List ℕ) → ((p : ℕ) → getD g p 0 ≡ 0) → listBytes n g ≡ []
+list-none n g zero =
+    catTo-empty (λ v. catTo n (edgeBytes g v)) n
+    (λ v l. catTo-empty (edgeBytes g v) n (λ w m. edge-none g v w (λ e. absurd (omega (arith, e, no-edge g zero v w)))))
 
 -- 2 bytes an edge
 edge-length : (g : List ℕ) (v w : ℕ) → v < w → edge g v w ≤ 1 → length (edgeBytes g v w) ≡ 2 * edge g v w

@@ -1,11 +1,12 @@
--- The starred cases hold. A reached state is valid, so that the checks 1 and 2 of every call pass; what is left of the definitions is computed.
+-- The starred cases and those of the order of checks hold. A reached state is valid, so that the checks 1 and 2 of every call pass; what is left of the definitions is computed.
 -- Assumes nothing.
 use mathlib.Core.Path.{_≡_, refl, ap, _∙_}
-use mathlib.Core.Bool.{Bool, true, _&&_}
+use mathlib.Core.Bool.{Bool, true, false, _&&_, cond}
 use mathlib.Core.List.{List, [], _∷_}
 use Prim.Native.Nat.{ℕ}
 use lib.Dec.{eqb, ltb}
 use lib.ListN.{length}
+use borrow.Author.Tests.{eqb-true}
 use Rattle.answer.specs.Refusals.{refusal, stop, unless, unlessStopped}
 use Rattle.answer.specs.Numbers.{Numbers, takeNumbers, layOutNumbers, addNumbers, removeNumbers, completeNumbers, lengthNumbers, writtenNumbers, figuresNumbers}
 use Rattle.answer.specs.declared.Cause.the-variants.{Phase, BlockNumber}
@@ -30,18 +31,21 @@ use Rattle.graph.specs.Tests.{vertices}
 use Rattle.table.specs.Layout.{layoutVerdict}
 use Rattle.journal.specs.Journal.{phase, blocks, slotLength, jdmOf}
 use Rattle.state.specs.Checks.{stateVerdict}
+use Rattle.state.specs.Laid.{vertexCount}
 use Rattle.state.proofs.Checks.{state-go}
+use Rattle.state.proofs.Facts.{valid-facts}
 use Rattle.intake.specs.Take.{takeOnValid, takeJournal}
 use Rattle.intake.specs.LayOut.{laidOut, layOutJournal}
 use Rattle.intake.specs.Figures.{figuresOf}
 use Rattle.editing.specs.Add.{addLaid, addAdjacency}
 use Rattle.editing.specs.Remove.{removeLaid, removeAdjacency}
 use Rattle.editing.specs.List.{listLaid}
+use Rattle.editing.proofs.List.{list-none}
 use Rattle.survey.specs.Survey.{surveyAnswer}
 use Rattle.completion.specs.Complete.{completed, completeAdjacency}
-use Rattle.demands.specs.Calls.{Call, take, layOut, add, remove, complete, readBack, list, figures, survey, State, cleared, after, afterAll}
+use Rattle.demands.specs.Calls.{Call, take, layOut, add, remove, complete, readBack, list, figures, survey, State, cleared, after}
 use Rattle.demands.specs.Tally.{Tally, noTally, told, tally}
-use Rattle.worked.specs.Cases.{answerOf, answersOf, Case, sameNumbers, sameList, edgesAfter, holds, allHold, starred}
+use Rattle.worked.specs.Cases.{answerOf, Step, Case, sameNumbers, sameList, edgesOf, holdsFrom, allHold, starred, StarredHold, ordered, OrderedHold}
 use Rattle.demands.proofs.Reach.{Reach, reach-cleared, after-call}
 
 -- The answers past the checks 1 and 2.
@@ -91,14 +95,6 @@ afterRest s (list out) = s
 afterRest s figures = s
 afterRest s (survey e out) = s
 
-abbrev afterAllRest : State → List Call → State
-afterAllRest s [] = s
-afterAllRest s (c ∷ cs) = afterAllRest (afterRest s c) cs
-
-abbrev answersRest : State → List Call → List Numbers
-answersRest s [] = []
-answersRest s (c ∷ cs) = answerRest s c ∷ answersRest (afterRest s c) cs
-
 -- on a reached state both checks pass
 module _ (s : State) (t : Tally) (r : Reach s t) where
   checked : stateVerdict (s .journal) (s .adjacency) ≡ Go
@@ -126,36 +122,51 @@ module _ (s : State) (t : Tally) (r : Reach s t) where
   after-rest figures = refl
   after-rest (survey e out) = refl
 
-all-rest : (calls : List Call) (s : State) (t : Tally) → Reach s t
-    → (answersOf s calls ≡ answersRest s calls) × (afterAll s calls ≡ afterAllRest s calls)
-all-rest [] s t r = (refl, refl)
-all-rest (c ∷ cs) s t r =
-    let q = all-rest cs (after s c) (tally t (told s c)) (after-call s t r c) in
-    let e = after-rest s t r c in (
-      ap (λ (n : Numbers). n ∷ answersOf (after s c) cs) (answer-rest s t r c) ∙ ap (λ (ns : List Numbers). answerRest s c ∷ ns) (q .0 ∙ ap (λ (x : State). answersRest x cs) e),
-      q .1 ∙ ap (λ (x : State). afterAllRest x cs) e,
-    )
+-- in phase 0 there are no edges, so that none need be looked for
+abbrev edgesRest : State → List ℕ
+edgesRest s = cond (eqb (phase (s .journal)) 0) [] (edgesOf s)
 
-abbrev holdsRest : Case → Bool
-holdsRest c = sameNumbers (answersRest cleared (c .calls)) (c .answers) && sameList (edgesAfter (afterAllRest cleared (c .calls))) (c .edges)
+edges-rest : (s : State) (t : Tally) → Reach s t → edgesOf s ≡ edgesRest s
+edges-rest s t r = go (eqb (phase (s .journal)) 0) refl
+  where
+    go : (b : Bool) → eqb (phase (s .journal)) 0 ≡ b → edgesOf s ≡ cond b [] (edgesOf s)
+    go true e =
+        list-none (vertexCount (s .journal)) (s .adjacency)
+        (valid-facts (s .journal) (s .adjacency) (r .lengths) (r .sound) .empty (eqb-true (phase (s .journal)) 0 e))
+    go false e = refl
+
+abbrev holdsRest : State → List Step → List ℕ → Bool
+holdsRest s [] es = sameList (edgesRest s) es
+holdsRest s (x ∷ xs) es = sameNumbers (answerRest s (x .call)) (x .answer) && holdsRest (afterRest s (x .call)) xs es
+
+holds-rest : (xs : List Step) (es : List ℕ) (s : State) (t : Tally) → Reach s t → holdsFrom s xs es ≡ holdsRest s xs es
+holds-rest [] es s t r = ap (λ (e : List ℕ). sameList e es) (edges-rest s t r)
+holds-rest (x ∷ xs) es s t r =
+    let c = x .call in
+    ap (λ (n : Numbers). sameNumbers n (x .answer) && holdsFrom (after s c) xs es) (answer-rest s t r c)
+    ∙ ap (λ (b : Bool). sameNumbers (answerRest s c) (x .answer) && b)
+    (holds-rest xs es (after s c) (tally t (told s c)) (after-call s t r c) ∙ ap (λ (s : State). holdsRest s xs es) (after-rest s t r c))
 
 abbrev allRest : List Case → Bool
 allRest [] = true
-allRest (c ∷ cs) = holdsRest c && allRest cs
+allRest (c ∷ cs) = holdsRest cleared (c .steps) (c .edges) && allRest cs
 
-holds-rest : (c : Case) → holds c ≡ holdsRest c
-holds-rest c =
-    let q = all-rest (c .calls) cleared noTally reach-cleared in
-    ap (λ (ns : List Numbers). sameNumbers ns (c .answers) && sameList (edgesAfter (afterAll cleared (c .calls))) (c .edges)) (q .0)
-    ∙ ap (λ (s : State). sameNumbers (answersRest cleared (c .calls)) (c .answers) && sameList (edgesAfter s) (c .edges)) (q .1)
+all-rest : (cs : List Case) → allHold cs ≡ allRest cs
+all-rest [] = refl
+all-rest (c ∷ cs) =
+    ap (λ (b : Bool). b && allHold cs) (holds-rest (c .steps) (c .edges) cleared noTally reach-cleared)
+    ∙ ap (λ (b : Bool). holdsRest cleared (c .steps) (c .edges) && b) (all-rest cs)
 
-all-hold-rest : (cs : List Case) → allHold cs ≡ allRest cs
-all-hold-rest [] = refl
-all-hold-rest (c ∷ cs) = ap (λ (t : Bool). t && allHold cs) (holds-rest c) ∙ ap (λ (t : Bool). holdsRest c && t) (all-hold-rest cs)
-
-computed : allRest starred ≡ true
+starred-computed : allRest starred ≡ true
 unfolding δ sumTo allTo lowFrom lowest catTo iterate jdm edges
-computed = refl
+starred-computed = refl
 
-pub starred-hold : allHold starred ≡ true
-starred-hold = all-hold-rest starred ∙ computed
+ordered-computed : allRest ordered ≡ true
+unfolding δ sumTo allTo lowFrom lowest catTo iterate jdm edges
+ordered-computed = refl
+
+pub starred-hold : StarredHold
+starred-hold = all-rest starred ∙ starred-computed
+
+pub ordered-hold : OrderedHold
+ordered-hold = all-rest ordered ∙ ordered-computed
