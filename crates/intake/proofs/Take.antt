@@ -7,10 +7,10 @@ use Prim.Native.Nat.{ℕ, _+_, _≤_, _<_}
 use native.Mathlib.Omega.{arith}
 use lib.Dec.{eqb, ltb, leb}
 use lib.ListN.{length}
-use borrow.Author.Tests.{eqb-true, eq-eqb, leb-true, le-leb, ltb-true, lt-ltb, ltb-false, le-ltb}
+use borrow.Author.Tests.{eqb-true, eq-eqb, ne-eqb, leb-true, le-leb, ltb-true, lt-ltb, ltb-false, le-ltb}
 use Rattle.finite.proofs.All.{and-left, and-right, and-both}
 use Rattle.answer.specs.Refusals.{refusal, unless}
-use Rattle.answer.specs.declared.Cause.the-variants.{Conflict}
+use Rattle.answer.specs.declared.Cause.the-variants.{Phase, Conflict}
 use Rattle.answer.specs.declared.Refusal.{Refusal}
 use Rattle.answer.specs.declared.TakeAnswer.{TakeAnswer}
 use Rattle.answer.specs.declared.TakeAnswer.the-variants.{Taken, Held, Refused}
@@ -94,6 +94,17 @@ module _ (j g : List ℕ) (number : ℕ) (b : List ℕ) where
         state-go j g l v,
         and-left (blockLength (length b)) (eqb (firstBad b) (records b)) h,
         and-right (blockLength (length b)) (eqb (firstBad b) (records b)) h,
+      )
+
+  -- a new block on a laid state is refused with 3, also where the journal is full
+  pub take-new-laid : lengthsOk j g ≡ true → valid j g ≡ true → wellFormed b ≡ true → number ≡ blocks j → phase j ≡ 1
+      → takeAnswer j g number b ≡ Refused (refusal Phase 0 0)
+  take-new-laid l v h e p =
+      take-numbered l v h
+      ∙ rw (
+        le-leb number (blocks j) (omega arith),
+        le-ltb number (blocks j) (omega arith),
+        ne-eqb (phase j) 0 (λ z. absurd (omega (arith, z, p))),
       )
 
   held-not-taken : (t : Bool) (m : ℕ) → unless t (Refused (refusal Conflict 0 0)) Held ≡ Taken m → ⊥
