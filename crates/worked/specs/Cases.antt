@@ -66,9 +66,12 @@ abbrev pub holdsFrom : State → List Step → List ℕ → Bool
 holdsFrom s [] es = sameList (edgesOf s) es
 holdsFrom s (x ∷ xs) es = sameNumbers (answerOf s (x .call)) (x .answer) && holdsFrom (after s (x .call)) xs es
 
+abbrev pub holds : Case → Bool
+holds c = holdsFrom cleared (c .steps) (c .edges)
+
 abbrev pub allHold : List Case → Bool
 allHold [] = true
-allHold (c ∷ cs) = holdsFrom cleared (c .steps) (c .edges) && allHold cs
+allHold (c ∷ cs) = holds c && allHold cs
 
 -- answers by name: a block taken, with the number of the next; a block held; N laid out; switches of a join; joins and switches of a finish;
 -- bytes written; a refusal
@@ -173,7 +176,7 @@ ordered =
           ∷ complete gives no 3 0 0 ∷ list [] gives no 3 0 0 ∷ list (0 ∷ 0 ∷ []) gives no 3 0 0 ∷ [];
       edges = [];
     }
-    -- a block: 4 before 5, both before 6 (number too high), 7 and held (low number) and 3 (laid); 7 and held also when laid; laid twice is 3
+    -- a block: 4 before 5, both before 6 (number too high), 7 and held (low number) and 3 (laid); 7 and held also when laid; laying out again is 3
     ∷ record {
       steps =
           take 0 pair gives taken 1
@@ -207,13 +210,13 @@ ordered =
       edges = [];
     }
     ∷ record { steps = take 0 (rec 1 1 202 []) gives taken 1 ∷ layOut gives no 12 0 0 ∷ []; edges = [] }
-    -- on two vertices, linked, so that every cell is full: 13 before 14, 15 before 16; 18 for a byte too few; laid twice is 3
+    -- on two vertices, linked, so that every cell is full: 13 before 14, 15 before 16; 18 for a byte too few
     ∷ record {
       steps =
           take 0 pair gives taken 1 ∷ layOut gives laidOut 2 ∷ add 1 0 gives joined 0
           ∷ add 2 2 gives no 13 0 0 ∷ add 0 2 gives no 13 0 0 ∷ add 1 1 gives no 14 0 0 ∷ add 0 1 gives no 15 0 0 ∷ add 1 0 gives no 15 0 0
           ∷ remove 2 2 gives no 13 0 0 ∷ remove 2 0 gives no 13 0 0 ∷ remove 1 1 gives no 14 0 0
-          ∷ list (0 ∷ []) gives no 18 0 0 ∷ list (0 ∷ 0 ∷ []) gives written 2 ∷ layOut gives no 3 0 0 ∷ [];
+          ∷ list (0 ∷ []) gives no 18 0 0 ∷ list (0 ∷ 0 ∷ []) gives written 2 ∷ [];
       edges = 0 ∷ 1 ∷ [];
     }
     -- on document 004's four vertices: 16 names the degrees, lower first
