@@ -1,8 +1,9 @@
--- What a user takes from the theorems, clause by clause. A weaker statement of demand 3, or a tally that counts a block twice, would not give it.
+-- What a user takes from the theorems, clause by clause. A weaker statement of demand 2 or 3, or a tally that counts a block twice, would not
+-- give it.
 -- Assumes nothing.
-use mathlib.Core.Path.{_≡_, ap}
+use mathlib.Core.Path.{_≡_, refl, ap, _∙_}
 use mathlib.Core.Bool.{Bool, true, false, _&&_, not, cond}
-use mathlib.Core.List.{List}
+use mathlib.Core.List.{List, [], _∷_, _++_, append-assoc}
 use Prim.Native.Nat.{ℕ, _+_}
 use native.Mathlib.Omega.{arith}
 use lib.Dec.{eqb, ltb}
@@ -11,9 +12,12 @@ use Rattle.finite.proofs.All.{and-left, and-right, and-false}
 use Rattle.graph.specs.Theorems.{Realized}
 use Rattle.table.specs.Block.{wellFormed}
 use Rattle.journal.specs.Journal.{mostBlocks}
-use Rattle.demands.specs.Calls.{Call, cleared, afterAll}
+use Rattle.intake.specs.Take.{takeAnswer}
+use Rattle.demands.specs.Calls.{Call, take, cleared, afterAll}
+use Rattle.demands.specs.Accepted.{accepted, AcceptedIn}
 use Rattle.demands.specs.Tally.{Tally, noTally, toldTake, counts, withBlock, tally, tallyAll}
 use Rattle.demands.specs.Demand3.{RefusedForWantOfAGraph, OpenPair, CanBeJoined}
+use Rattle.demands.proofs.Demand2.{demand-2}
 use Rattle.demands.proofs.Demand3.{demand-3}
 
 module _ (calls : List Call) where
@@ -31,6 +35,19 @@ module _ (calls : List Call) where
   pub every-pair : tallyAll cleared noTally calls .laid ≡ true → (v w : ℕ) → OpenPair (tallyAll cleared noTally calls .table) (afterAll cleared calls) v w
       → CanBeJoined (tallyAll cleared noTally calls .table) (afterAll cleared calls) w v
   every-pair e v w o = demand-3 calls .1 e .joinable v w o .1
+
+  -- once a block was taken or held, no other bytes are, under its number
+  pub other-bytes-refused : (number : ℕ) (b b′ : List ℕ) → AcceptedIn calls number b
+      → accepted (takeAnswer (afterAll cleared calls .journal) (afterAll cleared calls .adjacency) number b′) ≡ true → b ≡ b′
+  other-bytes-refused number b b′ a h =
+      demand-2 .once (calls ++ take number b′ ∷ []) number b b′
+      (record {
+        before = a .before;
+        rest = a .rest ++ take number b′ ∷ [];
+        offered = ap (λ (cs : List Call). cs ++ take number b′ ∷ []) (a .offered) ∙ append-assoc (a .before) (take number b ∷ a .rest) (take number b′ ∷ []);
+        answer = a .answer;
+      })
+      (record { before = calls; rest = []; offered = refl; answer = h })
 
 -- a block that was counted is not counted when it is sent again
 pub resent-once : (t : Tally) (number : ℕ) (b : List ℕ) → counts t number b ≡ true
