@@ -1,18 +1,36 @@
-// What the program does with its input: takes records in blocks of 64 bytes, lays out, completes and prints the edges.
+// What the program does with its input: takes records in blocks of 64 bytes, lays out, completes, and writes the text that it prints.
+ghost use mathlib.Core.Path.{_≡_};
+ghost use mathlib.Core.Bool.{true};
+ghost use mathlib.Core.List.{_++_};
+ghost use Prim.Native.Nat.{_+_, _-_, _*_, _/_, _≤_, min};
+ghost use lib.ListN.{length};
+ghost use lib.Seq.{sets};
+ghost use Rattle.table.specs.Block.{blockMost};
+ghost use Rattle.journal.specs.Journal.{phase};
+ghost use Rattle.state.specs.Valid.{lengthsOk, valid};
+ghost use Rattle.answer.specs.declared.Verdict.the-variants.{Go};
+ghost use Rattle.answer.specs.declared.LayOutAnswer.the-variants.{LaidOut};
+ghost use Rattle.intake.specs.Take.{takeAnswer, takeJournal};
+ghost use Rattle.io.specs.Counts.{Counts};
+ghost use Rattle.text.specs.Text.{headLine, edgeLines, headMost};
+ghost use Rattle.runner.specs.Program.{blockIn, takeVerdict, takeAll, stateText, laidText, takenText, programText, textMost};
 use adjacency::ADJACENCY_SIZE;
 use answer::CompleteAnswer;
 use answer::LayOutAnswer;
-use answer::Refusal;
 use answer::TakeAnswer;
 use answer::Verdict;
 use answer::WrittenAnswer;
-use answer::number_of;
 use journal::JOURNAL_SIZE;
 use journal::MOST_BLOCKS;
 use libc::STDOUT_FILENO;
 use table::degree::DEGREES;
 use table::layout::MOST_VERTICES;
 use table::record::BLOCK_MOST;
+use text::EDGE_MOST;
+use text::HEAD_MOST;
+use text::put_edges;
+use text::put_head;
+use text::put_refused;
 
 // The bytes that can matter: one block more than the journal has room for.
 pub const INPUT_MOST: usize = BLOCK_MOST * (MOST_BLOCKS + 1);
@@ -20,65 +38,12 @@ pub const INPUT_MOST: usize = BLOCK_MOST * (MOST_BLOCKS + 1);
 // The most bytes of an edge list: 2 for each edge, and each edge has two ends.
 const LIST_MOST: usize = MOST_VERTICES * (DEGREES - 1);
 
-ghost use Prim.Native.Nat.{_≤_};
-
-// The end of the block that starts at `at`: 64 bytes on, or where the input ends.
-fn block_end(at: usize, len: usize) -> usize
-    requires { ⌜ at ≤ len ⌝ }
-    ensures { λ r. ⌜ (r ≤ len) × (at ≤ r) ⌝ }
-{
-    if len - at < BLOCK_MOST {
-        return len;
-    }
-    at + BLOCK_MOST
-}
-
-// Takes the input block by block, up to the first refusal.
-fn take_all(journal: &mut [u8], adjacency: &[u8], input: &[u8]) -> Verdict {
-    let mut at = 0;
-    for number in 0..MOST_BLOCKS + 1 {
-        if input.len() <= at {
-            return Verdict::Go;
-        }
-        let end = block_end(at, input.len());
-        let answer = intake::taking::take_block(journal, adjacency, number, &input[at..end]);
-        if let TakeAnswer::Refused(r) = answer {
-            return Verdict::Stop(r);
-        }
-        at = end;
-    }
-    Verdict::Go
-}
-
-fn print_refusal(r: Refusal) {
-    let cause = r.cause;
-    io::write_all(STDOUT_FILENO, b"refused ");
-    io::print_decimal(STDOUT_FILENO, number_of(cause) as u64);
-    io::write_all(STDOUT_FILENO, b" ");
-    io::print_decimal(STDOUT_FILENO, r.first as u64);
-    io::write_all(STDOUT_FILENO, b" ");
-    io::print_decimal(STDOUT_FILENO, r.second as u64);
-    io::write_all(STDOUT_FILENO, b"\n");
-}
-
-// The first line: N, the edges laid and the switches made.
-fn print_head(n: usize, edges: usize, switches: usize) {
-    io::write_all(STDOUT_FILENO, b"boards ");
-    io::print_decimal(STDOUT_FILENO, n as u64);
-    io::write_all(STDOUT_FILENO, b" links ");
-    io::print_decimal(STDOUT_FILENO, edges as u64);
-    io::write_all(STDOUT_FILENO, b" switches ");
-    io::print_decimal(STDOUT_FILENO, switches as u64);
-    io::write_all(STDOUT_FILENO, b"\n");
-}
-
-fn print_number(x: u8) {
-    io::print_decimal(STDOUT_FILENO, x as u64);
-}
+// The most bytes of the text: the first line, and a line for each edge.
+pub const TEXT_MOST: usize = HEAD_MOST + EDGE_MOST * (LIST_MOST / 2);
 
 // The smaller of two numbers.
 fn least(a: usize, b: usize) -> usize
-    ensures { λ r. ⌜ (r ≤ a) × (r ≤ b) ⌝ }
+    ensures { λ r. ⌜ r ≡ min a b ⌝ }
 {
     if a < b {
         return a;
@@ -86,55 +51,137 @@ fn least(a: usize, b: usize) -> usize
     b
 }
 
-// A line for each edge of a list of len bytes.
-fn print_edges(edges: &[u8], len: usize) {
-    let n = least(len, edges.len()) / 2;
-    for i in 0..n {
-        print_number(edges[2 * i]);
-        io::write_all(STDOUT_FILENO, b" ");
-        print_number(edges[2 * i + 1]);
-        io::write_all(STDOUT_FILENO, b"\n");
+// How many blocks len bytes are; the last may be shorter.
+fn block_count(len: usize) -> usize
+    ensures { λ r. ⌜ r ≡ (len + (blockMost - 1)) / blockMost ⌝ }
+{
+    if len % BLOCK_MOST == 0 {
+        return len / BLOCK_MOST;
+    }
+    len / BLOCK_MOST + 1
+}
+
+// Block `number` of the input: 64 bytes, or what is left of it.
+fn block_in(input: &[u8], number: usize) -> &[u8]
+    requires { ⌜ blockMost * number ≤ length (now input) ⌝ }
+    ensures { λ r. ⌜ now r ≡ blockIn (now (input .entry)) number ⌝ }
+{
+    let at = BLOCK_MOST * number;
+    if input.len() - at < BLOCK_MOST {
+        return &input[at..];
+    }
+    &input[at..at + BLOCK_MOST]
+}
+
+// Takes one block: refused or not.
+fn take_one(journal: &mut [u8], adjacency: &[u8], number: usize, block: &[u8]) -> Verdict
+    ensures { λ r. ⌜ r ≡ takeVerdict (takeAnswer (now (journal .entry)) (now (adjacency .entry)) number (now (block .entry))) ⌝ }
+    ensures { λ _. ⌜ now (journal .exit) ≡ takeJournal (takeAnswer (now (journal .entry)) (now (adjacency .entry)) number (now (block .entry))) (now (journal .entry)) (now (block .entry)) ⌝ }
+{
+    let answer = intake::taking::take_block(journal, adjacency, number, block);
+    match answer {
+        TakeAnswer::Taken(_) => Verdict::Go,
+        TakeAnswer::Held => Verdict::Go,
+        TakeAnswer::Refused(r) => Verdict::Stop(r),
     }
 }
 
-// Lists a completed state.
-fn print_state(journal: &[u8], adjacency: &[u8], n: usize, switches: usize) {
-    let mut output = [0u8; LIST_MOST];
-    let answer = editing::listing::edge_list(journal, adjacency, &mut output);
-    match answer {
-        WrittenAnswer::Refused(r) => print_refusal(r),
-        WrittenAnswer::Written(len) => {
-            print_head(n, len / 2, switches);
-            print_edges(&output, len);
+// Takes the input block by block, up to the first refusal. The 65th block is refused, so nothing behind it matters.
+fn take_all(journal: &mut [u8], adjacency: &[u8], input: &[u8]) -> Verdict
+    ensures { λ r. ⌜ r ≡ takeAll (now (journal .entry)) (now (adjacency .entry)) (now (input .entry)) .verdict ⌝ }
+    ensures { λ _. ⌜ now (journal .exit) ≡ takeAll (now (journal .entry)) (now (adjacency .entry)) (now (input .entry)) .journal ⌝ }
+{
+    let n = least(block_count(input.len()), MOST_BLOCKS + 1);
+    for number in 0..n {
+        let verdict = take_one(journal, adjacency, number, block_in(input, number));
+        match verdict {
+            Verdict::Stop(r) => return Verdict::Stop(r),
+            Verdict::Go => {}
         }
     }
+    Verdict::Go
 }
 
-// Completes a laid state and prints it.
-fn finish(journal: &[u8], adjacency: &mut [u8], n: usize) {
+// The first line and a line for each edge of a list.
+fn put_list(output: &mut [u8], n: usize, switches: usize, edges: &[u8]) -> usize
+    requires { ⌜ headMost + length (edgeLines (now edges)) ≤ length (now output) ⌝ }
+    ensures { λ r. ⌜ r ≡ length (headLine n (length (now (edges .entry)) / 2) switches ++ edgeLines (now (edges .entry))) ⌝ }
+    ensures { λ _. ⌜ now (output .exit) ≡ sets (now (output .entry)) 0 (headLine n (length (now (edges .entry)) / 2) switches ++ edgeLines (now (edges .entry))) ⌝ }
+{
+    let at = put_head(output, 0, n, edges.len() / 2, switches);
+    put_edges(output, at, edges)
+}
+
+// A completed state. Its list is never refused: there is room for every edge.
+fn put_state(
+    journal: &[u8],
+    adjacency: &[u8],
+    n: usize,
+    switches: usize,
+    output: &mut [u8],
+) -> usize
+    requires { ⌜ (lengthsOk (now journal) (now adjacency) ≡ true) × (valid (now journal) (now adjacency) ≡ true) × (phase (now journal) ≡ 1) × (textMost ≤ length (now output)) ⌝ }
+    ensures { λ r. ⌜ r ≡ length (stateText n switches (now (journal .entry)) (now (adjacency .entry))) ⌝ }
+    ensures { λ _. ⌜ now (output .exit) ≡ sets (now (output .entry)) 0 (stateText n switches (now (journal .entry)) (now (adjacency .entry))) ⌝ }
+{
+    let mut list = [0u8; LIST_MOST];
+    let answer = editing::listing::edge_list(journal, adjacency, &mut list);
+    match answer {
+        WrittenAnswer::Refused(r) => put_refused(output, 0, r),
+        WrittenAnswer::Written(len) => put_list(output, n, switches, &list[..len]),
+    }
+}
+
+// Completes a laid state of n vertices.
+fn finish(journal: &[u8], adjacency: &mut [u8], n: usize, output: &mut [u8]) -> usize
+    requires { ⌜ textMost ≤ length (now output) ⌝ }
+    ensures { λ r. ⌜ r ≡ length (laidText (LaidOut n) (now (journal .entry)) (now (adjacency .entry))) ⌝ }
+    ensures { λ _. ⌜ now (output .exit) ≡ sets (now (output .entry)) 0 (laidText (LaidOut n) (now (journal .entry)) (now (adjacency .entry))) ⌝ }
+{
     let answer = completion::complete(journal, adjacency);
     match answer {
-        CompleteAnswer::Refused(r) => print_refusal(r),
-        CompleteAnswer::Completed(_, switches) => print_state(journal, adjacency, n, switches),
+        CompleteAnswer::Refused(r) => put_refused(output, 0, r),
+        CompleteAnswer::Completed(_, switches) => put_state(
+            journal,
+            adjacency,
+            n,
+            switches,
+            output,
+        ),
     }
 }
 
 // Lays out what was taken.
-fn lay_out(journal: &mut [u8], adjacency: &mut [u8]) {
+fn lay_out(journal: &mut [u8], adjacency: &mut [u8], output: &mut [u8]) -> usize
+    requires { ⌜ textMost ≤ length (now output) ⌝ }
+    ensures { λ r. ⌜ r ≡ length (takenText Go (now (journal .entry)) (now (adjacency .entry))) ⌝ }
+    ensures { λ _. ⌜ now (output .exit) ≡ sets (now (output .entry)) 0 (takenText Go (now (journal .entry)) (now (adjacency .entry))) ⌝ }
+{
     let answer = intake::laying_out::lay_out(journal, adjacency);
     match answer {
-        LayOutAnswer::Refused(r) => print_refusal(r),
-        LayOutAnswer::LaidOut(n) => finish(journal, adjacency, n),
+        LayOutAnswer::Refused(r) => put_refused(output, 0, r),
+        LayOutAnswer::LaidOut(n) => finish(journal, adjacency, n, output),
     }
 }
 
-// Takes, lays out, completes and prints the records of an input. The 65th block is refused, so nothing behind it matters.
-pub fn run(input: &[u8]) {
+// The program's text for an input, at the start of the output. Its length; it always fits.
+pub fn render(input: &[u8], output: &mut [u8; TEXT_MOST]) -> usize
+    ensures { λ r. ⌜ r ≡ length (programText (now (input .entry))) ⌝ }
+    ensures { λ r. ⌜ Counts r (now (output .exit)) ⌝ }
+    ensures { λ _. ⌜ now (output .exit) ≡ sets (now (output .entry)) 0 (programText (now (input .entry))) ⌝ }
+{
     let mut journal = [0u8; JOURNAL_SIZE];
     let mut adjacency = [0u8; ADJACENCY_SIZE];
     let taken = take_all(&mut journal, &adjacency, input);
     match taken {
-        Verdict::Stop(r) => print_refusal(r),
-        Verdict::Go => lay_out(&mut journal, &mut adjacency),
+        Verdict::Stop(r) => put_refused(output, 0, r),
+        Verdict::Go => lay_out(&mut journal, &mut adjacency, output),
     }
+}
+
+// Prints the text for an input.
+pub fn run(input: &[u8]) -> bool {
+    let mut output = [0u8; TEXT_MOST];
+    let len = render(input, &mut output);
+    io::write_all(STDOUT_FILENO, &output[..len])
 }

@@ -1,35 +1,60 @@
--- `runner::take_all` meets its contract.
-use mathlib.Core.Path.{_≡_}
-use Prim.Native.Nat.{_+_, _≤_, _-_}
+-- `runner::take_all` meets its contract: the blocks so far went into the journal.
+-- Assumes nothing.
+use mathlib.Core.Path.{_≡_, refl, sym, _∙_}
+use Prim.Native.Nat.{_≤_, _-_}
 use native.Mathlib.Omega.{arith}
 use borrow.Author.Needs.{needs}
 use lib.ListN.{length}
-use Rattle.journal.specs.Journal.{mostBlocks}
+use Rattle.finite.proofs.Fold.{foldTo-none}
+use Rattle.runner.proofs.Taking.{Went, went-next, first-refusal, all-went}
 use Rattle.runner.proofs.take_all.Statement.{statement}
 use Rattle.runner.proofs.take_all.Tie as tie
 
 abbrev Inv-loop : tie.InvT-loop
-Inv-loop journal₀ adjacency input at₀ number₀ journal at number = (at ≤ length input) × (number ≤ mostBlocks + 1) × (length journal ≡ length journal₀)
+Inv-loop journal₀ adjacency input n number₀ journal number =
+    (number ≤ n) × (length journal ≡ length journal₀) × Went journal₀ adjacency input number journal
 
 abbrev μ-loop : tie.MeasureT-loop
-μ-loop journal₀ adjacency input at₀ number₀ journal at number = mostBlocks + 1 - number
+μ-loop journal₀ adjacency input n number₀ journal number = n - number
 
 pub take-all-spec : {M : Type 1} → statement M
 take-all-spec =
     tie.close (tie.spec Inv-loop μ-loop
-    (λ c. search needs)  -- loop-holds
+    (λ c κs. tt)  -- block-count-requires
+    (λ c. omega arith)  -- add-least
+    (λ c κs. tt)  -- least-requires
+    (λ c. (omega arith, refl, foldTo-none _ _))  -- loop-holds
+    (λ c κs. omega arith)  -- block-in-requires
+    (λ c κs. tt)  -- take-one-requires
+    (λ c. search needs)  -- enum-known-verdict
     (λ c. search needs)  -- same-length
-    (λ c. search needs)  -- returns
-    (λ c κs. omega arith)  -- block-end-requires
-    (λ c. omega arith)  -- sub-take-block
-    (λ c. omega arith)  -- part-take-block-start
-    (λ c. omega arith)  -- part-take-block-end
-    (λ c κs. tt)  -- take-block-requires
-    (λ c. search needs)  -- enum-known-answer
-    (λ c. search needs)  -- same-length-2
-    (λ c. search needs)  -- returns-2
+    (λ c.
+    let v = c .before in
+    let t = v .before .before .before .before in
+    let b = t .before in
+    let l = b .before .before .before in
+    let a = l .before .before .before .before .before .before .args in
+    let e = rw (b .block-in .ensures) at (t .take-one .ensures) in
+    rw (first-refusal (a .journal .now) (a .adjacency .now) (a .input .now) (l .loop .number) (l .loop .journal) _ (omega arith) (l .loop .inv .2)
+    (sym (e .0) ∙ v .verdict .given .1))
+    (refl, e .1))  -- returns
+    (λ c. search needs)  -- enum-told
     (λ c. omega arith)  -- add-number
     (λ c. omega arith)  -- loop-less
-    (λ c. search needs)  -- loop-again
-    (λ c. search needs)  -- same-length-3
-    (λ c. search needs))  -- returns-3
+    (λ c.
+    let t = c .before .before .before .before in
+    let b = t .before in
+    let l = b .before .before .before in
+    let a = l .before .before .before .before .before .before .args in
+    let e = rw (b .block-in .ensures) at (t .take-one .ensures) in (
+      omega arith,
+      search needs,
+      rw (e .1)
+          (went-next (a .journal .now) (a .adjacency .now) (a .input .now) (l .loop .number) (l .loop .journal) (l .loop .inv .2)
+          (sym (e .0) ∙ c .enum-told .given .1)),
+    ))  -- loop-again
+    (λ c. c .before .loop .inv .1)  -- same-length-2
+    (λ c.
+    let l = c .before in
+    let a = l .before .before .before .before .before .before .args in
+    rw (all-went (a .journal .now) (a .adjacency .now) (a .input .now) (l .loop .number) (l .loop .journal) (omega arith) (l .loop .inv .2)) (refl, refl)))  -- returns-2

@@ -1,0 +1,87 @@
+-- What the program says by the answers of its calls: each step's text is the next one's, or the refusal.
+-- Assumes nothing.
+use mathlib.Core.Path.{_≡_, sym, ap, subst, _∙_}
+use mathlib.Core.Bool.{true}
+use mathlib.Core.List.{List}
+use Prim.Native.Nat.{ℕ, _+_, _≤_}
+use native.Mathlib.Nat.{zero-add}
+use native.Mathlib.Omega.{arith}
+use lib.ListN.{length}
+use lib.Seq.{sets, length-sets, length-take-le}
+use Rattle.answer.specs.declared.Refusal.{Refusal}
+use Rattle.answer.specs.declared.Verdict.{Verdict}
+use Rattle.answer.specs.declared.Verdict.the-variants.{Go, Stop}
+use Rattle.answer.specs.declared.LayOutAnswer.{LayOutAnswer}
+use Rattle.answer.specs.declared.LayOutAnswer.the-variants.{LaidOut, Refused as LayOutRefused}
+use Rattle.answer.specs.declared.CompleteAnswer.{CompleteAnswer}
+use Rattle.answer.specs.declared.CompleteAnswer.the-variants.{Completed, Refused as CompleteRefused}
+use Rattle.journal.specs.Journal.{phase}
+use Rattle.state.specs.Valid.{lengthsOk, valid}
+use Rattle.intake.specs.LayOut.{layOutAnswer, layOutJournal}
+use Rattle.completion.specs.Complete.{completed, completeAnswer, completeAdjacency}
+use Rattle.completion.proofs.Entry.{completed-facts, complete-works}
+use Rattle.io.specs.Counts.{Counts}
+use Rattle.text.specs.Text.{refusedLine}
+use Rattle.text.proofs.Written.{Written}
+use Rattle.runner.specs.Program.{takeAll, stateText, completedText, laidText, takenText, textFrom, textMost}
+use Rattle.runner.proofs.Room.{text-fits}
+
+-- the text t stands at the start of the list l, which is then m, and p is its length
+abbrev pub Says : List ℕ → List ℕ → ℕ → List ℕ → Type 0
+Says t l p m = (p ≡ length t) × (m ≡ sets l 0 t)
+
+-- the same of an equal text
+pub says : (t u l : List ℕ) (p : ℕ) (m : List ℕ) → t ≡ u → Says u l p m → Says t l p m
+says t u l p m e w = subst (λ (t : List ℕ). Says t l p m) (sym e) w
+
+pub says-line : (t u l : List ℕ) (p : ℕ) (m : List ℕ) → t ≡ u → Written l 0 u p m → Says t l p m
+says-line t u l p m e w = says t u l p m e (w .0 ∙ zero-add (length u), w .1)
+
+-- after completing
+module _ (j g : List ℕ) (n : ℕ) (a : CompleteAnswer) (g′ : List ℕ)
+    (e : (a ≡ completeAnswer j g) × (g′ ≡ completeAdjacency (completeAnswer j g) j g)) where
+  pub said-refused : (r : Refusal) → a ≡ CompleteRefused r → laidText (LaidOut n) j g ≡ refusedLine r
+  said-refused r h = ap (λ (a : CompleteAnswer). completedText a n j (completeAdjacency a j g)) (sym (e .0) ∙ h)
+
+  module _ (joins switches : ℕ) (h : a ≡ Completed joins switches) where
+    pub said-completed : laidText (LaidOut n) j g ≡ stateText n switches j g′
+    said-completed =
+        ap (λ (a : CompleteAnswer). completedText a n j (completeAdjacency (completeAnswer j g) j g)) (sym (e .0) ∙ h)
+        ∙ ap (λ (g : List ℕ). stateText n switches j g) (sym (e .1))
+
+    pub completed-laid : (lengthsOk j g′ ≡ true) × (valid j g′ ≡ true) × (phase j ≡ 1)
+    completed-laid =
+        let f = completed-facts j g joins switches (sym (e .0) ∙ h) .0 in
+        let w = complete-works j g f in
+        let q : g′ ≡ completed j g .adjacency = e .1 ∙ ap (λ (a : CompleteAnswer). completeAdjacency a j g) (sym (e .0) ∙ h) in
+        rw q (w .lengths, w .sound, f .phased)
+
+-- after laying out
+module _ (j g : List ℕ) (a : LayOutAnswer) (j′ : List ℕ) (e : (a ≡ layOutAnswer j g) × (j′ ≡ layOutJournal (layOutAnswer j g) j)) where
+  pub said-not-laid : (r : Refusal) → a ≡ LayOutRefused r → takenText Go j g ≡ refusedLine r
+  said-not-laid r h = ap (λ (a : LayOutAnswer). laidText a (layOutJournal a j) g) (sym (e .0) ∙ h)
+
+  pub said-laid : (n : ℕ) → a ≡ LaidOut n → takenText Go j g ≡ laidText (LaidOut n) j′ g
+  said-laid n h =
+      ap (λ (a : LayOutAnswer). laidText a (layOutJournal (layOutAnswer j g) j) g) (sym (e .0) ∙ h)
+      ∙ ap (λ (j : List ℕ). laidText (LaidOut n) j g) (sym (e .1))
+
+-- after taking
+module _ (j g input : List ℕ) (v : Verdict) (j′ : List ℕ) (e : (v ≡ takeAll j g input .verdict) × (j′ ≡ takeAll j g input .journal)) where
+  pub said-stopped : (r : Refusal) → v ≡ Stop r → textFrom j g input ≡ refusedLine r
+  said-stopped r h = ap (λ (v : Verdict). takenText v (takeAll j g input .journal) g) (sym (e .0) ∙ h)
+
+  pub said-taken : v ≡ Go → textFrom j g input ≡ takenText Go j′ g
+  said-taken h =
+      ap (λ (v : Verdict). takenText v (takeAll j g input .journal) g) (sym (e .0) ∙ h)
+      ∙ ap (λ (j : List ℕ). takenText Go j g) (sym (e .1))
+
+-- and it fits
+pub says-fits : (j g input l : List ℕ) (p : ℕ) (m : List ℕ) → textMost ≤ length l → Says (textFrom j g input) l p m
+    → (p ≡ length (textFrom j g input)) × (Counts p m × (m ≡ sets l 0 (textFrom j g input)))
+says-fits j g input l p m room w = (w .0, ((fits, sym (length-take-le p m fits)), w .1))
+  where
+    fits : p ≤ length m
+    fits =
+        rw (w .1, length-sets l 0 (textFrom j g input))
+        (omega (arith, room, w .0, text-fits (takeAll j g input .verdict) (takeAll j g input .journal) g))

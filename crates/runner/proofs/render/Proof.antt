@@ -1,0 +1,46 @@
+-- `runner::render` meets its contract.
+-- Assumes nothing.
+use Prim.Native.Nat.{ℕ}
+use native.Mathlib.Omega.{arith}
+use borrow.Author.Needs.{needs}
+use lib.ListN.{replicate}
+use Rattle.journal.specs.Journal.{journalSize}
+use Rattle.adjacency.specs.Adjacency.{adjacencySize}
+use Rattle.runner.specs.Program.{textFrom}
+use Rattle.runner.proofs.Said.{says, says-line, said-stopped, said-taken, says-fits}
+use Rattle.runner.proofs.render.Statement.{statement}
+use Rattle.runner.proofs.render.Tie as tie
+
+pub render-spec : {M : Type 1} → statement M
+render-spec =
+    tie.close (tie.spec
+    (λ c. search needs)  -- slice-aggregate-take-all
+    (λ c. search needs)  -- slice-aggregate-take-all-2
+    (λ c κs. tt)  -- take-all-requires
+    (λ c. search needs)  -- enum-known-taken
+    (λ c κs. search needs)  -- put-refused-requires
+    (λ c. search needs)  -- enum-told
+    (λ c. search needs)  -- slice-aggregate-lay-out
+    (λ c. search needs)  -- slice-aggregate-lay-out-2
+    (λ c κs. search needs)  -- lay-out-requires
+    (λ c.
+    let k = c .before .before .before in
+    let t = k .before .before .before in
+    let a = t .before .before .before .before .args in
+    let j = replicate {A = ℕ} journalSize 0 in
+    let g = replicate {A = ℕ} adjacencySize 0 in
+    says-fits j g (a .input .now) (a .output .now) _ _ (search needs)
+    (says-line (textFrom j g (a .input .now)) _ (a .output .now) _ _
+    (said-stopped j g (a .input .now) _ _ (t .take-all .ensures) _ (k .taken .given .1))
+    (c .put-refused .ensures)))  -- returns
+    (λ c.
+    let p = c .before .before in
+    let k = p .before .before .before .before in
+    let t = k .before .before .before in
+    let a = t .before .before .before .before .args in
+    let j = replicate {A = ℕ} journalSize 0 in
+    let g = replicate {A = ℕ} adjacencySize 0 in
+    says-fits j g (a .input .now) (a .output .now) _ _ (search needs)
+    (says (textFrom j g (a .input .now)) _ (a .output .now) _ _
+    (said-taken j g (a .input .now) _ _ (t .take-all .ensures) (k .enum-told .given .1))
+    (p .lay-out .ensures))))  -- returns-2
