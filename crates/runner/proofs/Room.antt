@@ -2,10 +2,9 @@
 -- Assumes nothing.
 use mathlib.Core.Path.{_≡_, refl, sym, ap, subst, _∙_}
 use mathlib.Core.Bool.{true}
-use mathlib.Core.List.{List, _++_}
+use mathlib.Core.List.{List}
 use Prim.Native.Nat.{ℕ, _+_, _*_, _/_, _≤_, _<_}
 use native.Mathlib.Omega.{arith}
-use lib.Dec.{leb}
 use lib.ListN.{length, getD, take, length-append}
 use lib.Seq.{sets, length-sets}
 use borrow.Author.Tests.{le-leb}
@@ -21,9 +20,9 @@ use Rattle.answer.specs.declared.WrittenAnswer.the-variants.{Written, Refused a
 use Rattle.slices.proofs.Part.{take-sets}
 use Rattle.journal.specs.Journal.{phase, jdmOf}
 use Rattle.state.specs.Valid.{lengthsOk, valid}
-use Rattle.state.specs.Laid.{vertexCount, degreeAt, edgeTotal}
+use Rattle.state.specs.Laid.{vertexCount, degreeAt}
+use Rattle.state.proofs.Facts.{edgeTotal, StateFacts, Laid, valid-facts}
 use Rattle.state.proofs.Checks.{phase-go}
-use Rattle.state.proofs.Facts.{StateFacts, Laid, valid-facts}
 use Rattle.intake.specs.LayOut.{layOutAnswer, layOutJournal}
 use Rattle.editing.specs.List.{listBytes, listAnswer, listOutput}
 use Rattle.editing.proofs.List.{list-length}

@@ -1,7 +1,6 @@
 -- `runner::block_count` meets its contract.
 -- Assumes nothing.
 use native.Mathlib.Omega.{arith}
-use borrow.Author.Needs.{needs}
 use Rattle.runner.proofs.block_count.Statement.{statement}
 use Rattle.runner.proofs.block_count.Tie as tie
 

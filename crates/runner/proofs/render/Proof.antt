@@ -1,7 +1,6 @@
 -- `runner::render` meets its contract.
 -- Assumes nothing.
 use Prim.Native.Nat.{ℕ}
-use native.Mathlib.Omega.{arith}
 use borrow.Author.Needs.{needs}
 use lib.ListN.{replicate}
 use Rattle.journal.specs.Journal.{journalSize}
