@@ -18,8 +18,8 @@ use Rattle.graph.specs.Tests.{degrees, count, vertices, vertexDegree}
 use Rattle.graph.proofs.Matrix.{jdm-classes}
 use Rattle.graph.proofs.Numbering.{classOf-rises}
 use Rattle.graph.proofs.Counts.{vertex-class}
-use Rattle.table.specs.Layout.{mostVertices}
-use Rattle.table.specs.Inner.Arrays.{classesOf, classIn}
+use Rattle.layout.specs.Layout.{mostVertices}
+use Rattle.layout.specs.Inner.Arrays.{classesOf, classIn}
 use Rattle.adjacency.specs.Adjacency.{edge, degreesWithin, cellsWithin}
 
 module _ (n : ℕ) (cls cls′ : ℕ → ℕ) (same : (v : ℕ) → v < n → cls v ≡ cls′ v) (g : List ℕ) where

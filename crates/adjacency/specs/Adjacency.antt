@@ -9,7 +9,7 @@ use Rattle.finite.specs.Range.{allTo}
 use Rattle.graph.specs.Graph.{Graph, degree, jdm}
 use Rattle.graph.specs.Tests.{degrees}
 use Rattle.slices.specs.Slices.{allZero}
-use Rattle.table.specs.Layout.{mostVertices}
+use Rattle.layout.specs.Layout.{mostVertices}
 
 -- the matrix has 200 rows of 200 bytes, 40,000 in all
 abbrev pub side : ℕ

@@ -9,17 +9,17 @@ ghost use Rattle.graph.specs.Graph.{degree, edges};
 ghost use Rattle.graph.specs.Tests.{degrees, vertices, vertexDegree};
 ghost use Rattle.slices.specs.Slices.{allZero};
 ghost use Rattle.table.specs.Inner.Cells.{matrixOf, AtMost, cellSumMost};
-ghost use Rattle.table.specs.Layout.{mostVertices};
-ghost use Rattle.table.specs.Inner.Arrays.{classesOf, classIn};
+ghost use Rattle.layout.specs.Layout.{mostVertices};
+ghost use Rattle.layout.specs.Inner.Arrays.{classesOf, classIn};
 ghost use Rattle.adjacency.specs.Adjacency.{adjacencySize, side, edge, setEdge, rowMirrored, mirrored, zeroOutside, degreesWithin, cellsWithin, adjacencyOk};
 ghost use Rattle.adjacency.specs.Inner.Sums.{sumsSize, Added, classDegree};
+use layout::MOST_VERTICES;
 use slices::all_zero;
 use slices::wide;
 use table::cells::CELLS;
 use table::cells::upper_cell;
 use table::cells::wide32;
 use table::degree::DEGREES;
-use table::layout::MOST_VERTICES;
 
 pub const SIDE: usize = MOST_VERTICES;
 

@@ -1,31 +1,19 @@
 // The C interface: one export for each entry (include/replica.h). Each calls the entry and hands its answer back in document 01's numbers.
-mod numbers;
-
 ghost use mathlib.Core.Path.{_≡_};
 ghost use lib.ListN.{length};
 ghost use Rattle.answer.specs.Numbers.{clearNumbers, takeNumbers, layOutNumbers, figuresNumbers, addNumbers, removeNumbers, completeNumbers, writtenNumbers};
-ghost use Rattle.intake.specs.Clear.{clearAnswer, clearBytes};
-ghost use Rattle.intake.specs.Take.{takeAnswer, takeJournal};
-ghost use Rattle.intake.specs.Held.{lengthAnswer};
-ghost use Rattle.intake.specs.LayOut.{layOutAnswer, layOutJournal};
-ghost use Rattle.intake.specs.Figures.{figuresAnswer};
+ghost use Rattle.clearing.specs.Clear.{clearAnswer, clearBytes};
+ghost use Rattle.taking.specs.Take.{takeAnswer, takeJournal};
+ghost use Rattle.reading_back.specs.Held.{lengthAnswer};
+ghost use Rattle.laying_out.specs.LayOut.{layOutAnswer, layOutJournal};
+ghost use Rattle.figures.specs.Figures.{figuresAnswer};
 ghost use Rattle.editing.specs.Add.{addAnswer, addAdjacency};
 ghost use Rattle.editing.specs.Remove.{removeAnswer, removeAdjacency};
 ghost use Rattle.editing.specs.List.{listAnswer, listOutput};
 ghost use Rattle.survey.specs.Survey.{surveyAnswer, surveyOutput};
 ghost use Rattle.completion.specs.Complete.{completeAnswer, completeAdjacency};
-ghost use Rattle.capi.specs.Flat.{flat, heldNumbers};
-
-// number is 0 where the call did its work, else the refusal's number with its places in first and second. What is not named is 0.
-#[repr(C)]
-pub struct ReplicaAnswer {
-    pub number: usize,
-    pub first: usize,
-    pub second: usize,
-    pub third: usize,
-    pub fourth: usize,
-    pub fifth: usize,
-}
+ghost use Rattle.numbers.specs.Flat.{flat, heldNumbers};
+use numbers::ReplicaAnswer;
 
 #[no_mangle]
 pub extern "C" fn replica_clear(journal: &mut [u8], adjacency: &mut [u8]) -> ReplicaAnswer
@@ -33,7 +21,7 @@ pub extern "C" fn replica_clear(journal: &mut [u8], adjacency: &mut [u8]) -> Rep
     ensures { λ _. ⌜ now (journal .exit) ≡ clearBytes (clearAnswer (now (journal .entry)) (now (adjacency .entry))) (now (journal .entry)) ⌝ }
     ensures { λ _. ⌜ now (adjacency .exit) ≡ clearBytes (clearAnswer (now (journal .entry)) (now (adjacency .entry))) (now (adjacency .entry)) ⌝ }
 {
-    numbers::of_clear(intake::clearing::clear(journal, adjacency))
+    numbers::of_clear(clearing::clear(journal, adjacency))
 }
 
 #[no_mangle]
@@ -46,7 +34,7 @@ pub extern "C" fn replica_take_block(
     ensures { λ r. ⌜ r ≡ flat (takeNumbers (takeAnswer (now (journal .entry)) (now (adjacency .entry)) number (now (block .entry)))) ⌝ }
     ensures { λ _. ⌜ now (journal .exit) ≡ takeJournal (takeAnswer (now (journal .entry)) (now (adjacency .entry)) number (now (block .entry))) (now (journal .entry)) (now (block .entry)) ⌝ }
 {
-    numbers::of_take(intake::taking::take_block(journal, adjacency, number, block))
+    numbers::of_take(taking::take_block(journal, adjacency, number, block))
 }
 
 #[no_mangle]
@@ -59,7 +47,7 @@ pub extern "C" fn replica_held_block(
 {
     numbers::of_held(
         number,
-        intake::reading_back::held_block_length(journal, adjacency, number),
+        reading_back::held_block_length(journal, adjacency, number),
     )
 }
 
@@ -68,7 +56,7 @@ pub extern "C" fn replica_lay_out(journal: &mut [u8], adjacency: &[u8]) -> Repli
     ensures { λ r. ⌜ r ≡ flat (layOutNumbers (layOutAnswer (now (journal .entry)) (now (adjacency .entry)))) ⌝ }
     ensures { λ _. ⌜ now (journal .exit) ≡ layOutJournal (layOutAnswer (now (journal .entry)) (now (adjacency .entry))) (now (journal .entry)) ⌝ }
 {
-    numbers::of_lay_out(intake::laying_out::lay_out(journal, adjacency))
+    numbers::of_lay_out(laying_out::lay_out(journal, adjacency))
 }
 
 #[no_mangle]
@@ -129,5 +117,5 @@ pub extern "C" fn replica_jdm_of_edges(edges: &[u8], output: &mut [u8]) -> Repli
 pub extern "C" fn replica_figures(journal: &[u8], adjacency: &[u8]) -> ReplicaAnswer
     ensures { λ r. ⌜ r ≡ flat (figuresNumbers (figuresAnswer (now (journal .entry)) (now (adjacency .entry)))) ⌝ }
 {
-    numbers::of_figures(intake::figures::figures(journal, adjacency))
+    numbers::of_figures(figures::figures(journal, adjacency))
 }

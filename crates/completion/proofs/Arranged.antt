@@ -14,8 +14,8 @@ use Rattle.graph.specs.Tests.{leastDegree, mostDegree, degrees, vertexDegree}
 use Rattle.graph.proofs.Matrix.{jdm-classes}
 use Rattle.graph.proofs.Numbering.{classOf-range}
 use Rattle.table.specs.Inner.Cells.{matrixOf}
-use Rattle.table.specs.Inner.Arrays.{countsOf, countIn, classIn}
-use Rattle.table.proofs.Counted.{counted, counted-total}
+use Rattle.layout.specs.Inner.Arrays.{countsOf, countIn, classIn}
+use Rattle.layout.proofs.Counted.{counted, counted-total}
 use Rattle.adjacency.specs.Adjacency.{edge}
 use Rattle.adjacency.proofs.Classes.{class-at}
 use Rattle.joining.specs.Inner.Work.{degreesOf}

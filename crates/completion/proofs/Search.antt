@@ -12,7 +12,7 @@ use Rattle.finite.specs.Range.{lowest}
 use Rattle.finite.proofs.Lowest.{lowest-skip, lowest-only, lowest-none, lowest-holds, lowest-before, lowest-ge}
 use Rattle.finite.proofs.All.{and-left, and-right, and-false}
 use Rattle.adjacency.specs.Adjacency.{edge}
-use Rattle.table.specs.Layout.{mostVertices}
+use Rattle.layout.specs.Layout.{mostVertices}
 use Rattle.completion.specs.Choice.{openColumn, openW, openV}
 use Rattle.completion.specs.Inner.Cursor.{freeColumn, RowsDone, ColumnsDone}
 use Rattle.completion.specs.Inner.Search.{firstColumn, lowestColumn, hasColumn, Searchable, Ranged}

@@ -16,7 +16,7 @@ use Rattle.graph.specs.Graph.{degree}
 use Rattle.graph.specs.Switch.{unsaturated, Joined}
 use Rattle.graph.specs.Tests.{degrees}
 use Rattle.graph.proofs.Resume.{join-degree}
-use Rattle.table.specs.Layout.{mostVertices}
+use Rattle.layout.specs.Layout.{mostVertices}
 use Rattle.adjacency.specs.Adjacency.{edge}
 use Rattle.joining.specs.Join.{own, joinBytes, joinCount}
 use Rattle.joining.specs.Inner.Work.{degreesOf, Joinable, SaturatedBelow, freed}

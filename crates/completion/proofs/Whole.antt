@@ -8,9 +8,9 @@ use native.Mathlib.Omega.{arith}
 use Rattle.graph.specs.Numbering.{total}
 use Rattle.graph.specs.Tests.{degrees, vertices, vertexDegree}
 use Rattle.table.specs.Inner.Cells.{matrixOf}
-use Rattle.table.specs.Layout.{mostVertices}
-use Rattle.table.specs.Inner.Arrays.{countsOf, classesOf, countIn, classIn}
-use Rattle.table.proofs.Counted.{counted-total}
+use Rattle.layout.specs.Layout.{mostVertices}
+use Rattle.layout.specs.Inner.Arrays.{countsOf, classesOf, countIn, classIn}
+use Rattle.layout.proofs.Counted.{counted-total}
 use Rattle.journal.specs.Journal.{phase, jdmOf}
 use Rattle.state.specs.Valid.{lengthsOk, valid}
 use Rattle.state.proofs.Facts.{StateFacts, Laid, valid-facts}

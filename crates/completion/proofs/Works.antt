@@ -21,7 +21,7 @@ use Rattle.graph.specs.Tests.{leastDegree, mostDegree, degrees}
 use Rattle.graph.proofs.Necessary.{necessary-always}
 use Rattle.graph.specs.Theorems.{Rule, allCells, Ended}
 use Rattle.graph.proofs.Completion.{completes-by-any-rule}
-use Rattle.table.specs.Layout.{mostVertices}
+use Rattle.layout.specs.Layout.{mostVertices}
 use Rattle.adjacency.specs.Adjacency.{edge}
 use Rattle.adjacency.proofs.Facts.{ZeroOutside}
 use Rattle.joining.specs.Join.{own, joinBytes}

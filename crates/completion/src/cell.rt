@@ -4,7 +4,7 @@ ghost use Prim.Native.Nat.{_+_, _≤_, _<_, min};
 ghost use lib.Dec.{ltb};
 ghost use lib.ListN.{getD};
 ghost use Rattle.finite.specs.Range.{lowest, foldTo};
-ghost use Rattle.table.specs.Inner.Arrays.{classIn};
+ghost use Rattle.layout.specs.Inner.Arrays.{classIn};
 ghost use Rattle.adjacency.specs.Adjacency.{side};
 ghost use Rattle.joining.specs.Inner.Work.{degreesOf};
 ghost use Rattle.completion.specs.Inner.Cellwise.{cellStep};
@@ -12,7 +12,7 @@ ghost use Rattle.completion.specs.Inner.Work.{ran, Resumes, Steppable, F
 use crate::pair::Cell;
 use crate::pair::Pair;
 use crate::pair::open_pair;
-use table::layout::MOST_VERTICES;
+use layout::MOST_VERTICES;
 
 // Edges added and switches made.
 pub struct Totals {

@@ -6,7 +6,7 @@ ghost use lib.Dec.{eqb};
 ghost use lib.ListN.{length};
 ghost use Rattle.graph.specs.Tests.{degrees};
 ghost use Rattle.table.specs.Inner.Cells.{matrixOf};
-ghost use Rattle.table.specs.Inner.Arrays.{classIn};
+ghost use Rattle.layout.specs.Inner.Arrays.{classIn};
 ghost use Rattle.adjacency.specs.Adjacency.{adjacencySize, edge};
 ghost use Rattle.joining.specs.Inner.Work.{degreesOf};
 ghost use Rattle.joining.specs.Inner.Block.{blockSum};
@@ -18,10 +18,10 @@ use crate::pair::Cell;
 use crate::pair::Span;
 use joining::cell::STARTS;
 use joining::cell::block_sum;
+use layout::MOST_VERTICES;
 use table::cells::CELLS;
 use table::cells::cell;
 use table::degree::DEGREES;
-use table::layout::MOST_VERTICES;
 
 // Cell (k, l) between the starts of its classes.
 fn cell_at(starts: &[usize; STARTS], k: usize, l: usize) -> Cell

@@ -15,10 +15,10 @@ use crate::fill::complete_rows;
 use answer::CompleteAnswer;
 use answer::Verdict;
 use journal::cells_of;
+use layout::classes;
+use layout::counts;
+use layout::vertex_count;
 use state::phase_check;
-use table::layout::classes;
-use table::layout::counts;
-use table::layout::vertex_count;
 
 // On a valid laid state: the joins that are missing.
 fn complete_laid(journal: &[u8], adjacency: &mut [u8]) -> Totals

@@ -35,21 +35,21 @@ use Rattle.answer.specs.declared.WrittenAnswer.{WrittenAnswer}
 use Rattle.answer.specs.declared.WrittenAnswer.the-variants as Write
 use Rattle.graph.specs.Tests.{degrees, firstOdd, firstUneven, firstOverfull, firstOverfullIn, vertices}
 use Rattle.table.specs.Block.{blockLength, records, firstBad}
-use Rattle.table.specs.Layout.{mostVertices, layoutVerdict}
+use Rattle.layout.specs.Layout.{mostVertices, layoutVerdict}
 use Rattle.journal.specs.Journal.{mostBlocks, phase, blocks, slotLength, sameBlock, jdmOf}
 use Rattle.adjacency.specs.Adjacency.{edge}
 use Rattle.state.specs.Checks.{stateVerdict, phaseVerdict}
 use Rattle.state.specs.Valid.{lengthsOk, valid}
 use Rattle.state.specs.Laid.{vertexCount, degreeAt, isShort}
 use Rattle.joining.specs.Join.{joinCount}
-use Rattle.intake.specs.Clear.{clearBytes}
-use Rattle.intake.specs.Take.{takeOnValid, takeJournal}
-use Rattle.intake.specs.Held.{heldPart}
-use Rattle.intake.specs.LayOut.{layOutJournal}
+use Rattle.clearing.specs.Clear.{clearBytes}
+use Rattle.taking.specs.Take.{takeOnValid, takeJournal}
+use Rattle.reading_back.specs.Held.{heldPart}
+use Rattle.laying_out.specs.LayOut.{layOutJournal}
 use Rattle.editing.specs.Add.{addLaid, addAdjacency}
 use Rattle.editing.specs.Remove.{removeLaid, removeAdjacency}
 use Rattle.editing.specs.List.{listBytes, listLaid, listAnswer, listOutput}
-use Rattle.survey.specs.EdgeList.{listed, firstBadEdge}
+use Rattle.edgelist.specs.EdgeList.{listed, firstBadEdge}
 use Rattle.survey.specs.Survey.{firstAbove, surveyRecords, surveyAnswer, surveyOutput}
 use Rattle.completion.specs.Complete.{completeAdjacency}
 use Rattle.demands.specs.Demand1.{Numbered, SamePast, Demand1}

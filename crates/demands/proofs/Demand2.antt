@@ -29,9 +29,9 @@ use Rattle.adjacency.specs.Adjacency.{edge}
 use Rattle.state.specs.Valid.{lengthsOk, valid}
 use Rattle.state.specs.Laid.{vertexCount}
 use Rattle.state.proofs.Facts.{StateFacts, Laid, valid-facts}
-use Rattle.intake.specs.Take.{takeAnswer}
-use Rattle.intake.proofs.Take.{isTaken, taken-facts, held-facts, take-taken}
-use Rattle.intake.proofs.LayOut.{lay-out-laid-out}
+use Rattle.taking.specs.Take.{takeAnswer}
+use Rattle.taking.proofs.Take.{isTaken, taken-facts, held-facts, take-taken}
+use Rattle.laying_out.proofs.LayOut.{lay-out-laid-out}
 use Rattle.editing.specs.Add.{addAnswer, addAdjacency}
 use Rattle.editing.specs.Remove.{removeAnswer, removeAdjacency}
 use Rattle.completion.specs.Complete.{completeAnswer, completeAdjacency}

@@ -22,7 +22,7 @@ use Rattle.adjacency.specs.Adjacency.{edge}
 use Rattle.state.specs.Valid.{valid}
 use Rattle.state.specs.Laid.{vertexCount, degreeAt}
 use Rattle.state.proofs.Facts.{edgeTotal, StateFacts, Laid, valid-facts}
-use Rattle.intake.proofs.LayOut.{lay-out-honest}
+use Rattle.laying_out.proofs.LayOut.{lay-out-honest}
 use Rattle.editing.specs.Add.{addAnswer, addAdjacency}
 use Rattle.editing.proofs.Add.{AddFacts, facts-added, AddWorks, add-works}
 use Rattle.joining.specs.Join.{joinBytes, joinCount}

@@ -16,14 +16,14 @@ use Rattle.finite.proofs.Sum.{sumTo-split, sumTo-zero}
 use Rattle.graph.specs.Graph.{degree, ownJdm}
 use Rattle.graph.specs.Tests.{mostDegree}
 use Rattle.graph.proofs.Edge.{degree-same}
-use Rattle.table.specs.Layout.{mostVertices}
+use Rattle.layout.specs.Layout.{mostVertices}
 use Rattle.adjacency.specs.Adjacency.{edge}
 use Rattle.state.specs.Laid.{vertexCount}
 use Rattle.state.proofs.Facts.{Laid, valid-facts}
 use Rattle.editing.specs.List.{listBytes}
 use Rattle.editing.proofs.List.{list-length}
 use Rattle.editing.proofs.Listed.{list-good, list-graph, list-jdm}
-use Rattle.survey.specs.EdgeList.{listed, goodEdge, firstBadEdge, graphOf}
+use Rattle.edgelist.specs.EdgeList.{listed, goodEdge, firstBadEdge, graphOf}
 use Rattle.survey.specs.Survey.{firstAbove, recordsOf, surveyRecords}
 use Rattle.demands.specs.Listed.{ListSurveyed}
 

@@ -19,18 +19,18 @@ use Rattle.answer.specs.declared.CompleteAnswer.{CompleteAnswer}
 use Rattle.answer.specs.declared.CompleteAnswer.the-variants as Complete
 use Rattle.graph.specs.Tests.{passes, vertices}
 use Rattle.table.specs.Block.{wellFormed, blockCell}
-use Rattle.table.specs.Layout.{mostVertices}
+use Rattle.layout.specs.Layout.{mostVertices}
 use Rattle.journal.specs.Journal.{mostBlocks, phase, blocks, jdmOf, stored, laid}
 use Rattle.journal.proofs.Store.{phase-stored, blocks-stored, jdm-stored}
 use Rattle.journal.proofs.Laid.{blocks-laid, jdm-laid, phase-laid}
 use Rattle.adjacency.proofs.Empty.{no-edges}
 use Rattle.state.specs.Valid.{lengthsOk, valid}
 use Rattle.state.proofs.Facts.{edgeTotal, valid-facts, lengths-journal, valid-journal}
-use Rattle.intake.specs.Take.{takeAnswer, takeJournal}
-use Rattle.intake.specs.LayOut.{layOutAnswer, layOutJournal}
-use Rattle.intake.proofs.Cleared.{cleared-state}
-use Rattle.intake.proofs.Take.{isTaken, isNext, TakenFacts, taken-facts, take-taken, take-lengths, take-valid}
-use Rattle.intake.proofs.LayOut.{isLaidOut, laysOut as laysOutNow, LaidOutFacts, lay-out-facts, lay-out-laid-out, lay-out-lengths, lay-out-valid}
+use Rattle.taking.specs.Take.{takeAnswer, takeJournal}
+use Rattle.laying_out.specs.LayOut.{layOutAnswer, layOutJournal}
+use Rattle.clearing.proofs.Cleared.{cleared-state}
+use Rattle.taking.proofs.Take.{isTaken, isNext, TakenFacts, taken-facts, take-taken, take-lengths, take-valid}
+use Rattle.laying_out.proofs.LayOut.{isLaidOut, laysOut as laysOutNow, LaidOutFacts, lay-out-facts, lay-out-laid-out, lay-out-lengths, lay-out-valid}
 use Rattle.editing.specs.Add.{addAnswer, addAdjacency}
 use Rattle.editing.specs.Remove.{removeAnswer, removeAdjacency}
 use Rattle.editing.proofs.Add.{added-facts, add-works}

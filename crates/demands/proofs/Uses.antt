@@ -12,7 +12,7 @@ use Rattle.finite.proofs.All.{and-left, and-right, and-false}
 use Rattle.graph.specs.Theorems.{Realized}
 use Rattle.table.specs.Block.{wellFormed}
 use Rattle.journal.specs.Journal.{mostBlocks}
-use Rattle.intake.specs.Take.{takeAnswer}
+use Rattle.taking.specs.Take.{takeAnswer}
 use Rattle.demands.specs.Calls.{Call, take, cleared, afterAll}
 use Rattle.demands.specs.Accepted.{accepted, AcceptedIn}
 use Rattle.demands.specs.Tally.{Tally, noTally, toldTake, counts, withBlock, tally, tallyAll}

@@ -5,8 +5,8 @@ use Prim.Native.Nat.{ℕ}
 use lib.ListN.{replicate}
 use Rattle.journal.specs.Journal.{journalSize}
 use Rattle.adjacency.specs.Adjacency.{adjacencySize}
-use Rattle.intake.specs.Take.{takeAnswer, takeJournal}
-use Rattle.intake.specs.LayOut.{layOutAnswer, layOutJournal}
+use Rattle.taking.specs.Take.{takeAnswer, takeJournal}
+use Rattle.laying_out.specs.LayOut.{layOutAnswer, layOutJournal}
 use Rattle.editing.specs.Add.{addAnswer, addAdjacency}
 use Rattle.editing.specs.Remove.{removeAnswer, removeAdjacency}
 use Rattle.completion.specs.Complete.{completeAnswer, completeAdjacency}

@@ -18,11 +18,11 @@ use Rattle.answer.specs.declared.AddAnswer.the-variants as Add
 use Rattle.answer.specs.declared.RemoveAnswer.the-variants as Remove
 use Rattle.answer.specs.declared.CompleteAnswer.the-variants as Complete
 use Rattle.answer.specs.declared.WrittenAnswer.the-variants as Write
-use Rattle.intake.specs.Clear.{clearAnswer, clearBytes}
-use Rattle.intake.specs.Take.{takeAnswer, takeJournal}
-use Rattle.intake.specs.Held.{lengthAnswer, heldPart}
-use Rattle.intake.specs.LayOut.{layOutAnswer, layOutJournal}
-use Rattle.intake.specs.Figures.{figuresAnswer}
+use Rattle.clearing.specs.Clear.{clearAnswer, clearBytes}
+use Rattle.taking.specs.Take.{takeAnswer, takeJournal}
+use Rattle.reading_back.specs.Held.{lengthAnswer, heldPart}
+use Rattle.laying_out.specs.LayOut.{layOutAnswer, layOutJournal}
+use Rattle.figures.specs.Figures.{figuresAnswer}
 use Rattle.editing.specs.Add.{addAnswer, addAdjacency}
 use Rattle.editing.specs.Remove.{removeAnswer, removeAdjacency}
 use Rattle.editing.specs.List.{listAnswer, listOutput}

@@ -13,7 +13,7 @@ use Rattle.answer.specs.declared.RemoveAnswer.the-variants as Remove
 use Rattle.answer.specs.declared.CompleteAnswer.the-variants.{Completed}
 use Rattle.table.specs.Block.{blockCell}
 use Rattle.journal.specs.Journal.{phase}
-use Rattle.intake.specs.Take.{takeAnswer}
+use Rattle.taking.specs.Take.{takeAnswer}
 use Rattle.editing.specs.Add.{addAnswer}
 use Rattle.editing.specs.Remove.{removeAnswer}
 use Rattle.completion.specs.Complete.{completeAnswer}

@@ -6,7 +6,7 @@ use Prim.Native.Nat.{ℕ, _<_}
 use lib.ListN.{length}
 use Rattle.answer.specs.declared.LengthAnswer.the-variants.{Length}
 use Rattle.journal.specs.Journal.{blocks}
-use Rattle.intake.specs.Held.{lengthAnswer, heldPart}
+use Rattle.reading_back.specs.Held.{lengthAnswer, heldPart}
 use Rattle.demands.specs.Calls.{Call, State, cleared, afterAll}
 use Rattle.demands.specs.Accepted.{AcceptedIn}
 

@@ -13,7 +13,7 @@ use Rattle.answer.specs.declared.CompleteAnswer.{CompleteAnswer}
 use Rattle.answer.specs.declared.CompleteAnswer.the-variants as Complete
 use Rattle.graph.specs.Tests.{passes, vertices}
 use Rattle.table.specs.Block.{wellFormed, blockCell}
-use Rattle.table.specs.Layout.{mostVertices}
+use Rattle.layout.specs.Layout.{mostVertices}
 use Rattle.journal.specs.Journal.{mostBlocks}
 use Rattle.editing.specs.Add.{addAnswer}
 use Rattle.editing.specs.Remove.{removeAnswer}

@@ -13,7 +13,7 @@ use Rattle.finite.specs.Range.{sumTo, catTo}
 use Rattle.finite.proofs.Sum.{sumTo-cong, sumTo-const, sumTo-mono, sumTo-mirror, sumTo-cong-lower, sumTo-scale-lower}
 use Rattle.finite.proofs.Fold.{catTo-empty, catTo-length}
 use Rattle.graph.specs.Graph.{Graph, Simple, edges}
-use Rattle.table.specs.Layout.{mostVertices}
+use Rattle.layout.specs.Layout.{mostVertices}
 use Rattle.adjacency.specs.Adjacency.{adjacencySize, edge}
 use Rattle.adjacency.proofs.Empty.{no-edge}
 use Rattle.editing.specs.List.{edgeBytes, listBytes}

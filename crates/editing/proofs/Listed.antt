@@ -18,7 +18,7 @@ use Rattle.finite.proofs.Sum.{sumTo-cong, sumTo-zero}
 use Rattle.graph.specs.Graph.{Graph, Simple, degree, ownJdm, atEdge, SameOn}
 use Rattle.graph.proofs.Edge.{atEdge-sum, jdm-same, degree-same}
 use Rattle.graph.proofs.Matrix.{jdm-classes, ownJdm-wider}
-use Rattle.table.specs.Layout.{mostVertices}
+use Rattle.layout.specs.Layout.{mostVertices}
 use Rattle.adjacency.specs.Adjacency.{edge}
 use Rattle.adjacency.proofs.Facts.{ZeroOutside}
 use Rattle.editing.specs.List.{edgeBytes, listBytes}

@@ -12,7 +12,7 @@ use lib.ListN.{length, getD, length-append, List·getD-append}
 use lib.Seq.{getD-append-add}
 use Rattle.finite.specs.Range.{bit, sumTo, catTo}
 use Rattle.finite.proofs.Sum.{sumTo-cong, sumTo-split}
-use Rattle.table.specs.Layout.{mostVertices}
+use Rattle.layout.specs.Layout.{mostVertices}
 
 -- the two ends of edge i
 abbrev pub lower : List ℕ → ℕ → ℕ

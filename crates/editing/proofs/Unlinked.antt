@@ -13,9 +13,9 @@ use Rattle.graph.specs.Graph.{Graph, jdm}
 use Rattle.graph.specs.Numbering.{total, classOf}
 use Rattle.graph.specs.Tests.{degrees, vertices, vertexDegree}
 use Rattle.table.specs.Inner.Cells.{matrixOf}
-use Rattle.table.specs.Layout.{mostVertices}
-use Rattle.table.specs.Inner.Arrays.{countsOf, classesOf, countIn, classIn}
-use Rattle.table.proofs.Counted.{counted, counted-total}
+use Rattle.layout.specs.Layout.{mostVertices}
+use Rattle.layout.specs.Inner.Arrays.{countsOf, classesOf, countIn, classIn}
+use Rattle.layout.proofs.Counted.{counted, counted-total}
 use Rattle.journal.specs.Journal.{jdmOf}
 use Rattle.adjacency.specs.Adjacency.{edge}
 use Rattle.adjacency.proofs.Classes.{class-at}

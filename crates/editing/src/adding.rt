@@ -9,8 +9,8 @@ ghost use Rattle.answer.specs.declared.Cause.the-variants.{CellFull};
 ghost use Rattle.graph.specs.Graph.{jdm};
 ghost use Rattle.graph.specs.Tests.{degrees, vertices, vertexDegree};
 ghost use Rattle.table.specs.Inner.Cells.{matrixOf, AtMost, cellSumMost};
-ghost use Rattle.table.specs.Layout.{mostVertices};
-ghost use Rattle.table.specs.Inner.Arrays.{countsOf};
+ghost use Rattle.layout.specs.Layout.{mostVertices};
+ghost use Rattle.layout.specs.Inner.Arrays.{countsOf};
 ghost use Rattle.journal.specs.Journal.{journalSize, journalOk};
 ghost use Rattle.adjacency.specs.Adjacency.{adjacencySize, edge};
 ghost use Rattle.state.proofs.Facts.{Laid};
@@ -23,13 +23,13 @@ use answer::Refusal;
 use answer::Verdict;
 use answer::refuse;
 use journal::cells_of;
+use layout::classes;
+use layout::counts;
+use layout::vertex_count;
 use slices::wide;
 use state::phase_check;
 use table::cells::CELLS;
 use table::degree::DEGREES;
-use table::layout::classes;
-use table::layout::counts;
-use table::layout::vertex_count;
 
 // Cell (k, l) of the edges so far is below the table.
 fn is_short(

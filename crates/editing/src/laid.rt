@@ -5,8 +5,8 @@ ghost use lib.ListN.{length};
 ghost use Rattle.journal.specs.Journal.{journalSize, journalOk};
 ghost use Rattle.state.specs.Laid.{vertexCount};
 use journal::cells_of;
-use table::layout::counts;
-use table::layout::vertex_count;
+use layout::counts;
+use layout::vertex_count;
 
 // N
 pub fn laid_vertices(journal: &[u8]) -> usize

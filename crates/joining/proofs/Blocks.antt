@@ -12,7 +12,7 @@ use Rattle.graph.specs.Graph.{Graph, jdm}
 use Rattle.graph.specs.Numbering.{total, classOf}
 use Rattle.graph.specs.Tests.{degrees}
 use Rattle.graph.proofs.Ranges.{jdm-block}
-use Rattle.table.specs.Inner.Arrays.{countIn}
+use Rattle.layout.specs.Inner.Arrays.{countIn}
 use Rattle.joining.specs.Inner.Block.{startsOf, blockSum}
 
 module _ (counts : List ℕ) where

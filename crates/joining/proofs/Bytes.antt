@@ -14,7 +14,7 @@ use Rattle.graph.specs.Theorems.{Choices}
 use Rattle.graph.specs.Tests.{degrees}
 use Rattle.graph.proofs.Switch.{switch-works}
 use Rattle.graph.proofs.Join.{Ready, relieved, turned}
-use Rattle.table.specs.Layout.{mostVertices}
+use Rattle.layout.specs.Layout.{mostVertices}
 use Rattle.adjacency.specs.Adjacency.{adjacencySize, side, edge, setEdge}
 use Rattle.adjacency.proofs.Set.{set-length, set-other, set-adds, set-removes, set-outside}
 use Rattle.joining.specs.Join.{own, substituteAt, transferAt, switchBytes, relieveBytes, joinBytes}

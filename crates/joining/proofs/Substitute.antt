@@ -10,8 +10,8 @@ use Rattle.finite.specs.Range.{lowest}
 use Rattle.finite.proofs.All.{and-false}
 use Rattle.finite.proofs.Lowest.{lowest-skip, lowest-cong}
 use Rattle.graph.specs.Switch.{unsaturated, canSubstitute, orElse}
-use Rattle.table.specs.Layout.{mostVertices}
-use Rattle.table.specs.Inner.Arrays.{classIn}
+use Rattle.layout.specs.Layout.{mostVertices}
+use Rattle.layout.specs.Inner.Arrays.{classIn}
 use Rattle.adjacency.specs.Adjacency.{edge}
 use Rattle.joining.specs.Join.{own, substituteAt}
 use Rattle.joining.specs.Inner.Work.{degreesOf, Joinable, SaturatedBut, canSubstituteIn}

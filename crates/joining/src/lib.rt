@@ -8,7 +8,7 @@ ghost use lib.ListN.{length, getD, set};
 ghost use Rattle.finite.specs.Range.{allTo, lowest};
 ghost use Rattle.graph.specs.Tests.{degrees};
 ghost use Rattle.graph.specs.Switch.{canTransfer, transfer, orElse};
-ghost use Rattle.table.specs.Inner.Arrays.{classIn};
+ghost use Rattle.layout.specs.Inner.Arrays.{classIn};
 ghost use Rattle.adjacency.specs.Adjacency.{adjacencySize, side, edge, setEdge};
 ghost use Rattle.joining.specs.Join.{switchBytes, relieveBytes, joinBytes, joinCount};
 ghost use Rattle.joining.specs.Inner.Work.{lanes, degreesOf, Joinable, SaturatedBelow, SaturatedBut, canSubstituteIn, freed};
@@ -17,8 +17,8 @@ pub mod cell;
 
 use adjacency::SIDE;
 use adjacency::set_edge;
+use layout::MOST_VERTICES;
 use slices::wide;
-use table::layout::MOST_VERTICES;
 
 // How many bytes of a row are tested at once.
 const LANES: usize = 16;

@@ -23,7 +23,7 @@ use Rattle.state.specs.Valid.{lengthsOk, valid}
 use Rattle.state.specs.Laid.{vertexCount, degreeAt}
 use Rattle.state.proofs.Facts.{edgeTotal, StateFacts, Laid, valid-facts}
 use Rattle.state.proofs.Checks.{phase-go}
-use Rattle.intake.specs.LayOut.{layOutAnswer, layOutJournal}
+use Rattle.laying_out.specs.LayOut.{layOutAnswer, layOutJournal}
 use Rattle.editing.specs.List.{listBytes, listAnswer, listOutput}
 use Rattle.editing.proofs.List.{list-length}
 use Rattle.editing.proofs.Listed.{list-rising}

@@ -17,7 +17,7 @@ use Rattle.answer.specs.declared.CompleteAnswer.{CompleteAnswer}
 use Rattle.answer.specs.declared.CompleteAnswer.the-variants.{Completed, Refused as CompleteRefused}
 use Rattle.journal.specs.Journal.{phase}
 use Rattle.state.specs.Valid.{lengthsOk, valid}
-use Rattle.intake.specs.LayOut.{layOutAnswer, layOutJournal}
+use Rattle.laying_out.specs.LayOut.{layOutAnswer, layOutJournal}
 use Rattle.completion.specs.Complete.{completed, completeAnswer, completeAdjacency}
 use Rattle.completion.proofs.Entry.{completed-facts, complete-works}
 use Rattle.io.specs.Counts.{Counts}

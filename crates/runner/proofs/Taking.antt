@@ -19,8 +19,8 @@ use Rattle.table.specs.Block.{blockMost}
 use Rattle.journal.specs.Journal.{mostBlocks}
 use Rattle.journal.proofs.Facts.{journal-facts}
 use Rattle.state.proofs.Facts.{valid-journal}
-use Rattle.intake.specs.Take.{takeAnswer, takeJournal}
-use Rattle.intake.proofs.Take.{taken-facts, held-facts}
+use Rattle.taking.specs.Take.{takeAnswer, takeJournal}
+use Rattle.taking.proofs.Take.{taken-facts, held-facts}
 use Rattle.runner.specs.Program.{blocksIn, blockIn, Taking, takeVerdict, takeNext, takeAll}
 
 abbrev IsGo : Verdict → Type 0

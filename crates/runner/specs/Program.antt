@@ -18,8 +18,8 @@ use Rattle.table.specs.Block.{blockMost}
 use Rattle.journal.specs.Journal.{mostBlocks, journalSize}
 use Rattle.adjacency.specs.Adjacency.{adjacencySize}
 use Rattle.state.specs.Laid.{vertexCount}
-use Rattle.intake.specs.Take.{takeAnswer, takeJournal}
-use Rattle.intake.specs.LayOut.{layOutAnswer, layOutJournal}
+use Rattle.taking.specs.Take.{takeAnswer, takeJournal}
+use Rattle.laying_out.specs.LayOut.{layOutAnswer, layOutJournal}
 use Rattle.completion.specs.Complete.{mostEdges, completeAnswer, completeAdjacency}
 use Rattle.editing.specs.List.{listBytes}
 use Rattle.text.specs.Text.{refusedLine, headLine, edgeLines, headMost, edgeMost}

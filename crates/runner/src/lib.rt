@@ -10,7 +10,7 @@ ghost use Rattle.journal.specs.Journal.{phase};
 ghost use Rattle.state.specs.Valid.{lengthsOk, valid};
 ghost use Rattle.answer.specs.declared.Verdict.the-variants.{Go};
 ghost use Rattle.answer.specs.declared.LayOutAnswer.the-variants.{LaidOut};
-ghost use Rattle.intake.specs.Take.{takeAnswer, takeJournal};
+ghost use Rattle.taking.specs.Take.{takeAnswer, takeJournal};
 ghost use Rattle.io.specs.Counts.{Counts};
 ghost use Rattle.text.specs.Text.{headLine, edgeLines, headMost};
 ghost use Rattle.runner.specs.Program.{blockIn, takeVerdict, takeAll, stateText, laidText, takenText, programText, textMost};
@@ -22,9 +22,9 @@ use answer::Verdict;
 use answer::WrittenAnswer;
 use journal::JOURNAL_SIZE;
 use journal::MOST_BLOCKS;
+use layout::MOST_VERTICES;
 use libc::STDOUT_FILENO;
 use table::degree::DEGREES;
-use table::layout::MOST_VERTICES;
 use table::record::BLOCK_MOST;
 use text::EDGE_MOST;
 use text::HEAD_MOST;
@@ -78,7 +78,7 @@ fn take_one(journal: &mut [u8], adjacency: &[u8], number: usize, block: &[u8]) -
     ensures { λ r. ⌜ r ≡ takeVerdict (takeAnswer (now (journal .entry)) (now (adjacency .entry)) number (now (block .entry))) ⌝ }
     ensures { λ _. ⌜ now (journal .exit) ≡ takeJournal (takeAnswer (now (journal .entry)) (now (adjacency .entry)) number (now (block .entry))) (now (journal .entry)) (now (block .entry)) ⌝ }
 {
-    let answer = intake::taking::take_block(journal, adjacency, number, block);
+    let answer = taking::take_block(journal, adjacency, number, block);
     match answer {
         TakeAnswer::Taken(_) => Verdict::Go,
         TakeAnswer::Held => Verdict::Go,
@@ -157,7 +157,7 @@ fn lay_out(journal: &mut [u8], adjacency: &mut [u8], output: &mut [u8]) -> usize
     ensures { λ r. ⌜ r ≡ length (takenText Go (now (journal .entry)) (now (adjacency .entry))) ⌝ }
     ensures { λ _. ⌜ now (output .exit) ≡ sets (now (output .entry)) 0 (takenText Go (now (journal .entry)) (now (adjacency .entry))) ⌝ }
 {
-    let answer = intake::laying_out::lay_out(journal, adjacency);
+    let answer = laying_out::lay_out(journal, adjacency);
     match answer {
         LayOutAnswer::Refused(r) => put_refused(output, 0, r),
         LayOutAnswer::LaidOut(n) => finish(journal, adjacency, n, output),

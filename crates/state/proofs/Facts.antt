@@ -15,7 +15,7 @@ use Rattle.graph.proofs.Passes.{passes-passed}
 use Rattle.graph.proofs.Realizability.{table-target}
 use Rattle.slices.specs.Slices.{allZero}
 use Rattle.slices.proofs.Zero.{all-zero-at, zeros-all-zero}
-use Rattle.table.specs.Layout.{mostVertices}
+use Rattle.layout.specs.Layout.{mostVertices}
 use Rattle.journal.specs.Journal.{journalSize, phase, journalOk, jdmOf}
 use Rattle.journal.proofs.Table.{jdm-table}
 use Rattle.adjacency.specs.Adjacency.{adjacencySize, adjacencyOk, edge}

@@ -10,8 +10,8 @@ use Rattle.graph.specs.Tests.{passes, vertices, vertexDegree}
 use Rattle.answer.specs.declared.Refusal.{Refusal}
 use Rattle.answer.specs.declared.Verdict.{Verdict}
 use Rattle.answer.specs.declared.Verdict.the-variants.{Go, Stop}
-use Rattle.table.specs.Layout.{mostVertices, layoutVerdict}
-use Rattle.table.proofs.Verdict.{layout-go, go-layout}
+use Rattle.layout.specs.Layout.{mostVertices, layoutVerdict}
+use Rattle.layout.proofs.Verdict.{layout-go, go-layout}
 use Rattle.adjacency.specs.Adjacency.{adjacencyOk}
 use Rattle.state.specs.Valid.{laidOk}
 

@@ -7,7 +7,7 @@ use lib.Dec.{eqb, leb}
 use lib.ListN.{length}
 use Rattle.graph.specs.Tests.{passes, vertices, vertexDegree}
 use Rattle.slices.specs.Slices.{allZero}
-use Rattle.table.specs.Layout.{mostVertices}
+use Rattle.layout.specs.Layout.{mostVertices}
 use Rattle.journal.specs.Journal.{journalSize, phase, journalOk, jdmOf}
 use Rattle.adjacency.specs.Adjacency.{adjacencySize, adjacencyOk}
 

@@ -15,10 +15,10 @@ use journal::JOURNAL_SIZE;
 use journal::cells_of;
 use journal::journal_ok;
 use journal::phase_of;
-use table::layout::classes;
-use table::layout::counts;
-use table::layout::layout_check;
-use table::layout::vertex_count;
+use layout::classes;
+use layout::counts;
+use layout::layout_check;
+use layout::vertex_count;
 
 // Both have their lengths.
 pub fn lengths_ok(journal: &[u8], adjacency: &[u8]) -> bool

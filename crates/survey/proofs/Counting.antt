@@ -24,10 +24,10 @@ use Rattle.graph.proofs.Update.{handshake, degree-adds, jdm-adds}
 use Rattle.slices.proofs.Zero.{getD-zeros}
 use Rattle.table.specs.Inner.Cells.{cellsSize, place, matrixOf}
 use Rattle.table.proofs.Matrix.{noCells, add-here, add-apart, place-below, matrix-none}
-use Rattle.table.specs.Layout.{mostVertices}
-use Rattle.survey.specs.EdgeList.{listed, endV, endW, firstBadEdge, graphOf}
+use Rattle.layout.specs.Layout.{mostVertices}
+use Rattle.edgelist.specs.EdgeList.{listed, endV, endW, firstBadEdge, graphOf}
 use Rattle.survey.specs.Survey.{firstAbove}
-use Rattle.survey.proofs.List.{graphTo, Good, good, graphTo-adds, simple-to, edges-to}
+use Rattle.edgelist.proofs.List.{graphTo, Good, good, graphTo-adds, simple-to, edges-to}
 use Rattle.survey.specs.Inner.Counting.{addAt, countEdge, degreeIn, timesCounted, countCell, HasDegrees, HasCells, firstAboveIn, cellMostOwn, CellsSmall}
 
 -- 1. Degrees.

@@ -1,5 +1,4 @@
 pub mod Counting
-pub mod List
 pub mod Records
 pub mod ReadBack
 pub mod Survey

@@ -20,13 +20,13 @@ use Rattle.graph.proofs.Matrix.{jdm-none, jdm-isolated}
 use Rattle.graph.proofs.Necessary.{necessary-always}
 use Rattle.slices.proofs.Part.{take-sets, drop-sets}
 use Rattle.table.specs.Inner.Cells.{matrixOf}
-use Rattle.table.specs.Layout.{mostVertices}
-use Rattle.survey.specs.EdgeList.{listed, firstBadEdge, graphOf}
+use Rattle.layout.specs.Layout.{mostVertices}
+use Rattle.edgelist.specs.EdgeList.{listed, firstBadEdge, graphOf}
 use Rattle.survey.specs.Survey.{firstAbove, recordsOf, surveyRecords, surveyAnswer}
 use Rattle.survey.specs.Inner.Counting.{HasCells, recordsMost}
 use Rattle.survey.specs.Theorem.{Ascending, SurveyExact}
 use Rattle.survey.proofs.Counting.{degree-low, jdm-most, few-edges}
-use Rattle.survey.proofs.List.{list-simple, edges-to}
+use Rattle.edgelist.proofs.List.{list-simple, edges-to}
 use Rattle.survey.proofs.Records.{records-cong, records-whole, records-shown, records-rise}
 use Rattle.survey.proofs.ReadBack.{records-bytes, records-good, records-exact}
 

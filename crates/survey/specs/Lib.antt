@@ -1,4 +1,3 @@
-pub mod EdgeList
 pub mod Survey
 pub mod Theorem
 pub mod Inner

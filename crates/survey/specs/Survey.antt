@@ -13,8 +13,8 @@ use Rattle.answer.specs.Refusals.{refusal, unless}
 use Rattle.answer.specs.declared.Cause.the-variants.{EdgeList, DegreeAbove, OutputLength}
 use Rattle.answer.specs.declared.WrittenAnswer.{WrittenAnswer}
 use Rattle.answer.specs.declared.WrittenAnswer.the-variants.{Written, Refused}
-use Rattle.table.specs.Layout.{mostVertices}
-use Rattle.survey.specs.EdgeList.{listed, firstBadEdge, graphOf}
+use Rattle.layout.specs.Layout.{mostVertices}
+use Rattle.edgelist.specs.EdgeList.{listed, firstBadEdge, graphOf}
 
 -- the lowest vertex whose degree is over 40; 200 where there is none
 abbrev pub firstAbove : List ℕ → ℕ

@@ -11,8 +11,8 @@ use Rattle.graph.specs.Graph.{Simple, edges, ownJdm}
 use Rattle.graph.specs.Tests.{Table}
 use Rattle.answer.specs.declared.WrittenAnswer.the-variants.{Written}
 use Rattle.table.specs.Block.{recordSize, records, recordK, recordL, recordCount, goodRecord, blockCell}
-use Rattle.table.specs.Layout.{mostVertices}
-use Rattle.survey.specs.EdgeList.{listed, firstBadEdge, graphOf}
+use Rattle.layout.specs.Layout.{mostVertices}
+use Rattle.edgelist.specs.EdgeList.{listed, firstBadEdge, graphOf}
 use Rattle.survey.specs.Survey.{surveyRecords, surveyAnswer, surveyOutput}
 
 -- bytes of whole records: each one good, with a count that is not 0, ascending by k and then l, so that no pair comes twice

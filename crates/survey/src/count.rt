@@ -6,16 +6,16 @@ ghost use lib.ListN.{length, getD};
 ghost use Rattle.graph.specs.Graph.{degree};
 ghost use Rattle.graph.specs.Tests.{degrees};
 ghost use Rattle.table.specs.Inner.Cells.{place};
-ghost use Rattle.table.specs.Layout.{mostVertices};
-ghost use Rattle.survey.specs.EdgeList.{listed, endV, endW, goodEdge, firstBadEdge, graphOf};
+ghost use Rattle.layout.specs.Layout.{mostVertices};
+ghost use Rattle.edgelist.specs.EdgeList.{listed, endV, endW, goodEdge, firstBadEdge, graphOf};
 ghost use Rattle.survey.specs.Survey.{firstAbove};
 ghost use Rattle.survey.specs.Inner.Counting.{countEdge, countCell, timesCounted, degreeIn, firstAboveIn, HasRoom, HasDegrees, HasCells, cellMostOwn, CellsSmall};
+use layout::MOST_VERTICES;
 use slices::wide;
 use table::cells::CELLS;
 use table::cells::place_of;
 use table::cells::wide32;
 use table::degree::DEGREES;
-use table::layout::MOST_VERTICES;
 
 const MOST_DEGREE: usize = DEGREES - 1;
 

@@ -5,18 +5,17 @@ ghost use Rattle.survey.specs.Survey.{surveyAnswer, surveyOutput};
 use crate::count::cells_of;
 use crate::count::degrees_of;
 use crate::count::first_above;
-use crate::edges::first_bad_edge;
 use crate::write::put_records;
 use answer::Cause;
 use answer::WrittenAnswer;
 use answer::refuse;
+use edgelist::first_bad_edge;
+use layout::MOST_VERTICES;
 use slices::copy_in;
 use table::cells::CELLS;
-use table::layout::MOST_VERTICES;
 use table::record::RECORD_SIZE;
 
 mod count;
-mod edges;
 mod write;
 
 // Room for a record of each cell, so that the length is known before a byte of the output changes.

@@ -28,15 +28,15 @@ use Rattle.answer.specs.declared.WrittenAnswer.the-variants as Write
 use Rattle.finite.specs.Range.{δ, sumTo, allTo, lowFrom, lowest, catTo, iterate}
 use Rattle.graph.specs.Graph.{jdm, edges}
 use Rattle.graph.specs.Tests.{vertices}
-use Rattle.table.specs.Layout.{layoutVerdict}
+use Rattle.layout.specs.Layout.{layoutVerdict}
 use Rattle.journal.specs.Journal.{phase, blocks, slotLength, jdmOf}
 use Rattle.state.specs.Checks.{stateVerdict}
 use Rattle.state.specs.Laid.{vertexCount}
 use Rattle.state.proofs.Checks.{state-go}
 use Rattle.state.proofs.Facts.{valid-facts}
-use Rattle.intake.specs.Take.{takeOnValid, takeJournal}
-use Rattle.intake.specs.LayOut.{laidOut, layOutJournal}
-use Rattle.intake.specs.Figures.{figuresOf}
+use Rattle.taking.specs.Take.{takeOnValid, takeJournal}
+use Rattle.laying_out.specs.LayOut.{laidOut, layOutJournal}
+use Rattle.figures.specs.Figures.{figuresOf}
 use Rattle.editing.specs.Add.{addLaid, addAdjacency}
 use Rattle.editing.specs.Remove.{removeLaid, removeAdjacency}
 use Rattle.editing.specs.List.{listLaid}

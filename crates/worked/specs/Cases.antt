@@ -10,10 +10,10 @@ use lib.Dec.{eqb}
 use lib.ListN.{length, replicate}
 use Rattle.answer.specs.Numbers.{Numbers, done, takeNumbers, layOutNumbers, addNumbers, removeNumbers, completeNumbers, lengthNumbers, writtenNumbers, figuresNumbers}
 use Rattle.state.specs.Laid.{vertexCount}
-use Rattle.intake.specs.Take.{takeAnswer}
-use Rattle.intake.specs.Held.{lengthAnswer}
-use Rattle.intake.specs.LayOut.{layOutAnswer}
-use Rattle.intake.specs.Figures.{figuresAnswer}
+use Rattle.taking.specs.Take.{takeAnswer}
+use Rattle.reading_back.specs.Held.{lengthAnswer}
+use Rattle.laying_out.specs.LayOut.{layOutAnswer}
+use Rattle.figures.specs.Figures.{figuresAnswer}
 use Rattle.editing.specs.Add.{addAnswer}
 use Rattle.editing.specs.Remove.{removeAnswer}
 use Rattle.editing.specs.List.{listBytes, listAnswer}
@@ -141,7 +141,7 @@ StarredHold = allHold starred ≡ true
 
 -- The order of checks (document 01: "Checks run in table order, among those that concern the call"): calls in which refusals compete, and the
 -- one that is to come out. Left to the tests: survey's 18, which counts over all 200 vertices first; a new block on a laid state with 64 blocks,
--- whose table is too dear to compute here, is 3 by intake/proofs/Take.antt `take-new-laid`.
+-- whose table is too dear to compute here, is 3 by taking/proofs/Take.antt `take-new-laid`.
 
 -- (1,1)=2 and (1,1)=4, as blocks
 abbrev pub pair : List ℕ

@@ -6,7 +6,7 @@ use native.Mathlib.Omega.{arith}
 use borrow.Author.Tests.{not-true, not-false}
 use Rattle.table.specs.Inner.Cells.{matrixOf}
 use Rattle.graph.specs.Tests.{vertexDegree}
-use Rattle.table.specs.Inner.Arrays.{classIn}
+use Rattle.layout.specs.Inner.Arrays.{classIn}
 use Rattle.adjacency.proofs.Classes.{degreesWithin-same, cellsWithin-same, class-at, class-below, class-rises}
 use Rattle.adjacency.proofs.adjacency_ok.Statement.{statement}
 use Rattle.adjacency.proofs.adjacency_ok.Tie as tie

@@ -13,7 +13,7 @@ use Rattle.finite.proofs.All.{allTo-none, allTo-more}
 use Rattle.graph.specs.Graph.{jdm}
 use Rattle.graph.specs.Tests.{degrees}
 use Rattle.table.specs.Inner.Cells.{matrixOf}
-use Rattle.table.specs.Inner.Arrays.{classIn}
+use Rattle.layout.specs.Inner.Arrays.{classIn}
 use Rattle.table.proofs.Matrix.{matrix-sym}
 use Rattle.slices.proofs.Zero.{getD-zeros}
 use Rattle.adjacency.specs.Adjacency.{edge}

@@ -7,7 +7,7 @@ use lib.ListN.{length, getD, length-set}
 use Rattle.finite.specs.Range.{δ, sumTo}
 use Rattle.finite.proofs.Sum.{sumTo-more}
 use Rattle.graph.specs.Tests.{degrees}
-use Rattle.table.specs.Inner.Arrays.{classIn}
+use Rattle.layout.specs.Inner.Arrays.{classIn}
 use Rattle.adjacency.specs.Adjacency.{side}
 use Rattle.adjacency.proofs.Sums.{more-at, more-atMost, class-none}
 use Rattle.adjacency.proofs.count_class.Statement.{statement}

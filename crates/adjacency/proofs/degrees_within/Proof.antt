@@ -7,7 +7,7 @@ use lib.Dec.{leb}
 use Rattle.finite.specs.Range.{allTo}
 use Rattle.finite.proofs.All.{allTo-none, allTo-more}
 use Rattle.graph.specs.Graph.{degree}
-use Rattle.table.specs.Inner.Arrays.{classIn}
+use Rattle.layout.specs.Inner.Arrays.{classIn}
 use Rattle.adjacency.specs.Adjacency.{edge}
 use Rattle.adjacency.proofs.degrees_within.Statement.{statement}
 use Rattle.adjacency.proofs.degrees_within.Tie as tie

@@ -4,7 +4,7 @@ use mathlib.Core.Path.{_≡_}
 use Prim.Native.Nat.{ℕ, _≤_, _<_, _-_}
 use native.Mathlib.Omega.{arith}
 use borrow.Author.Count.{below-more}
-use Rattle.table.specs.Inner.Arrays.{classIn}
+use Rattle.layout.specs.Inner.Arrays.{classIn}
 use Rattle.adjacency.proofs.skip_below.Statement.{statement}
 use Rattle.adjacency.proofs.skip_below.Tie as tie
 

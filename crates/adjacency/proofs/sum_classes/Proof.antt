@@ -4,7 +4,7 @@ use mathlib.Core.Path.{_≡_, sym, _∙_}
 use Prim.Native.Nat.{ℕ, _≤_, _<_, _+_, _*_, _-_}
 use native.Mathlib.Omega.{arith}
 use lib.ListN.{length, getD}
-use Rattle.table.specs.Inner.Arrays.{classIn}
+use Rattle.layout.specs.Inner.Arrays.{classIn}
 use Rattle.adjacency.specs.Adjacency.{side, edge}
 use Rattle.adjacency.specs.Inner.Sums.{sumsSize, classDegree}
 use Rattle.adjacency.proofs.Mirrored.{mirrored-simple}

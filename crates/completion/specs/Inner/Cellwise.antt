@@ -11,7 +11,7 @@ use Rattle.finite.specs.Range.{foldTo}
 use Rattle.graph.specs.Graph.{jdm}
 use Rattle.graph.specs.Target.{Target, Partial}
 use Rattle.graph.specs.Tests.{leastDegree, mostDegree, degrees}
-use Rattle.table.specs.Layout.{mostVertices}
+use Rattle.layout.specs.Layout.{mostVertices}
 use Rattle.adjacency.specs.Adjacency.{adjacencySize, edge}
 use Rattle.joining.specs.Join.{own}
 use Rattle.completion.specs.Choice.{openV, openW}

@@ -10,8 +10,8 @@ use Rattle.graph.specs.Switch.{unsaturated}
 use Rattle.graph.specs.Tests.{degrees, vertices}
 use Rattle.adjacency.specs.Adjacency.{side, edge}
 use Rattle.table.specs.Inner.Cells.{matrixOf}
-use Rattle.table.specs.Layout.{mostVertices}
-use Rattle.table.specs.Inner.Arrays.{countsOf, classesOf, classIn}
+use Rattle.layout.specs.Layout.{mostVertices}
+use Rattle.layout.specs.Inner.Arrays.{countsOf, classesOf, classIn}
 use Rattle.joining.specs.Join.{own}
 use Rattle.joining.specs.Inner.Work.{degreesOf}
 use Rattle.joining.specs.Inner.Block.{startsOf, blockSum}

@@ -7,7 +7,7 @@ use lib.ListN.{replicate}
 use Rattle.finite.specs.Inner.Fill.{fillTo}
 use Rattle.finite.proofs.Fold.{fillTo-none, fillTo-more}
 use Rattle.graph.specs.Graph.{degree}
-use Rattle.table.specs.Layout.{mostVertices}
+use Rattle.layout.specs.Layout.{mostVertices}
 use Rattle.adjacency.specs.Adjacency.{edge}
 use Rattle.joining.proofs.degrees.Statement.{statement}
 use Rattle.joining.proofs.degrees.Tie as tie

@@ -7,7 +7,7 @@ use Rattle.finite.specs.Range.{sumTo}
 use Rattle.finite.specs.Inner.Fill.{fillTo}
 use Rattle.graph.specs.Graph.{Graph}
 use Rattle.graph.specs.Tests.{degrees}
-use Rattle.table.specs.Inner.Arrays.{countIn}
+use Rattle.layout.specs.Inner.Arrays.{countIn}
 
 -- the first vertex of each class, where class k has as many as the array says; behind them, the number of vertices
 abbrev pub startsOf : List ℕ → List ℕ

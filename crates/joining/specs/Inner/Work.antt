@@ -11,7 +11,7 @@ use Rattle.graph.specs.Graph.{degree}
 use Rattle.graph.specs.Target.{Target, Partial, Open}
 use Rattle.graph.specs.Switch.{unsaturated}
 use Rattle.graph.specs.Tests.{degrees}
-use Rattle.table.specs.Layout.{mostVertices}
+use Rattle.layout.specs.Layout.{mostVertices}
 use Rattle.adjacency.specs.Adjacency.{adjacencySize, edge}
 use Rattle.joining.specs.Join.{own, transferAt}
 

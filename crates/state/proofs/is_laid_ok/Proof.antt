@@ -3,9 +3,9 @@
 use mathlib.Core.Path.{sym, _∙_, ap}
 use Prim.Native.Nat.{ℕ}
 use borrow.Author.Needs.{needs}
-use Rattle.table.specs.Layout.{layoutVerdict}
+use Rattle.layout.specs.Layout.{layoutVerdict}
 use Rattle.table.specs.Inner.Cells.{matrixOf}
-use Rattle.table.proofs.Verdict.{layout-go}
+use Rattle.layout.proofs.Verdict.{layout-go}
 use Rattle.journal.specs.Journal.{jdmOf}
 use Rattle.state.specs.Valid.{laidOk}
 use Rattle.state.proofs.Laid.{laid-go, laid-stop}

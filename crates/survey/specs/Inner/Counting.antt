@@ -11,8 +11,8 @@ use Rattle.graph.specs.Graph.{Graph, degree, jdm}
 use Rattle.graph.specs.Tests.{mostDegree, degrees}
 use Rattle.table.specs.Block.{recordSize}
 use Rattle.table.specs.Inner.Cells.{matrixOf, place}
-use Rattle.table.specs.Layout.{mostVertices}
-use Rattle.survey.specs.EdgeList.{endV, endW}
+use Rattle.layout.specs.Layout.{mostVertices}
+use Rattle.edgelist.specs.EdgeList.{endV, endW}
 
 -- n more at place p
 abbrev pub addAt : List ℕ → ℕ → ℕ → List ℕ

@@ -2,7 +2,7 @@
 -- Assumes nothing.
 use native.Mathlib.Omega.{arith}
 use borrow.Author.Needs.{needs}
-use Rattle.table.specs.Inner.Arrays.{classIn}
+use Rattle.layout.specs.Inner.Arrays.{classIn}
 use Rattle.completion.proofs.Sound.{count-le, joins-most}
 use Rattle.completion.proofs.Step.{step-searchable, step-joinable, step-ran, low-row-most, low-column-most, below-v, below-w, step-resumes}
 use Rattle.completion.proofs.cell.fill_step.Statement.{statement}

@@ -9,7 +9,7 @@ use Rattle.finite.specs.Inner.Fill.{fillTo}
 use Rattle.finite.proofs.Fold.{fillTo-none, fillTo-more}
 use Rattle.finite.proofs.Sum.{sumTo-none, sumTo-more, sumTo-le}
 use Rattle.graph.specs.Tests.{degrees}
-use Rattle.table.specs.Inner.Arrays.{countIn}
+use Rattle.layout.specs.Inner.Arrays.{countIn}
 use Rattle.joining.proofs.cell.starts.Statement.{statement}
 use Rattle.joining.proofs.cell.starts.Tie as tie
 

@@ -6,9 +6,9 @@ use lib.ListN.{length, length-replicate}
 use Rattle.graph.specs.Graph.{degree}
 use Rattle.graph.specs.Tests.{degrees}
 use Rattle.table.specs.Inner.Cells.{cellsSize}
-use Rattle.table.specs.Layout.{mostVertices}
-use Rattle.survey.specs.EdgeList.{listed, endV, endW, graphOf}
-use Rattle.survey.proofs.List.{graphTo, good}
+use Rattle.layout.specs.Layout.{mostVertices}
+use Rattle.edgelist.specs.EdgeList.{listed, endV, endW, graphOf}
+use Rattle.edgelist.proofs.List.{graphTo, good}
 use Rattle.survey.specs.Inner.Counting.{HasCells}
 use Rattle.survey.proofs.Counting.{length-countCell, cells-none, cells-more, cells-small, cell-room, degree-low}
 use native.Mathlib.Omega.{arith}

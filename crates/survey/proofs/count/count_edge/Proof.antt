@@ -4,7 +4,7 @@ use Prim.Native.Nat.{_+_, _*_, _≤_}
 use native.Mathlib.Omega.{arith}
 use lib.Seq.{getD-set-other}
 use Rattle.survey.specs.Inner.Counting.{degreeIn}
-use Rattle.survey.proofs.List.{good-edge}
+use Rattle.edgelist.proofs.List.{good-edge}
 use Rattle.survey.proofs.count.count_edge.Statement.{statement}
 use Rattle.survey.proofs.count.count_edge.Tie as tie
 

@@ -3,9 +3,9 @@
 use mathlib.Core.Path.{_≡_}
 use Prim.Native.Nat.{ℕ, _*_, _-_, _≤_, _<_}
 use lib.ListN.{length, length-replicate}
-use Rattle.table.specs.Layout.{mostVertices}
-use Rattle.survey.specs.EdgeList.{listed, endV, endW}
-use Rattle.survey.proofs.List.{graphTo, all-good, good}
+use Rattle.layout.specs.Layout.{mostVertices}
+use Rattle.edgelist.specs.EdgeList.{listed, endV, endW}
+use Rattle.edgelist.proofs.List.{graphTo, all-good, good}
 use Rattle.survey.specs.Inner.Counting.{degreeIn, HasDegrees}
 use Rattle.survey.proofs.Counting.{length-countEdge, degrees-none, degrees-more, degree-most}
 use native.Mathlib.Omega.{arith}

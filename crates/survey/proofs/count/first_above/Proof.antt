@@ -7,7 +7,7 @@ use borrow.Author.Tests.{lt-ltb, le-ltb}
 use Rattle.finite.specs.Range.{lowest}
 use Rattle.finite.proofs.Lowest.{lowest-end, lowest-here, lowest-next}
 use Rattle.graph.specs.Tests.{mostDegree}
-use Rattle.table.specs.Layout.{mostVertices}
+use Rattle.layout.specs.Layout.{mostVertices}
 use Rattle.survey.specs.Inner.Counting.{degreeIn, firstAboveIn}
 use native.Mathlib.Omega.{arith}
 use Rattle.survey.proofs.count.first_above.Statement.{statement}

@@ -1,4 +1,0 @@
-pub mod Take
-pub mod Held
-pub mod LayOut
-pub mod Cleared

@@ -1,5 +1,0 @@
-pub mod Clear
-pub mod Take
-pub mod Held
-pub mod LayOut
-pub mod Figures

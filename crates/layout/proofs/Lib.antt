@@ -1,0 +1,3 @@
+pub mod Counted
+pub mod Overfull
+pub mod Verdict

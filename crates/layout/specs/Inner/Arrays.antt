@@ -1,0 +1,41 @@
+-- What the code goes by: counts and classes in arrays, the cells of a row from the diagonal on, and from vertex to
+-- vertex a class and the first vertex past it.
+-- Assumes nothing.
+use mathlib.Core.Path.{_≡_}
+use mathlib.Core.Bool.{Bool, _||_}
+use mathlib.Core.List.{List}
+use Prim.Native.Nat.{ℕ, _+_, _≤_, _<_}
+use lib.Dec.{ltb, leb}
+use lib.ListN.{getD, replicate}
+use Rattle.finite.specs.Range.{sumTo, allTo}
+use Rattle.graph.specs.Target.{cellMost}
+use Rattle.finite.specs.Inner.Fill.{fillTo}
+use Rattle.graph.specs.Tests.{degrees, count, vertices, vertexDegree}
+use Rattle.layout.specs.Layout.{mostVertices}
+
+-- all D(k), by degree
+abbrev pub countsOf : (ℕ → ℕ → ℕ) → List ℕ
+countsOf T = fillTo degrees (count T) (replicate degrees 0)
+
+-- the degrees of the N vertices, in an array of 200 with zeros behind them
+abbrev pub classesOf : (ℕ → ℕ → ℕ) → List ℕ
+classesOf T = fillTo (vertices T) (vertexDegree T) (replicate mostVertices 0)
+
+-- D(k) as the array of counts has it
+abbrev pub countIn : List ℕ → ℕ → ℕ
+countIn t k = getD t k 0
+
+-- the class of vertex v as the array of classes has it
+abbrev pub classIn : List ℕ → ℕ → ℕ
+classIn c v = getD c v 0
+
+-- cell (k, l), where l is from k on, is not above its most
+abbrev pub cellFits : (ℕ → ℕ → ℕ) → ℕ → ℕ → Bool
+cellFits T k l = ltb l k || leb (T k l) (cellMost (count T) k l)
+
+abbrev pub rowFits : (ℕ → ℕ → ℕ) → ℕ → Bool
+rowFits T k = allTo degrees (cellFits T k)
+
+-- the vertices below `end` are those of the classes up to `class`, and v is past those of the classes before it
+abbrev pub Reaches : (ℕ → ℕ) → ℕ → ℕ → ℕ → Type 0
+Reaches D class end v = (class < degrees) × (end ≡ sumTo (class + 1) D) × (sumTo class D ≤ v)

@@ -1,0 +1,246 @@
+// Document 01's tests 9 to 12 on a matrix, D(k), N, and the degree of each vertex.
+ghost use mathlib.Core.Path.{_≡_};
+ghost use Prim.Native.Nat.{_*_, _≤_, _<_};
+ghost use Rattle.graph.specs.Numbering.{total, classOf};
+ghost use Rattle.graph.specs.Target.{cellMost};
+ghost use Rattle.graph.specs.Tests.{degrees, rowSum, count, odd, uneven, overfull, firstOdd, firstUneven, firstOverfull, firstOverfullIn, vertices};
+ghost use Rattle.table.specs.Inner.Cells.{matrixOf, AtMost, cellSumMost};
+ghost use Rattle.layout.specs.Inner.Arrays.{countIn, rowFits, Reaches, countsOf, classesOf};
+ghost use Rattle.layout.specs.Layout.{wanted, layoutVerdict, mostVertices};
+use answer::Cause;
+use answer::Verdict;
+use answer::refuse;
+use answer::stopped;
+use table::cells::CELLS;
+use table::cells::cell;
+use table::cells::upper_cell;
+use table::degree::DEGREES;
+
+pub const MOST_VERTICES: usize = 200;
+
+fn is_odd(cells: &[u32; CELLS], k: usize) -> bool
+    requires { ⌜ k < degrees ⌝ }
+    ensures { λ r. ⌜ r ≡ odd (matrixOf (now (cells .entry))) k ⌝ }
+{
+    cell(cells, k, k) % 2 != 0
+}
+
+fn first_odd(cells: &[u32; CELLS]) -> usize
+    ensures { λ r. ⌜ r ≡ firstOdd (matrixOf (now (cells .entry))) ⌝ }
+{
+    let mut k = 1;
+    while k < DEGREES {
+        if is_odd(cells, k) {
+            return k;
+        }
+        k += 1;
+    }
+    k
+}
+
+// S(k)
+fn row_sum(cells: &[u32; CELLS], k: usize) -> usize
+    requires { ⌜ (k < degrees) × AtMost cellSumMost (now cells) ⌝ }
+    ensures { λ r. ⌜ (r ≡ rowSum (matrixOf (now (cells .entry))) k) × (r ≤ degrees * cellSumMost) ⌝ }
+{
+    let mut sum = 0;
+    for l in 0..k {
+        sum += upper_cell(cells, l, k);
+    }
+    for l in k..DEGREES {
+        sum += upper_cell(cells, k, l);
+    }
+    sum
+}
+
+fn is_uneven(cells: &[u32; CELLS], k: usize) -> bool
+    requires { ⌜ (0 < k) × (k < degrees) × AtMost cellSumMost (now cells) ⌝ }
+    ensures { λ r. ⌜ r ≡ uneven (matrixOf (now (cells .entry))) k ⌝ }
+{
+    row_sum(cells, k) % k != 0
+}
+
+fn first_uneven(cells: &[u32; CELLS]) -> usize
+    requires { ⌜ AtMost cellSumMost (now cells) ⌝ }
+    ensures { λ r. ⌜ r ≡ firstUneven (matrixOf (now (cells .entry))) ⌝ }
+{
+    let mut k = 1;
+    while k < DEGREES {
+        if is_uneven(cells, k) {
+            return k;
+        }
+        k += 1;
+    }
+    k
+}
+
+// D(k)
+fn count_of(cells: &[u32; CELLS], k: usize) -> usize
+    requires { ⌜ (k < degrees) × AtMost cellSumMost (now cells) ⌝ }
+    ensures { λ r. ⌜ (r ≡ count (matrixOf (now (cells .entry))) k) × (r ≤ degrees * cellSumMost) ⌝ }
+{
+    if k == 0 {
+        return 0;
+    }
+    row_sum(cells, k) / k
+}
+
+// All D(k), by degree.
+pub fn counts(cells: &[u32; CELLS]) -> [usize; DEGREES]
+    requires { ⌜ AtMost cellSumMost (now cells) ⌝ }
+    ensures { λ r. ⌜ r ≡ countsOf (matrixOf (now (cells .entry))) ⌝ }
+{
+    let mut t = [0usize; DEGREES];
+    for k in 0..DEGREES {
+        t[k] = count_of(cells, k);
+    }
+    t
+}
+
+// The most that cell (k, l) can hold: D(k) × D(l), on the diagonal D(k) × (D(k) - 1).
+fn cell_most(counts: &[usize; DEGREES], k: usize, l: usize) -> usize
+    requires { ⌜ (k < degrees) × (l < degrees) × AtMost (degrees * cellSumMost) (now counts) ⌝ }
+    ensures { λ r. ⌜ r ≡ cellMost (countIn (now (counts .entry))) k l ⌝ }
+{
+    let d = counts[k];
+    if k == l {
+        return d * d - d;
+    }
+    d * counts[l]
+}
+
+// Cell (k, l) is above its most.
+fn is_overfull(cells: &[u32; CELLS], counts: &[usize; DEGREES], k: usize, l: usize) -> bool
+    requires { ⌜ (k < degrees) × (l < degrees) × AtMost cellSumMost (now cells) × (now counts ≡ countsOf (matrixOf (now cells))) ⌝ }
+    ensures { λ r. ⌜ r ≡ overfull (matrixOf (now (cells .entry))) k l ⌝ }
+{
+    cell_most(counts, k, l) < cell(cells, k, l)
+}
+
+fn first_overfull_in(cells: &[u32; CELLS], counts: &[usize; DEGREES], k: usize) -> usize
+    requires { ⌜ (k < degrees) × AtMost cellSumMost (now cells) × (now counts ≡ countsOf (matrixOf (now cells))) ⌝ }
+    ensures { λ r. ⌜ r ≡ firstOverfullIn (matrixOf (now (cells .entry))) k ⌝ }
+{
+    let mut l = 1;
+    while l < DEGREES {
+        if is_overfull(cells, counts, k, l) {
+            return l;
+        }
+        l += 1;
+    }
+    l
+}
+
+// No cell of row k from the diagonal on is above its most. A flag and no early exit: most tables pass.
+fn row_fits(cells: &[u32; CELLS], counts: &[usize; DEGREES], k: usize) -> bool
+    requires { ⌜ (k < degrees) × AtMost cellSumMost (now cells) × (now counts ≡ countsOf (matrixOf (now cells))) ⌝ }
+    ensures { λ r. ⌜ r ≡ rowFits (matrixOf (now (cells .entry))) k ⌝ }
+{
+    let d = counts[k];
+    let mut ok = upper_cell(cells, k, k) <= d * d - d;
+    for l in k + 1..DEGREES {
+        ok = ok & (upper_cell(cells, k, l) <= d * counts[l]);
+    }
+    ok
+}
+
+// The cells before the diagonal stand in rows that have passed.
+fn first_overfull(cells: &[u32; CELLS], counts: &[usize; DEGREES]) -> usize
+    requires { ⌜ AtMost cellSumMost (now cells) × (now counts ≡ countsOf (matrixOf (now cells))) ⌝ }
+    ensures { λ r. ⌜ r ≡ firstOverfull (matrixOf (now (cells .entry))) ⌝ }
+{
+    let mut k = 1;
+    while k < DEGREES {
+        if !row_fits(cells, counts, k) {
+            return k;
+        }
+        k += 1;
+    }
+    k
+}
+
+// N
+pub fn vertex_count(cells: &[u32; CELLS], counts: &[usize; DEGREES]) -> usize
+    requires { ⌜ AtMost cellSumMost (now cells) × (now counts ≡ countsOf (matrixOf (now cells))) ⌝ }
+    ensures { λ r. ⌜ r ≡ vertices (matrixOf (now (cells .entry))) ⌝ }
+{
+    let mut n = 0;
+    for k in 0..DEGREES {
+        n += counts[k];
+    }
+    n
+}
+
+// A class, and the first vertex past it.
+struct Run {
+    class: usize,
+    end: usize,
+}
+
+// The class of vertex v, from that of an earlier vertex.
+fn run_at(counts: &[usize; DEGREES], v: usize, run: Run) -> Run
+    requires { ⌜ (let D = countIn (now counts) in Reaches D (run .class) (run .end) v × (v < total degrees D) × (total degrees D ≤ mostVertices)) ⌝ }
+    ensures { λ r. ⌜ (let D = countIn (now (counts .entry)) in Reaches D (r .class) (r .end) v × (r .class ≡ classOf degrees D v)) ⌝ }
+{
+    let mut class = run.class;
+    let mut end = run.end;
+    while end <= v {
+        class += 1;
+        end += counts[class];
+    }
+    Run { class, end }
+}
+
+// The degree of each vertex, with zeros behind the last.
+pub fn classes(cells: &[u32; CELLS], counts: &[usize; DEGREES]) -> [u8; MOST_VERTICES]
+    requires { ⌜ AtMost cellSumMost (now cells) × (now counts ≡ countsOf (matrixOf (now cells))) × (vertices (matrixOf (now cells)) ≤ mostVertices) ⌝ }
+    ensures { λ r. ⌜ r ≡ classesOf (matrixOf (now (cells .entry))) ⌝ }
+{
+    let n = vertex_count(cells, counts);
+    let mut t = [0u8; MOST_VERTICES];
+    let mut run = Run {
+        class: 0,
+        end: counts[0],
+    };
+    for v in 0..n {
+        run = run_at(counts, v, run);
+        t[v] = run.class as u8;
+    }
+    t
+}
+
+// Half the sum of all cells.
+pub fn edges_wanted(cells: &[u32; CELLS]) -> usize
+    requires { ⌜ AtMost cellSumMost (now cells) ⌝ }
+    ensures { λ r. ⌜ r ≡ wanted (matrixOf (now (cells .entry))) ⌝ }
+{
+    let mut sum = 0;
+    for k in 0..DEGREES {
+        sum += row_sum(cells, k);
+    }
+    sum / 2
+}
+
+// The tests 9 to 12, each over all cells before the next begins.
+pub fn layout_check(cells: &[u32; CELLS], counts: &[usize; DEGREES]) -> Verdict
+    requires { ⌜ AtMost cellSumMost (now cells) × (now counts ≡ countsOf (matrixOf (now cells))) ⌝ }
+    ensures { λ r. ⌜ r ≡ layoutVerdict (matrixOf (now (cells .entry))) ⌝ }
+{
+    let odd = first_odd(cells);
+    if odd != DEGREES {
+        return Verdict::Stop(refuse(Cause::OddDiagonal, odd, odd));
+    }
+    let uneven = first_uneven(cells);
+    if uneven != DEGREES {
+        return Verdict::Stop(refuse(Cause::UnevenRow, uneven, 0));
+    }
+    let k = first_overfull(cells, counts);
+    if k != DEGREES {
+        let l = first_overfull_in(cells, counts, k);
+        return Verdict::Stop(refuse(Cause::OverfullCell, k, l));
+    }
+    if MOST_VERTICES < vertex_count(cells, counts) {
+        return stopped(Cause::TooManyVertices);
+    }
+    Verdict::Go
+}
