@@ -1,3 +1,5 @@
 pub mod Taking
 pub mod Room
 pub mod Said
+pub mod Enough
+pub mod Built

@@ -23,7 +23,7 @@ use Rattle.taking.specs.Take.{takeAnswer, takeJournal}
 use Rattle.taking.proofs.Take.{taken-facts, held-facts}
 use Rattle.runner.specs.Program.{blocksIn, blockIn, Taking, takeVerdict, takeNext, takeAll}
 
-abbrev IsGo : Verdict → Type 0
+abbrev pub IsGo : Verdict → Type 0
 IsGo Go = Unit {0}
 IsGo (Stop r) = ⊥
 
@@ -53,19 +53,8 @@ module _ (j₀ g input : List ℕ) where
   abbrev pub Went : ℕ → List ℕ → Type 0
   Went i j = after i ≡ record { journal = j; verdict = Go }
 
-  module _ (i : ℕ) (j : List ℕ) (w : Went i j) where
-    next : after (i + 1) ≡ record { journal = takeJournal (takeAnswer j g i (blockIn input i)) j (blockIn input i); verdict = takeVerdict (takeAnswer j g i (blockIn input i)) }
-    next = foldTo-more (takeNext g input) (record { journal = j₀; verdict = Go }) i ∙ ap (takeNext g input i) w
-
-    -- one more
-    pub went-next : takeVerdict (takeAnswer j g i (blockIn input i)) ≡ Go
-        → Went (i + 1) (takeJournal (takeAnswer j g i (blockIn input i)) j (blockIn input i))
-    went-next v =
-        next
-        ∙ ap (λ (v : Verdict). record { journal = takeJournal (takeAnswer j g i (blockIn input i)) j (blockIn input i); verdict = v }) v
-
   -- a refusal stays
-  stays : (i k : ℕ) (s : Taking) (r : Refusal) → s .verdict ≡ Stop r → after i ≡ s → after (i + k) ≡ s
+  pub stays : (i k : ℕ) (s : Taking) (r : Refusal) → s .verdict ≡ Stop r → after i ≡ s → after (i + k) ≡ s
   stays i zero s r v e = rw add-zero e
   stays i (suc k) s r v e =
       let q : i + suc k ≡ i + k + 1 = omega arith in
@@ -74,18 +63,35 @@ module _ (j₀ g input : List ℕ) where
       ∙ ap (takeNext g input (i + k)) (stays i k s r v e)
       ∙ rw v)
 
-  -- the first refusal is the answer
-  pub first-refusal : (i : ℕ) (j : List ℕ) (r : Refusal) → i < blocksIn input → Went i j → takeVerdict (takeAnswer j g i (blockIn input i)) ≡ Stop r
-      → takeAll j₀ g input ≡ record { journal = takeJournal (takeAnswer j g i (blockIn input i)) j (blockIn input i); verdict = Stop r }
-  first-refusal i j r l w e =
-      let q : blocksIn input ≡ i + 1 + (blocksIn input - (i + 1)) = omega arith in
-      ap after q
-      ∙ stays (i + 1) (blocksIn input - (i + 1))
-      (record { journal = takeJournal (takeAnswer j g i (blockIn input i)) j (blockIn input i); verdict = Stop r }) r refl
-      (next i j w ∙ ap (λ (v : Verdict). record { journal = takeJournal (takeAnswer j g i (blockIn input i)) j (blockIn input i); verdict = v }) e)
+  -- what taking block i answered and left
+  module _ (i : ℕ) (j : List ℕ) (w : Went i j) (b : List ℕ) (same : b ≡ blockIn input i) (v : Verdict) (j′ : List ℕ)
+      (e : (v ≡ takeVerdict (takeAnswer j g i b)) × (j′ ≡ takeJournal (takeAnswer j g i b) j b)) where
+    made : List ℕ → Taking
+    made b = record { journal = takeJournal (takeAnswer j g i b) j b; verdict = takeVerdict (takeAnswer j g i b) }
+
+    next : after (i + 1) ≡ record { journal = j′; verdict = v }
+    unfolding made
+    next =
+        foldTo-more (takeNext g input) (record { journal = j₀; verdict = Go }) i
+        ∙ ap (takeNext g input i) w
+        ∙ ap made (sym same)
+        ∙ rw (e .0, e .1)
+
+    -- one more went
+    pub went-next : v ≡ Go → Went (i + 1) j′
+    went-next h = next ∙ ap (λ (v : Verdict). record { journal = j′; verdict = v }) h
+
+    -- the first refusal is the answer
+    pub first-refusal : i < blocksIn input → (r : Refusal) → v ≡ Stop r
+        → (Stop r ≡ takeAll j₀ g input .verdict) × (j′ ≡ takeAll j₀ g input .journal)
+    first-refusal l r h =
+        let q : blocksIn input ≡ i + 1 + (blocksIn input - (i + 1)) = omega arith in
+        let x : takeAll j₀ g input ≡ record { journal = j′; verdict = v } =
+        ap after q ∙ stays (i + 1) (blocksIn input - (i + 1)) (record { journal = j′; verdict = v }) r h next in
+        (sym (ap (λ (s : Taking). s .verdict) x ∙ h), sym (ap (λ (s : Taking). s .journal) x))
 
   -- no 65 blocks go
-  full : after (mostBlocks + 1) .verdict ≡ Go → ⊥
+  pub full : after (mostBlocks + 1) .verdict ≡ Go → ⊥
   full e = go (after mostBlocks .verdict) refl
     where
       last : takeNext g input mostBlocks (after mostBlocks) .verdict ≡ Go
@@ -96,9 +102,13 @@ module _ (j₀ g input : List ℕ) where
       go (Stop r) p = let z : Stop r ≡ Go = rw p at last in subst IsGo (sym z) tt
 
   -- where all went that there are, or 65 of them, all went
-  pub all-went : (i : ℕ) (j : List ℕ) → i ≡ min (blocksIn input) (mostBlocks + 1) → Went i j → takeAll j₀ g input ≡ record { journal = j; verdict = Go }
+  pub all-went : (i : ℕ) (j : List ℕ) → i ≡ min (blocksIn input) (mostBlocks + 1) → Went i j
+      → (Go ≡ takeAll j₀ g input .verdict) × (j ≡ takeAll j₀ g input .journal)
   all-went i j e w = go (decLt (blocksIn input) (mostBlocks + 1))
     where
-      go : Dec (blocksIn input < mostBlocks + 1) → takeAll j₀ g input ≡ record { journal = j; verdict = Go }
-      go (yes h) = let q : blocksIn input ≡ i = omega arith in ap after q ∙ w
+      go : Dec (blocksIn input < mostBlocks + 1) → (Go ≡ takeAll j₀ g input .verdict) × (j ≡ takeAll j₀ g input .journal)
+      go (yes h) =
+          let q : blocksIn input ≡ i = omega arith in
+          let x = ap after q ∙ w in
+          (sym (ap (λ (s : Taking). s .verdict) x), sym (ap (λ (s : Taking). s .journal) x))
       go (no h) = let q : mostBlocks + 1 ≡ i = omega arith in absurd (full (ap (λ (k : ℕ). after k .verdict) q ∙ ap (λ (s : Taking). s .verdict) w))

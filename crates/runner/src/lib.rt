@@ -73,7 +73,7 @@ fn block_in(input: &[u8], number: usize) -> &[u8]
     &input[at..at + BLOCK_MOST]
 }
 
-// Takes one block: refused or not.
+// Takes one block; refused or not.
 fn take_one(journal: &mut [u8], adjacency: &[u8], number: usize, block: &[u8]) -> Verdict
     ensures { λ r. ⌜ r ≡ takeVerdict (takeAnswer (now (journal .entry)) (now (adjacency .entry)) number (now (block .entry))) ⌝ }
     ensures { λ _. ⌜ now (journal .exit) ≡ takeJournal (takeAnswer (now (journal .entry)) (now (adjacency .entry)) number (now (block .entry))) (now (journal .entry)) (now (block .entry)) ⌝ }

@@ -1,6 +1,6 @@
 -- `runner::take_all` meets its contract: the blocks so far went into the journal.
 -- Assumes nothing.
-use mathlib.Core.Path.{_≡_, refl, sym, _∙_}
+use mathlib.Core.Path.{_≡_, refl}
 use Prim.Native.Nat.{_≤_, _-_}
 use native.Mathlib.Omega.{arith}
 use borrow.Author.Needs.{needs}
@@ -34,10 +34,8 @@ take-all-spec =
     let b = t .before in
     let l = b .before .before .before in
     let a = l .before .before .before .before .before .before .args in
-    let e = rw (b .block-in .ensures) at (t .take-one .ensures) in
-    rw (first-refusal (a .journal .now) (a .adjacency .now) (a .input .now) (l .loop .number) (l .loop .journal) _ (omega arith) (l .loop .inv .2)
-    (sym (e .0) ∙ v .verdict .given .1))
-    (refl, e .1))  -- returns
+    first-refusal (a .journal .now) (a .adjacency .now) (a .input .now) (l .loop .number) (l .loop .journal) (l .loop .inv .2) _ (b .block-in .ensures) _ _
+    (t .take-one .ensures) (omega arith) _ (v .verdict .given .1))  -- returns
     (λ c. search needs)  -- enum-told
     (λ c. omega arith)  -- add-number
     (λ c. omega arith)  -- loop-less
@@ -45,16 +43,14 @@ take-all-spec =
     let t = c .before .before .before .before in
     let b = t .before in
     let l = b .before .before .before in
-    let a = l .before .before .before .before .before .before .args in
-    let e = rw (b .block-in .ensures) at (t .take-one .ensures) in (
+    let a = l .before .before .before .before .before .before .args in (
       omega arith,
       search needs,
-      rw (e .1)
-          (went-next (a .journal .now) (a .adjacency .now) (a .input .now) (l .loop .number) (l .loop .journal) (l .loop .inv .2)
-          (sym (e .0) ∙ c .enum-told .given .1)),
+      went-next (a .journal .now) (a .adjacency .now) (a .input .now) (l .loop .number) (l .loop .journal) (l .loop .inv .2) _ (b .block-in .ensures) _ _
+          (t .take-one .ensures) (c .enum-told .given .1),
     ))  -- loop-again
     (λ c. c .before .loop .inv .1)  -- same-length-2
     (λ c.
     let l = c .before in
     let a = l .before .before .before .before .before .before .args in
-    rw (all-went (a .journal .now) (a .adjacency .now) (a .input .now) (l .loop .number) (l .loop .journal) (omega arith) (l .loop .inv .2)) (refl, refl)))  -- returns-2
+    all-went (a .journal .now) (a .adjacency .now) (a .input .now) (l .loop .number) (l .loop .journal) (omega arith) (l .loop .inv .2)))  -- returns-2

@@ -1,0 +1,54 @@
+// Blocks read back: each part of the journal is the block sent under its number, before and after laying out.
+use adjacency::ADJACENCY_SIZE;
+use journal::JOURNAL_SIZE;
+use laying_out::lay_out;
+use libc::STDOUT_FILENO;
+use reading_back::held_block;
+use taking::take_block;
+
+// The part of the journal for a number, against the block sent under it.
+fn compare<'a>(journal: &'a [u8], adjacency: &'a [u8], number: usize, block: &[u8]) {
+    let part = held_block(journal, adjacency, number);
+    io::write_all(STDOUT_FILENO, b"part ");
+    io::print_decimal(STDOUT_FILENO, number as u64);
+    if part.len() == 0 {
+        io::write_all(STDOUT_FILENO, b" empty\n");
+        return;
+    }
+    if slices::same_bytes(part, block) {
+        io::write_all(STDOUT_FILENO, b" same\n");
+        return;
+    }
+    io::write_all(STDOUT_FILENO, b" other\n");
+}
+
+// Three blocks of different lengths and bytes, and a number that none was sent under.
+fn compare_all<'a>(journal: &'a [u8], adjacency: &'a [u8]) {
+    compare(journal, adjacency, 0, &[1u8, 3, 1, 0]);
+    compare(journal, adjacency, 1, &[2u8, 2, 2, 0, 2, 3, 1, 0]);
+    compare(
+        journal,
+        adjacency,
+        2,
+        &[2u8, 3, 1, 0, 1, 1, 0, 0, 2, 2, 0, 0],
+    );
+    compare(journal, adjacency, 3, &[]);
+}
+
+pub fn parts() {
+    let mut journal = [0u8; JOURNAL_SIZE];
+    let adjacency = [0u8; ADJACENCY_SIZE];
+    take_block(&mut journal, &adjacency, 0, &[1u8, 3, 1, 0]);
+    take_block(&mut journal, &adjacency, 1, &[2u8, 2, 2, 0, 2, 3, 1, 0]);
+    take_block(
+        &mut journal,
+        &adjacency,
+        2,
+        &[2u8, 3, 1, 0, 1, 1, 0, 0, 2, 2, 0, 0],
+    );
+    io::write_all(STDOUT_FILENO, b"three blocks, read back\n");
+    compare_all(&journal, &adjacency);
+    lay_out(&mut journal, &adjacency);
+    io::write_all(STDOUT_FILENO, b"and after laying out\n");
+    compare_all(&journal, &adjacency);
+}

@@ -1,0 +1,174 @@
+-- Every text is a refusal, or that of a graph with the input's table (specs/Theorems.antt `ProgramSays`).
+-- Assumes nothing.
+use mathlib.Core.Path.{_≡_, refl, sym, ap, subst, fun-ext, _∙_}
+use mathlib.Core.Bool.{true, _&&_}
+use mathlib.Core.List.{List, _++_}
+use mathlib.Core.Logic.{_⊎_, inl, inr}
+use Prim.Native.Nat.{ℕ, _+_, _*_, _/_}
+use native.Mathlib.Omega.{arith}
+use lib.Dec.{eqb, ltb}
+use lib.ListN.{length, replicate}
+use Rattle.finite.specs.Range.{bit, sumTo, catTo}
+use Rattle.finite.proofs.Sum.{sumTo-none, sumTo-more}
+use Rattle.finite.proofs.Fold.{catTo-cong, foldTo-keeps}
+use Rattle.graph.specs.Graph.{edges}
+use Rattle.answer.specs.declared.Refusal.{Refusal}
+use Rattle.answer.specs.declared.Verdict.{Verdict}
+use Rattle.answer.specs.declared.Verdict.the-variants.{Go, Stop}
+use Rattle.answer.specs.declared.TakeAnswer.{TakeAnswer}
+use Rattle.answer.specs.declared.TakeAnswer.the-variants.{Taken, Held, Refused}
+use Rattle.answer.specs.declared.LayOutAnswer.{LayOutAnswer}
+use Rattle.answer.specs.declared.LayOutAnswer.the-variants.{LaidOut, Refused as LayOutRefused}
+use Rattle.answer.specs.declared.CompleteAnswer.{CompleteAnswer}
+use Rattle.answer.specs.declared.CompleteAnswer.the-variants.{Completed, Refused as CompleteRefused}
+use Rattle.table.specs.Block.{blockCell}
+use Rattle.graph.specs.Tests.{vertices}
+use Rattle.journal.specs.Journal.{journalSize, phase, blocks, jdmOf, laid}
+use Rattle.journal.proofs.Store.{phase-stored, blocks-stored, jdm-stored}
+use Rattle.journal.proofs.Laid.{jdm-laid}
+use Rattle.adjacency.specs.Adjacency.{adjacencySize, edge}
+use Rattle.state.specs.Valid.{lengthsOk, valid}
+use Rattle.state.specs.Laid.{vertexCount}
+use Rattle.state.proofs.Facts.{lengths-journal, valid-journal}
+use Rattle.taking.specs.Take.{takeAnswer, takeJournal}
+use Rattle.laying_out.specs.LayOut.{layOutAnswer, layOutJournal}
+use Rattle.clearing.specs.Clear.{ClearedState}
+use Rattle.clearing.proofs.Cleared.{cleared-state}
+use Rattle.taking.proofs.Take.{taken-facts, held-facts, take-lengths, take-valid}
+use Rattle.laying_out.proofs.LayOut.{lay-out-vertices}
+use Rattle.editing.specs.List.{edgeBytes, listBytes}
+use Rattle.editing.proofs.List.{list-length}
+use Rattle.editing.proofs.Pairs.{cat-sized, one-sized}
+use Rattle.completion.specs.Complete.{completed, completeAnswer, completeAdjacency}
+use Rattle.completion.proofs.Entry.{completed-facts, complete-works}
+use Rattle.text.specs.Text.{refusedLine, headLine, edgeLines}
+use Rattle.text.proofs.Lines.{lines-cat, lines-one}
+use Rattle.runner.specs.Program.{blocksIn, blockIn, Taking, takeVerdict, takeNext, takeAll, stateText, completedText, laidText, takenText, textFrom}
+use Rattle.runner.specs.Theorems.{inputTable, edgeText, Built, ProgramSays}
+use Rattle.runner.proofs.Taking.{IsGo}
+
+-- the lines of a graph's edge list, v by v and w by w
+module _ (n : ℕ) (g : List ℕ) where
+  there : ℕ → ℕ → ℕ
+  there v w = bit (ltb v w && eqb (edge g v w) 1)
+
+  edge-sized : (v w : ℕ) → length (edgeBytes g v w) ≡ 2 * there v w
+  unfolding there
+  edge-sized v w = one-sized (ltb v w && eqb (edge g v w) 1) v w
+
+  row-sized : (v : ℕ) → length (catTo n (edgeBytes g v)) ≡ 2 * sumTo n (there v)
+  row-sized v = cat-sized (edgeBytes g v) (there v) (edge-sized v) n
+
+  lines-row : (v : ℕ) → edgeLines (catTo n (edgeBytes g v)) ≡ catTo n (edgeText g v)
+  lines-row v =
+      lines-cat (edgeBytes g v) (λ m. sumTo m (there v)) (cat-sized (edgeBytes g v) (there v) (edge-sized v)) n
+      ∙ catTo-cong (λ w. edgeLines (edgeBytes g v w)) (edgeText g v) n (λ w l. lines-one (ltb v w && eqb (edge g v w) 1) v w)
+
+  lines-list : edgeLines (listBytes n g) ≡ catTo n (λ v. catTo n (edgeText g v))
+  lines-list =
+      lines-cat (λ v. catTo n (edgeBytes g v)) (λ m. sumTo m (λ v. sumTo n (there v)))
+      (cat-sized (λ v. catTo n (edgeBytes g v)) (λ v. sumTo n (there v)) row-sized) n
+      ∙ catTo-cong (λ v. edgeLines (catTo n (edgeBytes g v))) (λ v. catTo n (edgeText g v)) n (λ v l. lines-row v)
+
+-- i blocks went into the journal j
+record Reached (g input : List ℕ) (i : ℕ) (j : List ℕ) : Type 0 where
+  lengths : lengthsOk j g ≡ true
+  sound : valid j g ≡ true
+  taking : phase j ≡ 0
+  numbered : blocks j ≡ i
+  table : jdmOf j ≡ (λ k l. sumTo i (λ i. blockCell (blockIn input i) k l))
+
+module _ (g input : List ℕ) where
+  reached-next : (i : ℕ) (s : Taking) → (s .verdict ≡ Go → Reached g input i (s .journal)) → takeNext g input i s .verdict ≡ Go
+      → Reached g input (i + 1) (takeNext g input i s .journal)
+  reached-next i s before = go (s .verdict) refl
+    where
+      took : Reached g input i (s .journal) → (a : TakeAnswer) → takeAnswer (s .journal) g i (blockIn input i) ≡ a → takeVerdict a ≡ Go
+          → Reached g input (i + 1) (takeJournal a (s .journal) (blockIn input i))
+      took r (Taken m) e v =
+          let f = taken-facts (s .journal) g i (blockIn input i) m e in
+          let size = lengths-journal (s .journal) g (f .lengths) in
+          let ok = valid-journal (s .journal) g (f .sound) in
+          record {
+            lengths = rw e at (take-lengths (s .journal) g i (blockIn input i) (r .lengths));
+            sound = rw e at (take-valid (s .journal) g i (blockIn input i) (r .sound));
+            taking = phase-stored (s .journal) (blockIn input i) size ok (f .room) (f .good) ∙ r .taking;
+            numbered = blocks-stored (s .journal) (blockIn input i) size ok (f .room) (f .good) ∙ ap (λ (m : ℕ). m + 1) (r .numbered);
+            table =
+                jdm-stored (s .journal) (blockIn input i) size ok (f .room) (f .good)
+                ∙ ap {B = ℕ → ℕ → ℕ} (λ (T : ℕ → ℕ → ℕ). λ k l. T k l + blockCell (blockIn input i) k l) (r .table)
+                ∙ fun-ext (λ k. fun-ext (λ l. sym (sumTo-more (λ i. blockCell (blockIn input i) k l) i)));
+          }
+      took r Held e v = absurd (omega (arith, held-facts (s .journal) g i (blockIn input i) e .low, r .numbered))
+      took r (Refused q) e v = absurd (subst IsGo (sym v) tt)
+
+      go : (v : Verdict) → s .verdict ≡ v → takeNext g input i s .verdict ≡ Go → Reached g input (i + 1) (takeNext g input i s .journal)
+      go Go p h =
+          rw p
+          (took (before p) (takeAnswer (s .journal) g i (blockIn input i)) refl (rw p at h))
+      go (Stop r) p h = let z : Stop r ≡ Go = rw p at h in absurd (subst IsGo (sym z) tt)
+
+  reached-all : (j : List ℕ) → ClearedState j g → takeAll j g input .verdict ≡ Go → Reached g input (blocksIn input) (takeAll j g input .journal)
+  reached-all j c =
+      foldTo-keeps (λ i s. s .verdict ≡ Go → Reached g input i (s .journal)) (takeNext g input) (record { journal = j; verdict = Go }) (blocksIn input)
+      (λ e. record {
+        lengths = c .lengths;
+        sound = c .sound;
+        taking = c .taking;
+        numbered = c .no-blocks;
+        table = c .no-cells ∙ fun-ext (λ k. fun-ext (λ l. sym (sumTo-none (λ i. blockCell (blockIn input i) k l))));
+      })
+      (λ i s l before. reached-next i s before)
+
+-- a completed state's text
+module _ (j g : List ℕ) (n joins switches : ℕ) (count : n ≡ vertexCount j) (e : completeAnswer j g ≡ Completed joins switches) where
+  built : Built (jdmOf j) (stateText n switches j (completed j g .adjacency))
+  built =
+      let w = complete-works j g (completed-facts j g joins switches e .0) in
+      let h = completed j g .adjacency in
+      let d = length (listBytes (vertexCount j) h) / 2 in
+      let q : d ≡ edges (vertexCount j) (edge h) = omega (arith, list-length (vertexCount j) h (w .simple)) in
+      record {
+        journal = j;
+        adjacency = h;
+        switches = switches;
+        table = refl;
+        simple = w .simple;
+        has-table = w .table;
+        says =
+            ap (λ (n : ℕ). headLine n d switches ++ edgeLines (listBytes (vertexCount j) h)) count
+            ∙ ap (λ (m : ℕ). headLine (vertexCount j) m switches ++ edgeLines (listBytes (vertexCount j) h)) q
+            ∙ ap (λ (t : List ℕ). headLine (vertexCount j) (edges (vertexCount j) (edge h)) switches ++ t) (lines-list (vertexCount j) h);
+      }
+
+-- refused, or built
+abbrev Told : (ℕ → ℕ → ℕ) → List ℕ → Type 0
+Told T text = ((r : Refusal) × (text ≡ refusedLine r)) ⊎ Built T text
+
+told-completed : (j g : List ℕ) (n : ℕ) → n ≡ vertexCount j → Told (jdmOf j) (laidText (LaidOut n) j g)
+told-completed j g n count = go (completeAnswer j g) refl
+  where
+    go : (a : CompleteAnswer) → completeAnswer j g ≡ a → Told (jdmOf j) (completedText a n j (completeAdjacency a j g))
+    go (Completed joins switches) e = inr (built j g n joins switches count e)
+    go (CompleteRefused r) e = inl (r, refl)
+
+told-laid : (j g : List ℕ) → Told (jdmOf j) (takenText Go j g)
+told-laid j g = go (layOutAnswer j g) refl
+  where
+    go : (a : LayOutAnswer) → layOutAnswer j g ≡ a → Told (jdmOf j) (laidText a (layOutJournal a j) g)
+    go (LaidOut n) e =
+        subst (λ (T : ℕ → ℕ → ℕ). Told T (laidText (LaidOut n) (laid j) g)) (jdm-laid j)
+        (told-completed (laid j) g n (lay-out-vertices j g n e ∙ ap vertices (sym (jdm-laid j))))
+    go (LayOutRefused r) e = inl (r, refl)
+
+told : (j g input : List ℕ) → ClearedState j g → Told (inputTable input) (textFrom j g input)
+told j g input c = go (takeAll j g input .verdict) refl
+  where
+    go : (v : Verdict) → takeAll j g input .verdict ≡ v → Told (inputTable input) (takenText v (takeAll j g input .journal) g)
+    go Go e =
+        subst (λ (T : ℕ → ℕ → ℕ). Told T (takenText Go (takeAll j g input .journal) g)) (reached-all g input j c e .table)
+        (told-laid (takeAll j g input .journal) g)
+    go (Stop r) e = inl (r, refl)
+
+pub program-says : ProgramSays
+program-says input = told (replicate journalSize 0) (replicate adjacencySize 0) input cleared-state

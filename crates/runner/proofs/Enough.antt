@@ -1,0 +1,77 @@
+-- The program need not read more than 65 blocks (specs/Theorems.antt `ReadsEnough`).
+-- Assumes nothing.
+use mathlib.Core.Path.{_≡_, refl, sym, ap, _∙_}
+use mathlib.Core.List.{List}
+use Prim.Native.Nat.{ℕ, zero, suc, _+_, _-_, _*_, _≤_, _<_, min}
+use native.Mathlib.Numerals.{add-one}
+use native.Mathlib.Decide.{decLt}
+use native.Mathlib.Omega.{arith}
+use lib.ListN.{length, take, drop, replicate, length-take}
+use lib.Seq.{take-all, getD-take, ext-getD}
+use Rattle.finite.proofs.Fold.{foldTo-none, foldTo-more}
+use Rattle.answer.specs.declared.Verdict.{Verdict}
+use Rattle.answer.specs.declared.Verdict.the-variants.{Go, Stop}
+use Rattle.slices.proofs.Part.{length-part, getD-part}
+use Rattle.table.specs.Block.{blockMost}
+use Rattle.journal.specs.Journal.{mostBlocks, journalSize}
+use Rattle.adjacency.specs.Adjacency.{adjacencySize}
+use Rattle.runner.specs.Program.{blocksIn, blockIn, Taking, takeNext, takeAll, takenText, textFrom, inputMost}
+use Rattle.runner.specs.Theorems.{ReadsEnough}
+use Rattle.runner.proofs.Taking.{after, stays, full}
+
+-- a part that lies in the first m elements
+part-in : (n k m : ℕ) (l : List ℕ) → k + n ≤ m → m ≤ length l → take n (drop k (take m l)) ≡ take n (drop k l)
+part-in n k m l h fits =
+    let e : length (take m l) ≡ m = length-take m l ∙ (omega arith) in
+    let a : length (take n (drop k (take m l))) ≡ n = length-part n k (take m l) ∙ ap (λ (s : ℕ). min n (s - k)) e ∙ (omega arith) in
+    let b : length (take n (drop k l)) ≡ n = length-part n k l ∙ (omega arith) in
+    ext-getD 0 (take n (drop k (take m l))) (take n (drop k l)) (a ∙ sym b)
+    (λ p q.
+    let r : p < n = omega arith in
+    getD-part n k (take m l) p r ∙ getD-take m l (k + p) 0 (omega arith) ∙ sym (getD-part n k l p r))
+
+module _ (j g input : List ℕ) (long : inputMost < length input) where
+  same-block : (i : ℕ) → i < mostBlocks + 1 → blockIn (take inputMost input) i ≡ blockIn input i
+  same-block i h = part-in blockMost (blockMost * i) inputMost input (omega arith) (omega arith)
+
+  same-next : (i : ℕ) (s : Taking) → i < mostBlocks + 1 → takeNext g (take inputMost input) i s ≡ takeNext g input i s
+  same-next i s h = rw (same-block i h)
+
+  same-after : (i : ℕ) → i ≤ mostBlocks + 1 → after j g (take inputMost input) i ≡ after j g input i
+  same-after zero h =
+      foldTo-none (takeNext g (take inputMost input)) (record { journal = j; verdict = Go })
+      ∙ sym (foldTo-none (takeNext g input) (record { journal = j; verdict = Go }))
+  same-after (suc i) h =
+      rw (← (add-one i))
+      (foldTo-more (takeNext g (take inputMost input)) (record { journal = j; verdict = Go }) i
+      ∙ ap (takeNext g (take inputMost input) i) (same-after i (omega arith))
+      ∙ same-next i (after j g input i) (omega arith)
+      ∙ sym (foldTo-more (takeNext g input) (record { journal = j; verdict = Go }) i))
+
+  -- block 64 is refused, and the refusal stays
+  same-all : takeAll j g input ≡ takeAll j g (take inputMost input)
+  same-all = go (after j g input (mostBlocks + 1) .verdict) refl
+    where
+      size : length (take inputMost input) ≡ inputMost
+      size = length-take inputMost input ∙ (omega arith)
+
+      go : (v : Verdict) → after j g input (mostBlocks + 1) .verdict ≡ v → takeAll j g input ≡ takeAll j g (take inputMost input)
+      go Go e = absurd (full j g input e)
+      go (Stop r) e =
+          let p : blocksIn input ≡ mostBlocks + 1 + (blocksIn input - (mostBlocks + 1)) = omega arith in
+          let q : mostBlocks + 1 ≡ blocksIn (take inputMost input) = omega (arith, size) in
+          ap (after j g input) p
+          ∙ stays j g input (mostBlocks + 1) (blocksIn input - (mostBlocks + 1)) (after j g input (mostBlocks + 1)) r e refl
+          ∙ sym (same-after (mostBlocks + 1) (omega arith))
+          ∙ ap (after j g (take inputMost input)) q
+
+-- from any journal and matrix
+enough : (j g input : List ℕ) → textFrom j g input ≡ textFrom j g (take inputMost input)
+enough j g input = go (decLt inputMost (length input))
+  where
+    go : Dec (inputMost < length input) → textFrom j g input ≡ textFrom j g (take inputMost input)
+    go (yes h) = ap (λ (s : Taking). takenText (s .verdict) (s .journal) g) (same-all j g input h)
+    go (no h) = ap (textFrom j g) (sym (take-all inputMost input (omega arith)))
+
+pub reads-enough : ReadsEnough
+reads-enough input = enough (replicate journalSize 0) (replicate adjacencySize 0) input
