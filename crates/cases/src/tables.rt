@@ -1,5 +1,6 @@
 // Tables with what the program prints for them.
 use libc::STDOUT_FILENO;
+use slices::put;
 
 fn run(title: &[u8], input: &[u8]) {
     io::write_all(STDOUT_FILENO, title);
@@ -21,78 +22,20 @@ pub fn small() {
     run(b"(3,3)=18\n", &[3u8, 3, 18, 0]);
 }
 
-// Two odd counts in two blocks: 16 records fill the first.
+// 17 records (2,2) with no count: a block of 16 and one more.
+fn no_counts(input: &mut [u8]) {
+    for i in 0..17usize {
+        put(input, 4 * i, 2);
+        put(input, 4 * i + 1, 2);
+    }
+}
+
+// Two odd counts in two blocks.
 pub fn sum_over_blocks() {
-    let input = [
-        2u8,
-        2,
-        3,
-        0,
-        2,
-        2,
-        0,
-        0,
-        2,
-        2,
-        0,
-        0,
-        2,
-        2,
-        0,
-        0,
-        2,
-        2,
-        0,
-        0,
-        2,
-        2,
-        0,
-        0,
-        2,
-        2,
-        0,
-        0,
-        2,
-        2,
-        0,
-        0,
-        2,
-        2,
-        0,
-        0,
-        2,
-        2,
-        0,
-        0,
-        2,
-        2,
-        0,
-        0,
-        2,
-        2,
-        0,
-        0,
-        2,
-        2,
-        0,
-        0,
-        2,
-        2,
-        0,
-        0,
-        2,
-        2,
-        0,
-        0,
-        2,
-        2,
-        0,
-        0,
-        2,
-        2,
-        5,
-        0,
-    ];
+    let mut input = [0u8; 68];
+    no_counts(&mut input);
+    put(&mut input, 2, 3);
+    put(&mut input, 66, 5);
     run(b"(2,2)=3 and 5: even only as a sum\n", &input);
 }
 

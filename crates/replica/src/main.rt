@@ -7,7 +7,7 @@ use runner::TEXT_MOST;
 
 // Whether n bytes are all of the input that can matter. Where fewer came, the input ended or a read failed: one more read tells.
 fn was_read(n: usize) -> bool {
-    if n == INPUT_MOST {
+    if runner::is_enough(n) {
         return true;
     }
     let mut more = [0u8; 1];

@@ -3,6 +3,7 @@ ghost use mathlib.Core.Path.{_≡_};
 ghost use mathlib.Core.Bool.{true};
 ghost use mathlib.Core.List.{_++_};
 ghost use Prim.Native.Nat.{_+_, _-_, _*_, _/_, _≤_, min};
+ghost use lib.Dec.{eqb};
 ghost use lib.ListN.{length};
 ghost use lib.Seq.{sets};
 ghost use Rattle.table.specs.Block.{blockMost};
@@ -13,7 +14,7 @@ ghost use Rattle.answer.specs.declared.LayOutAnswer.the-variants.{LaidOut};
 ghost use Rattle.taking.specs.Take.{takeAnswer, takeJournal};
 ghost use Rattle.io.specs.Counts.{Counts};
 ghost use Rattle.text.specs.Text.{headLine, edgeLines, headMost};
-ghost use Rattle.runner.specs.Program.{blockIn, takeVerdict, takeAll, stateText, laidText, takenText, programText, textMost};
+ghost use Rattle.runner.specs.Program.{blockIn, takeVerdict, takeAll, stateText, laidText, takenText, programText, inputMost, textMost};
 use adjacency::ADJACENCY_SIZE;
 use answer::CompleteAnswer;
 use answer::LayOutAnswer;
@@ -40,6 +41,13 @@ const LIST_MOST: usize = MOST_VERTICES * (DEGREES - 1);
 
 // The most bytes of the text: the first line, and a line for each edge.
 pub const TEXT_MOST: usize = HEAD_MOST + EDGE_MOST * (LIST_MOST / 2);
+
+// n bytes are all that can matter, whatever follows them.
+pub fn is_enough(n: usize) -> bool
+    ensures { λ r. ⌜ r ≡ eqb n inputMost ⌝ }
+{
+    n == INPUT_MOST
+}
 
 // The smaller of two numbers.
 fn least(a: usize, b: usize) -> usize
@@ -133,7 +141,7 @@ fn put_state(
 }
 
 // Completes a laid state of n vertices.
-fn finish(journal: &[u8], adjacency: &mut [u8], n: usize, output: &mut [u8]) -> usize
+fn complete(journal: &[u8], adjacency: &mut [u8], n: usize, output: &mut [u8]) -> usize
     requires { ⌜ textMost ≤ length (now output) ⌝ }
     ensures { λ r. ⌜ r ≡ length (laidText (LaidOut n) (now (journal .entry)) (now (adjacency .entry))) ⌝ }
     ensures { λ _. ⌜ now (output .exit) ≡ sets (now (output .entry)) 0 (laidText (LaidOut n) (now (journal .entry)) (now (adjacency .entry))) ⌝ }
@@ -160,7 +168,7 @@ fn lay_out(journal: &mut [u8], adjacency: &mut [u8], output: &mut [u8]) -> usize
     let answer = laying_out::lay_out(journal, adjacency);
     match answer {
         LayOutAnswer::Refused(r) => put_refused(output, 0, r),
-        LayOutAnswer::LaidOut(n) => finish(journal, adjacency, n, output),
+        LayOutAnswer::LaidOut(n) => complete(journal, adjacency, n, output),
     }
 }
 

@@ -13,7 +13,7 @@ lay-out-spec =
     (λ c. search needs)  -- enum-known-answer
     (λ c κs. omega arith)  -- put-refused-requires
     (λ c. search needs)  -- enum-known-answer-2
-    (λ c κs. omega arith)  -- finish-requires
+    (λ c κs. omega arith)  -- complete-requires
     (λ c. search needs)  -- same-length
     (λ c. search needs)  -- same-length-2
     (λ c. search needs)  -- same-length-3
@@ -33,4 +33,4 @@ lay-out-spec =
     let l = k .before .before .before .before in
     let a = l .before .before .before .before .before .before .args in
     says _ _ (a .output .now) _ _ (said-laid (a .journal .now) (a .adjacency .now) _ _ (l .lay-out .ensures) _ (k .answer2 .given .1))
-    (p .finish .ensures)))  -- returns-2
+    (p .complete .ensures)))  -- returns-2

@@ -1,13 +1,13 @@
--- `runner::finish` meets its contract.
+-- `runner::complete` meets its contract.
 -- Assumes nothing.
 use native.Mathlib.Omega.{arith}
 use borrow.Author.Needs.{needs}
 use Rattle.runner.proofs.Said.{says, says-line, said-refused, said-completed, completed-laid}
-use Rattle.runner.proofs.finish.Statement.{statement}
-use Rattle.runner.proofs.finish.Tie as tie
+use Rattle.runner.proofs.complete.Statement.{statement}
+use Rattle.runner.proofs.complete.Tie as tie
 
-pub finish-spec : {M : Type 1} → statement M
-finish-spec =
+pub complete-spec : {M : Type 1} → statement M
+complete-spec =
     tie.close (tie.spec
     (λ c κs. tt)  -- complete-requires
     (λ c. search needs)  -- enum-known-answer
