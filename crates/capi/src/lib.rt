@@ -7,9 +7,9 @@ ghost use Rattle.taking.specs.Take.{takeAnswer, takeJournal};
 ghost use Rattle.reading_back.specs.Held.{lengthAnswer};
 ghost use Rattle.laying_out.specs.LayOut.{layOutAnswer, layOutJournal};
 ghost use Rattle.figures.specs.Figures.{figuresAnswer};
-ghost use Rattle.editing.specs.Add.{addAnswer, addAdjacency};
-ghost use Rattle.editing.specs.Remove.{removeAnswer, removeAdjacency};
-ghost use Rattle.editing.specs.List.{listAnswer, listOutput};
+ghost use Rattle.adding.specs.Add.{addAnswer, addAdjacency};
+ghost use Rattle.removing.specs.Remove.{removeAnswer, removeAdjacency};
+ghost use Rattle.listing.specs.List.{listAnswer, listOutput};
 ghost use Rattle.survey.specs.Survey.{surveyAnswer, surveyOutput};
 ghost use Rattle.completion.specs.Complete.{completeAnswer, completeAdjacency};
 ghost use Rattle.numbers.specs.Flat.{flat, heldNumbers};
@@ -69,7 +69,7 @@ pub extern "C" fn replica_add_edge(
     ensures { λ r. ⌜ r ≡ flat (addNumbers (addAnswer (now (journal .entry)) (now (adjacency .entry)) v w)) ⌝ }
     ensures { λ _. ⌜ now (adjacency .exit) ≡ addAdjacency (addAnswer (now (journal .entry)) (now (adjacency .entry)) v w) (now (journal .entry)) (now (adjacency .entry)) v w ⌝ }
 {
-    numbers::of_add(editing::adding::add_edge(journal, adjacency, v, w))
+    numbers::of_add(adding::add_edge(journal, adjacency, v, w))
 }
 
 #[no_mangle]
@@ -82,7 +82,7 @@ pub extern "C" fn replica_remove_edge(
     ensures { λ r. ⌜ r ≡ flat (removeNumbers (removeAnswer (now (journal .entry)) (now (adjacency .entry)) v w)) ⌝ }
     ensures { λ _. ⌜ now (adjacency .exit) ≡ removeAdjacency (removeAnswer (now (journal .entry)) (now (adjacency .entry)) v w) (now (adjacency .entry)) v w ⌝ }
 {
-    numbers::of_remove(editing::removing::remove_edge(journal, adjacency, v, w))
+    numbers::of_remove(removing::remove_edge(journal, adjacency, v, w))
 }
 
 #[no_mangle]
@@ -102,7 +102,7 @@ pub extern "C" fn replica_edge_list(
     ensures { λ r. ⌜ r ≡ flat (writtenNumbers (listAnswer (now (journal .entry)) (now (adjacency .entry)) (length (now (output .entry))))) ⌝ }
     ensures { λ _. ⌜ now (output .exit) ≡ listOutput (listAnswer (now (journal .entry)) (now (adjacency .entry)) (length (now (output .entry)))) (now (journal .entry)) (now (adjacency .entry)) (now (output .entry)) ⌝ }
 {
-    numbers::of_written(editing::listing::edge_list(journal, adjacency, output))
+    numbers::of_written(listing::edge_list(journal, adjacency, output))
 }
 
 #[no_mangle]

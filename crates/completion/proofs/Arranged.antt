@@ -1,141 +1,138 @@
 -- What the arrays of a layout say: the vertices of a class are a range between two starts, and a cell is the sum of a block.
 -- Assumes nothing.
 use mathlib.Core.Path.{_≡_, refl, sym, ap, _∙_}
-use mathlib.Core.Bool.{cond}
+use mathlib.Core.Bool.{Bool, true, false, cond}
 use mathlib.Core.List.{List}
-use Prim.Native.Nat.{ℕ, _+_, _-_, _/_, _≤_, _<_}
+use Prim.Native.Nat.{ℕ, _+_, _-_, _*_, _/_, _≤_, _<_}
+use native.Mathlib.Nat.{mul-zero}
 use native.Mathlib.Omega.{arith}
 use lib.Dec.{eqb}
 use lib.ListN.{length, getD}
-use Rattle.finite.specs.Range.{sumTo, foldTo}
-use Rattle.graph.specs.Graph.{jdm}
-use Rattle.graph.specs.Numbering.{total, classOf}
-use Rattle.graph.specs.Tests.{leastDegree, mostDegree, degrees, vertexDegree}
-use Rattle.graph.proofs.Matrix.{jdm-classes}
-use Rattle.graph.proofs.Numbering.{classOf-range}
+use Rattle.finite.specs.Range.{foldTo, δ}
+use Rattle.graph.specs.Graph.{size}
+use Rattle.graph.specs.Tests.{leastDegree, mostDegree, degrees}
 use Rattle.table.specs.Inner.Cells.{matrixOf}
-use Rattle.layout.specs.Inner.Arrays.{countsOf, countIn, classIn}
-use Rattle.layout.proofs.Counted.{counted, counted-total}
+use Rattle.finite.proofs.Delta.{δ-other}
+use Rattle.finite.proofs.Fold.{foldTo-keeps, foldTo-none}
+use Rattle.finite.proofs.Sum.{sumTo-zero, sumTo-term}
 use Rattle.adjacency.specs.Adjacency.{edge}
-use Rattle.adjacency.proofs.Classes.{class-at}
 use Rattle.joining.specs.Inner.Work.{degreesOf}
-use Rattle.joining.specs.Inner.Block.{blockSum}
-use Rattle.joining.proofs.Blocks.{start-at, start-rises, start-most, cell-block}
+use Rattle.joining.specs.Inner.Block.{Numbered, classFrom, blockSum}
+use Rattle.joining.proofs.Blocks.{start-rises, start-most, class-inside, class-only, block-cell, table-numbered}
 use Rattle.completion.specs.Complete.{Ran}
 use Rattle.completion.specs.Inner.Cellwise.{cellStep, cellMissing, fillCell, fillRow}
 use Rattle.completion.specs.Inner.Cursor.{ClassRange}
 use Rattle.completion.specs.Inner.Search.{Ranged}
-use Rattle.completion.specs.Inner.Work.{Sound, Fillable, Arranged, Working, Countable, cellIn}
+use Rattle.completion.specs.Inner.Work.{Sound, Fillable, Arranged, Working, Countable, CellOf, cellIn}
 use Rattle.completion.proofs.Sound.{row-sound, rows-sound}
 
-module _ (n : ℕ) (cells classes starts : List ℕ) (a : Arranged n cells classes starts) where
-  T : ℕ → ℕ → ℕ
-  T = matrixOf cells
+-- a cell that the table has nothing in misses nothing
+pub none-missing : (want have : ℕ) (t : Bool) → want ≡ 0 → 0 ≡ (want - have) / cond t 2 1
+none-missing want have true e = omega arith
+none-missing want have false e = omega arith
 
-  counts : List ℕ
-  counts = countsOf (matrixOf cells)
-
-  D : ℕ → ℕ
-  D = countIn counts
-
-  same-total : total degrees D ≡ n
-  unfolding T counts D
-  same-total = counted-total cells (countsOf (matrixOf cells)) refl ∙ sym (a .count)
-
-  -- the classes of the array are those of the layout
-  pub class-same : (v : ℕ) → v < n → classIn classes v ≡ vertexDegree (matrixOf cells) v
-  class-same v h = rw (a .classed) (class-at (matrixOf cells) (rw (← (a .count)) (a .few)) v (rw (← (a .count)) h))
-
-  class-counted : (v : ℕ) → v < n → classIn classes v ≡ classOf degrees D v
-  unfolding T counts D
-  class-counted v h = class-same v h ∙ ap (λ (d : ℕ → ℕ). classOf degrees d v) (sym (counted cells (countsOf (matrixOf cells)) refl))
-
-  start : (k : ℕ) → k ≤ degrees → getD starts k 0 ≡ sumTo k D
-  unfolding T counts D
-  start k h = rw (a .started) (start-at (countsOf (matrixOf cells)) k h)
+module _ (n : ℕ) (cells starts : List ℕ) (a : Arranged n cells starts) where
+  pub numbered : Numbered n starts
+  numbered = rw (a .count) (table-numbered cells refl (a .started))
 
   -- the vertices of class k
-  range : (k : ℕ) → k < degrees → ClassRange n (classIn classes) k (getD starts k 0) (getD starts (k + 1) 0)
-  unfolding T counts D
+  range : (k : ℕ) → k < degrees → ClassRange n (classFrom starts) k (getD starts k 0) (getD starts (k + 1) 0)
   range k h =
       record {
-        ordered = rw (a .started) (start-rises counts k (k + 1) (omega arith) (omega arith));
-        within = to-n;
-        inside = λ v f t.
-            let vn : v < n = omega (arith, to-n) in
-            class-counted v vn
-            ∙ classOf-range degrees D v k (omega (arith, same-total)) .1
-            (omega (arith, start k (omega arith)), omega (arith, start (k + 1) (omega arith)));
-        only = λ v vn e.
-            let in-range = classOf-range degrees D v k (omega (arith, same-total)) .0 (sym (class-counted v vn) ∙ e) in
-            (omega (arith, start k (omega arith)), omega (arith, start (k + 1) (omega arith)));
+        ordered = start-rises numbered k (k + 1) (omega arith) (omega arith);
+        within = start-most numbered (k + 1) (omega arith);
+        inside = λ v f t. class-inside numbered k v h f t;
+        only = λ v vn e. class-only numbered k v h vn e;
       }
-    where
-      to-n : getD starts (k + 1) 0 ≤ n
-      to-n = rw (a .started) (omega (arith, start-most counts (k + 1) (omega arith), same-total))
 
-  pub ranged : (k l : ℕ) → k < degrees → l < degrees → Ranged n (classIn classes) (cellIn starts k l)
+  pub ranged : (k l : ℕ) → k < degrees → l < degrees → Ranged n (classFrom starts) (cellIn starts k l)
   ranged k l kC lC = record { first = kC; second = lC; rows = range k kC; columns = range l lC }
 
-  -- the ones in its block are the cell's count
-  pub block-count : (g : List ℕ) (k l : ℕ) → k < degrees → l < degrees
-      → blockSum (edge g) (getD starts k 0) (getD starts (k + 1) 0) (getD starts l 0) (getD starts (l + 1) 0) ≡ jdm n (classIn classes) (edge g) k l
-  unfolding T counts D
-  block-count g k l kC lC =
-      rw (a .started) (cell-block counts (edge g) k l kC lC)
-      ∙ ap (λ (m : ℕ). jdm m (classOf degrees D) (edge g) k l) same-total
-      ∙ sym (jdm-classes n (classIn classes) (classOf degrees D) (edge g) class-counted k l)
-
 -- a state of the work, and a cell of it
-module _ {n : ℕ} {cells classes starts held : List ℕ} {s : Ran} (p : Working n cells classes starts held s)
+module _ {n : ℕ} {cells starts held : List ℕ} {s : Ran} (p : Working n cells starts held s)
     (k l : ℕ) (kC : k < degrees) (lC : l < degrees) where
   pub countable : Countable (s .adjacency) cells (cellIn starts k l)
   countable =
-      let r = ranged n cells classes starts (p .arranged) k l kC lC in
+      let r = ranged n cells starts (p .arranged) k l kC lC in
       record {
         first = kC;
         second = lC;
-        rows = (r .rows .ordered, omega (arith, r .rows .within, p .arranged .few));
-        columns = (r .columns .ordered, omega (arith, r .columns .within, p .arranged .few));
+        block =
+            record {
+              n = n;
+              few = p .arranged .few;
+              simple = p .sound .filling .partial .simple;
+              rows = (r .rows .ordered, r .rows .within);
+              columns = (r .columns .ordered, r .columns .within);
+            };
         within =
-            rw (block-count n cells classes starts (p .arranged) (s .adjacency) k l kC lC) (p .sound .filling .partial .within k l kC lC);
+            rw (block-cell (numbered n cells starts (p .arranged)) (edge (s .adjacency)) k l kC lC) (p .sound .filling .partial .within k l kC lC);
       }
+
+  pub cell-of : CellOf n starts (cellIn starts k l)
+  cell-of = record { numbered = numbered n cells starts (p .arranged); between = refl }
 
   -- m: what the cell misses, by the sum of its block
   module _ (m : ℕ)
       (e : m ≡ (matrixOf cells k l - blockSum (edge (s .adjacency)) (getD starts k 0) (getD starts (k + 1) 0) (getD starts l 0) (getD starts (l + 1) 0))
       / cond (eqb k l) 2 1) where
-    missing-count : m ≡ cellMissing n (classIn classes) (matrixOf cells) (s .adjacency) k l
-    missing-count = rw (← (block-count n cells classes starts (p .arranged) (s .adjacency) k l kC lC)) e
+    missing-count : m ≡ cellMissing n (classFrom starts) (matrixOf cells) (s .adjacency) k l
+    missing-count = rw (← (block-cell (numbered n cells starts (p .arranged)) (edge (s .adjacency)) k l kC lC)) e
 
-    pub fillable : Fillable n (classIn classes) (cellIn starts k l) m s held
+    pub fillable : Fillable n (classFrom starts) (cellIn starts k l) m s held
     fillable =
         record {
           table = matrixOf cells;
           sound = p .sound;
           missing = omega (arith, missing-count);
-          ranged = ranged n cells classes starts (p .arranged) k l kC lC;
+          ranged = ranged n cells starts (p .arranged) k l kC lC;
           degrees-held = p .degrees-held;
         }
 
-    pub cell-filled : (r : Ran) → r ≡ foldTo m (λ i. cellStep n (classIn classes) k l) s → r ≡ fillCell n (classIn classes) (matrixOf cells) k l s
-    cell-filled r er = er ∙ ap (λ (i : ℕ). foldTo i (λ i. cellStep n (classIn classes) k l) s) missing-count
+    pub cell-filled : (r : Ran) → r ≡ foldTo m (λ i. cellStep n (classFrom starts) k l) s → r ≡ fillCell n (classFrom starts) (matrixOf cells) k l s
+    cell-filled r er = er ∙ ap (λ (i : ℕ). foldTo i (λ i. cellStep n (classFrom starts) k l) s) missing-count
 
 -- the work goes on from any state that is sound
-module _ {n : ℕ} {cells classes starts held : List ℕ} {s : Ran} (p : Working n cells classes starts held s) where
-  pub working : (x : Ran) → Sound n (classIn classes) (matrixOf cells) x → (h : List ℕ) → h ≡ degreesOf n (x .adjacency)
-      → Working n cells classes starts h x
+module _ {n : ℕ} {cells starts held : List ℕ} {s : Ran} (p : Working n cells starts held s) where
+  pub working : (x : Ran) → Sound n (classFrom starts) (matrixOf cells) x → (h : List ℕ) → h ≡ degreesOf n (x .adjacency)
+      → Working n cells starts h x
   working x sound h e = record { arranged = p .arranged; sound = sound; degrees-held = e }
 
-  pub working-sized : (x : Ran) → Sound n (classIn classes) (matrixOf cells) x → length (x .adjacency) ≡ length (s .adjacency)
+  pub working-sized : (x : Ran) → Sound n (classFrom starts) (matrixOf cells) x → length (x .adjacency) ≡ length (s .adjacency)
   working-sized x sound = sound .filling .sized ∙ sym (p .sound .filling .sized)
 
   -- x: the state after the first i cells of row k, and after the first i rows
   module _ (i : ℕ) (x : Ran) where
-    pub cells-sound : (k : ℕ) → k + i ≤ degrees → x ≡ foldTo i (λ i. fillCell n (classIn classes) (matrixOf cells) k (k + i)) s
-        → Sound n (classIn classes) (matrixOf cells) x
-    cells-sound k h e = rw e (row-sound n (classIn classes) (matrixOf cells) s (p .sound) k i h)
+    pub cells-sound : (k : ℕ) → k + i ≤ degrees → x ≡ foldTo i (λ i. fillCell n (classFrom starts) (matrixOf cells) k (k + i)) s
+        → Sound n (classFrom starts) (matrixOf cells) x
+    cells-sound k h e = rw e (row-sound n (classFrom starts) (matrixOf cells) s (p .sound) k i h)
 
-    pub all-sound : i ≤ mostDegree → x ≡ foldTo i (λ i. fillRow n (classIn classes) (matrixOf cells) (leastDegree + i)) s
-        → Sound n (classIn classes) (matrixOf cells) x
-    all-sound h e = rw e (rows-sound n (classIn classes) (matrixOf cells) s (p .sound) i h)
+    pub all-sound : i ≤ mostDegree → x ≡ foldTo i (λ i. fillRow n (classFrom starts) (matrixOf cells) (leastDegree + i)) s
+        → Sound n (classFrom starts) (matrixOf cells) x
+    all-sound h e = rw e (rows-sound n (classFrom starts) (matrixOf cells) s (p .sound) i h)
+
+  -- a class without vertices has no cell to fill
+  module _ (k : ℕ) (kC : k < degrees) (empty : getD starts k 0 ≡ getD starts (k + 1) 0) where
+    no-vertices : size n (classFrom starts) k ≡ 0
+    no-vertices =
+        sumTo-zero n (λ v. δ (classFrom starts v) k)
+        (λ v vn. δ-other (classFrom starts v) k (λ e. omega (arith, class-only (numbered n cells starts (p .arranged)) k v kC vn e)))
+
+    no-cell : (l : ℕ) → l < degrees → matrixOf cells k l ≡ 0
+    no-cell l lC =
+        omega (
+          arith,
+          sumTo-term degrees (matrixOf cells k) l lC,
+          p .sound .filling .target .rows k kC ∙ ap (λ (m : ℕ). k * m) no-vertices ∙ mul-zero k,
+        )
+
+    pub row-empty : s ≡ fillRow n (classFrom starts) (matrixOf cells) k s
+    row-empty =
+        sym (foldTo-keeps (λ i x. x ≡ s) (λ i. fillCell n (classFrom starts) (matrixOf cells) k (k + i)) s (degrees - k) refl
+        (λ i x l e. same i x l ∙ e))
+      where
+        same : (i : ℕ) (x : Ran) → i < degrees - k → fillCell n (classFrom starts) (matrixOf cells) k (k + i) x ≡ x
+        same i x l =
+            ap (λ (m : ℕ). foldTo m (λ j. cellStep n (classFrom starts) k (k + i)) x)
+            (sym (none-missing (matrixOf cells k (k + i)) _ (eqb k (k + i)) (no-cell (k + i) (omega arith))))
+            ∙ foldTo-none (λ j. cellStep n (classFrom starts) k (k + i)) x

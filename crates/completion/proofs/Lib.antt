@@ -8,5 +8,4 @@ pub mod Sound
 pub mod Step
 pub mod Joins
 pub mod Arranged
-pub mod Classes
 pub mod Whole

@@ -1,6 +1,6 @@
 -- One join in a short cell: the searches from the cursor find what is to be joined, and the cursor moved on has passed only what is done.
 -- Assumes nothing.
-use mathlib.Core.Path.{_≡_, ap, _∙_}
+use mathlib.Core.Path.{_≡_, sym, ap, _∙_}
 use mathlib.Core.Bool.{false}
 use mathlib.Core.List.{List}
 use Prim.Native.Nat.{ℕ, _+_, _≤_, _<_, min}
@@ -10,7 +10,7 @@ use lib.Dec.{ltb}
 use lib.ListN.{getD, length-replicate, replicate}
 use borrow.Author.Tests.{le-ltb, ltb-false}
 use Rattle.finite.specs.Range.{lowest}
-use Rattle.finite.proofs.Lowest.{lowest-le, lowest-before}
+use Rattle.finite.proofs.Lowest.{lowest-le, lowest-ge, lowest-before}
 use Rattle.finite.proofs.Fold.{fillTo-at}
 use Rattle.graph.specs.Graph.{degree}
 use Rattle.graph.specs.Switch.{unsaturated, Joined}
@@ -19,14 +19,15 @@ use Rattle.graph.proofs.Resume.{join-degree}
 use Rattle.layout.specs.Layout.{mostVertices}
 use Rattle.adjacency.specs.Adjacency.{edge}
 use Rattle.joining.specs.Join.{own, joinBytes, joinCount}
-use Rattle.joining.specs.Inner.Work.{degreesOf, Joinable, SaturatedBelow, freed}
+use Rattle.joining.specs.Inner.Block.{classFrom}
+use Rattle.joining.specs.Inner.Work.{degreesOf, Joinable, Placed, freed}
 use Rattle.joining.proofs.Bytes.{join-bytes}
 use Rattle.completion.specs.Choice.{openW, openV}
 use Rattle.completion.specs.Complete.{Ran}
 use Rattle.completion.specs.Inner.Cellwise.{cellStep, Filling}
 use Rattle.completion.specs.Inner.Cursor.{ClassRange}
 use Rattle.completion.specs.Inner.Search.{lowestColumn, hasColumn, Searchable}
-use Rattle.completion.specs.Inner.Work.{Saturated, Resumes, Steppable}
+use Rattle.completion.specs.Inner.Work.{Saturated, CellOf, Resumes, Steppable}
 use Rattle.completion.specs.declared.pair.Cell.{Cell}
 use Rattle.completion.specs.declared.cell.Cursor.{Cursor}
 use Rattle.completion.proofs.Chosen.{Chosen, chosen}
@@ -135,17 +136,17 @@ module _ {n : ℕ} {cls : ℕ → ℕ} {c : Cell} {u : Cursor} {s : Ran} {held :
       low-column-le : y ≤ c .columns .to
       low-column-le = omega (arith, lowest-le (u .low .w) (c .columns .to) (λ i. ltb (getD held i 0) l) (p .resumes .low-column))
 
-      pub low-row-most : x ≤ n
+      low-row-most : x ≤ n
       low-row-most = omega (arith, low-row-le, p .ranged .rows .within)
 
-      pub low-column-most : y ≤ n
+      low-column-most : y ≤ n
       low-column-most = omega (arith, low-column-le, p .ranged .columns .within)
 
-      pub below-v : SaturatedBelow n cls g v x
-      below-v i h e = rows-saturated i h (e ∙ ap cls pair-row ∙ chose .row)
+      row-low : c .rows .from ≤ x
+      row-low = omega (arith, p .resumes .row-low, lowest-ge (u .low .v) (c .rows .to) (λ i. ltb (getD held i 0) k) (p .resumes .low-row))
 
-      pub below-w : SaturatedBelow n cls g w y
-      below-w i h e = columns-saturated i h (e ∙ ap cls pair-column ∙ chose .column)
+      column-low : c .columns .from ≤ y
+      column-low = omega (arith, p .resumes .column-low, lowest-ge (u .low .w) (c .columns .to) (λ i. ltb (getD held i 0) l) (p .resumes .low-column))
 
       -- the cursor moved on: b is the column where the row's search goes on
       pub step-resumes : (h : List ℕ) (f b : ℕ) → h ≡ joinBytes n cls g v w → f ≡ freed n cls g v w → b ≡ min f (w + 1)
@@ -157,8 +158,36 @@ module _ {n : ℕ} {cls : ℕ → ℕ} {c : Cell} {u : Cursor} {s : Ran} {held :
             column = omega (arith, find .column-below);
             rows = rows-after n cls (p .table) g filling k l chose;
             columns = columns-after n cls (p .table) g filling k l chose;
+            row-low = row-low;
+            column-low = column-low;
             low-row = low-row-le;
             low-column = low-column-le;
             saturated-rows = stays k x low-row-most rows-saturated;
             saturated-columns = stays l y low-column-most columns-saturated;
           })
+
+-- both ends of the pair, with the classes as the starts have them
+module _ {n : ℕ} {starts : List ℕ} {c : Cell} {u : Cursor} {s : Ran} {held : List ℕ} (p : Steppable n (classFrom starts) c u s held)
+    (o : CellOf n starts c) (v w : ℕ) (ev : v ≡ lowest (u .at .v) (c .rows .to) (hasColumn (s .adjacency) c))
+    (ew : v < c .rows .to → w ≡ lowestColumn (s .adjacency) c v)
+    (x y : ℕ) (ex : x ≡ lowest (u .low .v) (c .rows .to) (λ i. ltb (getD held i 0) (c .k)))
+    (ey : y ≡ lowest (u .low .w) (c .columns .to) (λ i. ltb (getD held i 0) (c .l))) where
+  pub row-placed : Placed n starts (s .adjacency) (record { at = v; class = c .k; low = x }) w
+  row-placed =
+      record {
+        numbered = o .numbered;
+        class = sym (ap (classFrom starts) (pair-row p v w ev ew) ∙ chose p .row);
+        after = omega (arith, row-low p v w ev ew x y ex ey, ap (λ (d : Cell). d .rows .from) (o .between));
+        before = omega (arith, low-row-le p v w ev ew x y ex ey, ap (λ (d : Cell). d .rows .to) (o .between));
+        saturated = λ i h e d. rows-saturated p v w ev ew x y ex ey i h e;
+      }
+
+  pub column-placed : Placed n starts (s .adjacency) (record { at = w; class = c .l; low = y }) v
+  column-placed =
+      record {
+        numbered = o .numbered;
+        class = sym (ap (classFrom starts) (pair-column p v w ev ew) ∙ chose p .column);
+        after = omega (arith, column-low p v w ev ew x y ex ey, ap (λ (d : Cell). d .columns .from) (o .between));
+        before = omega (arith, low-column-le p v w ev ew x y ex ey, ap (λ (d : Cell). d .columns .to) (o .between));
+        saturated = λ i h e d. columns-saturated p v w ev ew x y ex ey i h e;
+      }

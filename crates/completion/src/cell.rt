@@ -4,14 +4,16 @@ ghost use Prim.Native.Nat.{_+_, _≤_, _<_, min};
 ghost use lib.Dec.{ltb};
 ghost use lib.ListN.{getD};
 ghost use Rattle.finite.specs.Range.{lowest, foldTo};
-ghost use Rattle.layout.specs.Inner.Arrays.{classIn};
 ghost use Rattle.adjacency.specs.Adjacency.{side};
+ghost use Rattle.joining.specs.Inner.Block.{classFrom};
 ghost use Rattle.joining.specs.Inner.Work.{degreesOf};
 ghost use Rattle.completion.specs.Inner.Cellwise.{cellStep};
-ghost use Rattle.completion.specs.Inner.Work.{ran, Resumes, Steppable, Fillable};
+ghost use Rattle.completion.specs.Inner.Work.{ran, CellOf, Resumes, Steppable, Fillable};
 use crate::pair::Cell;
 use crate::pair::Pair;
 use crate::pair::open_pair;
+use joining::End;
+use joining::cell::STARTS;
 use layout::MOST_VERTICES;
 
 // Edges added and switches made.
@@ -59,20 +61,30 @@ fn least(a: usize, b: usize) -> usize
 fn fill_step(
     adjacency: &mut [u8],
     held: &mut [usize; MOST_VERTICES],
-    classes: &[u8; MOST_VERTICES],
+    starts: &[usize; STARTS],
     n: usize,
     cell: Cell,
     cursor: Cursor,
     totals: Totals,
 ) -> Step
-    requires { ⌜ Steppable n (classIn (now classes)) cell cursor (ran (now adjacency) totals) (now held) ⌝ }
-    ensures { λ r. ⌜ (ran (now (adjacency .exit)) (r .totals) ≡ cellStep n (classIn (now (classes .entry))) (cell .k) (cell .l) (ran (now (adjacency .entry)) totals)) × Resumes n (classIn (now (classes .entry))) (now (adjacency .exit)) cell (r .cursor) ⌝ }
+    requires { ⌜ Steppable n (classFrom (now starts)) cell cursor (ran (now adjacency) totals) (now held) × CellOf n (now starts) cell ⌝ }
+    ensures { λ r. ⌜ (ran (now (adjacency .exit)) (r .totals) ≡ cellStep n (classFrom (now (starts .entry))) (cell .k) (cell .l) (ran (now (adjacency .entry)) totals)) × Resumes n (classFrom (now (starts .entry))) (now (adjacency .exit)) cell (r .cursor) ⌝ }
     ensures { λ _. ⌜ now (held .exit) ≡ degreesOf n (now (adjacency .exit)) ⌝ }
 {
     let pair = open_pair(adjacency, cell, cursor.at.v, cursor.at.w);
     let v = advance(held, cursor.low.v, cell.rows.to, cell.k);
     let w = advance(held, cursor.low.w, cell.columns.to, cell.l);
-    let done = joining::join(adjacency, held, classes, n, pair.v, pair.w, v, w);
+    let row = End {
+        at: pair.v,
+        class: cell.k,
+        low: v,
+    };
+    let column = End {
+        at: pair.w,
+        class: cell.l,
+        low: w,
+    };
+    let done = joining::join(adjacency, held, starts, n, row, column);
     Step {
         cursor: Cursor {
             at: Pair {
@@ -92,14 +104,14 @@ fn fill_step(
 pub fn fill_cell(
     adjacency: &mut [u8],
     held: &mut [usize; MOST_VERTICES],
-    classes: &[u8; MOST_VERTICES],
+    starts: &[usize; STARTS],
     n: usize,
     cell: Cell,
     m: usize,
     totals: Totals,
 ) -> Totals
-    requires { ⌜ Fillable n (classIn (now classes)) cell m (ran (now adjacency) totals) (now held) ⌝ }
-    ensures { λ r. ⌜ ran (now (adjacency .exit)) r ≡ foldTo m (λ i. cellStep n (classIn (now (classes .entry))) (cell .k) (cell .l)) (ran (now (adjacency .entry)) totals) ⌝ }
+    requires { ⌜ Fillable n (classFrom (now starts)) cell m (ran (now adjacency) totals) (now held) × CellOf n (now starts) cell ⌝ }
+    ensures { λ r. ⌜ ran (now (adjacency .exit)) r ≡ foldTo m (λ i. cellStep n (classFrom (now (starts .entry))) (cell .k) (cell .l)) (ran (now (adjacency .entry)) totals) ⌝ }
     ensures { λ _. ⌜ now (held .exit) ≡ degreesOf n (now (adjacency .exit)) ⌝ }
 {
     let mut cursor = Cursor {
@@ -114,7 +126,7 @@ pub fn fill_cell(
     };
     let mut sum = totals;
     for _ in 0..m {
-        let step = fill_step(adjacency, held, classes, n, cell, cursor, sum);
+        let step = fill_step(adjacency, held, starts, n, cell, cursor, sum);
         cursor = step.cursor;
         sum = step.totals;
     }

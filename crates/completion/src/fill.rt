@@ -6,10 +6,9 @@ ghost use lib.Dec.{eqb};
 ghost use lib.ListN.{length};
 ghost use Rattle.graph.specs.Tests.{degrees};
 ghost use Rattle.table.specs.Inner.Cells.{matrixOf};
-ghost use Rattle.layout.specs.Inner.Arrays.{classIn};
 ghost use Rattle.adjacency.specs.Adjacency.{adjacencySize, edge};
 ghost use Rattle.joining.specs.Inner.Work.{degreesOf};
-ghost use Rattle.joining.specs.Inner.Block.{blockSum};
+ghost use Rattle.joining.specs.Inner.Block.{classFrom, blockSum};
 ghost use Rattle.completion.specs.Inner.Cellwise.{fillCell, fillRow, fillAll};
 ghost use Rattle.completion.specs.Inner.Work.{ran, cellIn, Countable, Working};
 use crate::cell::Totals;
@@ -75,7 +74,6 @@ fn missing(adjacency: &[u8], cells: &[u32; CELLS], c: Cell) -> usize
 fn complete_cell(
     adjacency: &mut [u8],
     held: &mut [usize; MOST_VERTICES],
-    classes: &[u8; MOST_VERTICES],
     cells: &[u32; CELLS],
     starts: &[usize; STARTS],
     n: usize,
@@ -83,33 +81,35 @@ fn complete_cell(
     l: usize,
     totals: Totals,
 ) -> Totals
-    requires { ⌜ Working n (now cells) (now classes) (now starts) (now held) (ran (now adjacency) totals) × (k < degrees) × (l < degrees) ⌝ }
-    ensures { λ r. ⌜ ran (now (adjacency .exit)) r ≡ fillCell n (classIn (now (classes .entry))) (matrixOf (now (cells .entry))) k l (ran (now (adjacency .entry)) totals) ⌝ }
+    requires { ⌜ Working n (now cells) (now starts) (now held) (ran (now adjacency) totals) × (k < degrees) × (l < degrees) ⌝ }
+    ensures { λ r. ⌜ ran (now (adjacency .exit)) r ≡ fillCell n (classFrom (now (starts .entry))) (matrixOf (now (cells .entry))) k l (ran (now (adjacency .entry)) totals) ⌝ }
     ensures { λ _. ⌜ now (held .exit) ≡ degreesOf n (now (adjacency .exit)) ⌝ }
 {
     let c = cell_at(starts, k, l);
     let m = missing(adjacency, cells, c);
-    fill_cell(adjacency, held, classes, n, c, m, totals)
+    fill_cell(adjacency, held, starts, n, c, m, totals)
 }
 
-// The cells of row k, from the diagonal on.
+// The cells of row k, from the diagonal on. A class without vertices has none to fill.
 fn complete_row(
     adjacency: &mut [u8],
     held: &mut [usize; MOST_VERTICES],
-    classes: &[u8; MOST_VERTICES],
     cells: &[u32; CELLS],
     starts: &[usize; STARTS],
     n: usize,
     k: usize,
     totals: Totals,
 ) -> Totals
-    requires { ⌜ Working n (now cells) (now classes) (now starts) (now held) (ran (now adjacency) totals) × (k < degrees) ⌝ }
-    ensures { λ r. ⌜ ran (now (adjacency .exit)) r ≡ fillRow n (classIn (now (classes .entry))) (matrixOf (now (cells .entry))) k (ran (now (adjacency .entry)) totals) ⌝ }
+    requires { ⌜ Working n (now cells) (now starts) (now held) (ran (now adjacency) totals) × (k < degrees) ⌝ }
+    ensures { λ r. ⌜ ran (now (adjacency .exit)) r ≡ fillRow n (classFrom (now (starts .entry))) (matrixOf (now (cells .entry))) k (ran (now (adjacency .entry)) totals) ⌝ }
     ensures { λ _. ⌜ now (held .exit) ≡ degreesOf n (now (adjacency .exit)) ⌝ }
 {
+    if starts[k] == starts[k + 1] {
+        return totals;
+    }
     let mut sum = totals;
     for i in 0..DEGREES - k {
-        sum = complete_cell(adjacency, held, classes, cells, starts, n, k, k + i, sum);
+        sum = complete_cell(adjacency, held, cells, starts, n, k, k + i, sum);
     }
     sum
 }
@@ -118,18 +118,17 @@ fn complete_row(
 pub fn complete_rows(
     adjacency: &mut [u8],
     held: &mut [usize; MOST_VERTICES],
-    classes: &[u8; MOST_VERTICES],
     cells: &[u32; CELLS],
     starts: &[usize; STARTS],
     n: usize,
     totals: Totals,
 ) -> Totals
-    requires { ⌜ Working n (now cells) (now classes) (now starts) (now held) (ran (now adjacency) totals) ⌝ }
-    ensures { λ r. ⌜ ran (now (adjacency .exit)) r ≡ fillAll n (classIn (now (classes .entry))) (matrixOf (now (cells .entry))) (ran (now (adjacency .entry)) totals) ⌝ }
+    requires { ⌜ Working n (now cells) (now starts) (now held) (ran (now adjacency) totals) ⌝ }
+    ensures { λ r. ⌜ ran (now (adjacency .exit)) r ≡ fillAll n (classFrom (now (starts .entry))) (matrixOf (now (cells .entry))) (ran (now (adjacency .entry)) totals) ⌝ }
 {
     let mut sum = totals;
     for i in 0..DEGREES - 1 {
-        sum = complete_row(adjacency, held, classes, cells, starts, n, 1 + i, sum);
+        sum = complete_row(adjacency, held, cells, starts, n, 1 + i, sum);
     }
     sum
 }

@@ -1,41 +1,38 @@
 // Completing (document 01: finish): the checks 1, 2 and 3, then cell by cell each cell gets the joins that it misses.
 ghost use mathlib.Core.Path.{_≡_};
-ghost use mathlib.Core.Bool.{true};
-ghost use Rattle.journal.specs.Journal.{phase};
-ghost use Rattle.state.specs.Valid.{lengthsOk, valid};
+ghost use Rattle.answer.specs.declared.Verdict.the-variants.{Go};
+ghost use Rattle.state.specs.Checks.{phaseVerdict};
 ghost use Rattle.completion.specs.Complete.{completed, completeAnswer, completeAdjacency};
 ghost use Rattle.completion.specs.Inner.Work.{ran};
 
-pub mod cell;
-pub mod fill;
-pub mod pair;
+mod cell;
+mod fill;
+mod pair;
 
 use crate::cell::Totals;
 use crate::fill::complete_rows;
 use answer::CompleteAnswer;
 use answer::Verdict;
 use journal::cells_of;
-use layout::classes;
 use layout::counts;
 use layout::vertex_count;
 use state::phase_check;
 
 // On a valid laid state: the joins that are missing.
 fn complete_laid(journal: &[u8], adjacency: &mut [u8]) -> Totals
-    requires { ⌜ (lengthsOk (now journal) (now adjacency) ≡ true) × (valid (now journal) (now adjacency) ≡ true) × (phase (now journal) ≡ 1) ⌝ }
+    requires { ⌜ phaseVerdict 1 (now journal) (now adjacency) ≡ Go ⌝ }
     ensures { λ r. ⌜ ran (now (adjacency .exit)) r ≡ completed (now (journal .entry)) (now (adjacency .entry)) ⌝ }
 {
     let cells = cells_of(journal);
     let d = counts(&cells);
     let n = vertex_count(&cells, &d);
-    let c = classes(&cells, &d);
     let s = joining::cell::starts(&d);
     let mut held = joining::degrees(adjacency, n);
     let none = Totals {
         joins: 0,
         switches: 0,
     };
-    complete_rows(adjacency, &mut held, &c, &cells, &s, n, none)
+    complete_rows(adjacency, &mut held, &cells, &s, n, none)
 }
 
 pub fn complete(journal: &[u8], adjacency: &mut [u8]) -> CompleteAnswer

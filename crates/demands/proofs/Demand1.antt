@@ -46,9 +46,9 @@ use Rattle.clearing.specs.Clear.{clearBytes}
 use Rattle.taking.specs.Take.{takeOnValid, takeJournal}
 use Rattle.reading_back.specs.Held.{heldPart}
 use Rattle.laying_out.specs.LayOut.{layOutJournal}
-use Rattle.editing.specs.Add.{addLaid, addAdjacency}
-use Rattle.editing.specs.Remove.{removeLaid, removeAdjacency}
-use Rattle.editing.specs.List.{listBytes, listLaid, listAnswer, listOutput}
+use Rattle.adding.specs.Add.{addLaid, addAdjacency}
+use Rattle.removing.specs.Remove.{removeLaid, removeAdjacency}
+use Rattle.listing.specs.List.{listBytes, listLaid, listAnswer, listOutput}
 use Rattle.edgelist.specs.EdgeList.{listed, firstBadEdge}
 use Rattle.survey.specs.Survey.{firstAbove, surveyRecords, surveyAnswer, surveyOutput}
 use Rattle.completion.specs.Complete.{completeAdjacency}

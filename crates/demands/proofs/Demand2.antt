@@ -32,8 +32,8 @@ use Rattle.state.proofs.Facts.{StateFacts, Laid, valid-facts}
 use Rattle.taking.specs.Take.{takeAnswer}
 use Rattle.taking.proofs.Take.{isTaken, taken-facts, held-facts, take-taken}
 use Rattle.laying_out.proofs.LayOut.{lay-out-laid-out}
-use Rattle.editing.specs.Add.{addAnswer, addAdjacency}
-use Rattle.editing.specs.Remove.{removeAnswer, removeAdjacency}
+use Rattle.adding.specs.Add.{addAnswer, addAdjacency}
+use Rattle.removing.specs.Remove.{removeAnswer, removeAdjacency}
 use Rattle.completion.specs.Complete.{completeAnswer, completeAdjacency}
 use Rattle.completion.proofs.Entry.{CompleteFacts, completed-facts, facts-completed, complete-works}
 use Rattle.demands.specs.Calls.{Call, take, layOut, add, remove, complete, readBack, list, figures, survey, State, cleared, after, afterAll}

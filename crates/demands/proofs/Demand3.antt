@@ -23,8 +23,8 @@ use Rattle.state.specs.Valid.{valid}
 use Rattle.state.specs.Laid.{vertexCount, degreeAt}
 use Rattle.state.proofs.Facts.{edgeTotal, StateFacts, Laid, valid-facts}
 use Rattle.laying_out.proofs.LayOut.{lay-out-honest}
-use Rattle.editing.specs.Add.{addAnswer, addAdjacency}
-use Rattle.editing.proofs.Add.{AddFacts, facts-added, AddWorks, add-works}
+use Rattle.adding.specs.Add.{addAnswer, addAdjacency}
+use Rattle.adding.proofs.Add.{AddFacts, facts-added, AddWorks, add-works}
 use Rattle.joining.specs.Join.{joinBytes, joinCount}
 use Rattle.completion.specs.Complete.{completed, completeAnswer, completeAdjacency}
 use Rattle.completion.proofs.Entry.{CompleteFacts, facts-completed, CompleteWorks, complete-works}

@@ -20,9 +20,9 @@ use Rattle.layout.specs.Layout.{mostVertices}
 use Rattle.adjacency.specs.Adjacency.{edge}
 use Rattle.state.specs.Laid.{vertexCount}
 use Rattle.state.proofs.Facts.{Laid, valid-facts}
-use Rattle.editing.specs.List.{listBytes}
-use Rattle.editing.proofs.List.{list-length}
-use Rattle.editing.proofs.Listed.{list-good, list-graph, list-jdm}
+use Rattle.listing.specs.List.{listBytes}
+use Rattle.listing.proofs.List.{list-length}
+use Rattle.listing.proofs.Listed.{list-good, list-graph, list-jdm}
 use Rattle.edgelist.specs.EdgeList.{listed, goodEdge, firstBadEdge, graphOf}
 use Rattle.survey.specs.Survey.{firstAbove, recordsOf, surveyRecords}
 use Rattle.demands.specs.Listed.{ListSurveyed}

@@ -31,10 +31,10 @@ use Rattle.laying_out.specs.LayOut.{layOutAnswer, layOutJournal}
 use Rattle.clearing.proofs.Cleared.{cleared-state}
 use Rattle.taking.proofs.Take.{isTaken, isNext, TakenFacts, taken-facts, take-taken, take-lengths, take-valid}
 use Rattle.laying_out.proofs.LayOut.{isLaidOut, laysOut as laysOutNow, LaidOutFacts, lay-out-facts, lay-out-laid-out, lay-out-lengths, lay-out-valid}
-use Rattle.editing.specs.Add.{addAnswer, addAdjacency}
-use Rattle.editing.specs.Remove.{removeAnswer, removeAdjacency}
-use Rattle.editing.proofs.Add.{added-facts, add-works}
-use Rattle.editing.proofs.Remove.{removed-facts, remove-works}
+use Rattle.adding.specs.Add.{addAnswer, addAdjacency}
+use Rattle.removing.specs.Remove.{removeAnswer, removeAdjacency}
+use Rattle.adding.proofs.Add.{added-facts, add-works}
+use Rattle.removing.proofs.Remove.{removed-facts, remove-works}
 use Rattle.completion.specs.Complete.{completeAnswer, completeAdjacency}
 use Rattle.completion.proofs.Entry.{completed-facts, complete-works}
 use Rattle.demands.specs.Calls.{Call, take, layOut, add, remove, complete, readBack, list, figures, survey, State, cleared, after, afterAll}

@@ -7,8 +7,8 @@ use Rattle.journal.specs.Journal.{journalSize}
 use Rattle.adjacency.specs.Adjacency.{adjacencySize}
 use Rattle.taking.specs.Take.{takeAnswer, takeJournal}
 use Rattle.laying_out.specs.LayOut.{layOutAnswer, layOutJournal}
-use Rattle.editing.specs.Add.{addAnswer, addAdjacency}
-use Rattle.editing.specs.Remove.{removeAnswer, removeAdjacency}
+use Rattle.adding.specs.Add.{addAnswer, addAdjacency}
+use Rattle.removing.specs.Remove.{removeAnswer, removeAdjacency}
 use Rattle.completion.specs.Complete.{completeAnswer, completeAdjacency}
 
 -- the calls that demand 3 lists: those that may change the state, with any arguments, and the reading ones between them; a survey, which is

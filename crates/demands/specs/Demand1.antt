@@ -23,9 +23,9 @@ use Rattle.taking.specs.Take.{takeAnswer, takeJournal}
 use Rattle.reading_back.specs.Held.{lengthAnswer, heldPart}
 use Rattle.laying_out.specs.LayOut.{layOutAnswer, layOutJournal}
 use Rattle.figures.specs.Figures.{figuresAnswer}
-use Rattle.editing.specs.Add.{addAnswer, addAdjacency}
-use Rattle.editing.specs.Remove.{removeAnswer, removeAdjacency}
-use Rattle.editing.specs.List.{listAnswer, listOutput}
+use Rattle.adding.specs.Add.{addAnswer, addAdjacency}
+use Rattle.removing.specs.Remove.{removeAnswer, removeAdjacency}
+use Rattle.listing.specs.List.{listAnswer, listOutput}
 use Rattle.survey.specs.Survey.{surveyAnswer, surveyOutput}
 use Rattle.completion.specs.Complete.{completeAnswer, completeAdjacency}
 

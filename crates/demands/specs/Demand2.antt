@@ -14,8 +14,8 @@ use Rattle.answer.specs.declared.CompleteAnswer.the-variants.{Completed}
 use Rattle.table.specs.Block.{blockCell}
 use Rattle.journal.specs.Journal.{phase}
 use Rattle.taking.specs.Take.{takeAnswer}
-use Rattle.editing.specs.Add.{addAnswer}
-use Rattle.editing.specs.Remove.{removeAnswer}
+use Rattle.adding.specs.Add.{addAnswer}
+use Rattle.removing.specs.Remove.{removeAnswer}
 use Rattle.completion.specs.Complete.{completeAnswer}
 use Rattle.demands.specs.Calls.{Call, take, layOut, add, remove, complete, readBack, list, figures, survey, State, cleared, after, afterAll}
 use Rattle.demands.specs.Matrix.{Short, HasTable}

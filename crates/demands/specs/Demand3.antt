@@ -15,7 +15,7 @@ use Rattle.answer.specs.declared.CompleteAnswer.the-variants.{Completed}
 use Rattle.adjacency.specs.Adjacency.{edge}
 use Rattle.state.specs.Valid.{valid}
 use Rattle.laying_out.specs.LayOut.{layOutAnswer}
-use Rattle.editing.specs.Add.{addAnswer}
+use Rattle.adding.specs.Add.{addAnswer}
 use Rattle.completion.specs.Complete.{completeAnswer}
 use Rattle.demands.specs.Calls.{Call, add, complete, State, cleared, after, afterAll}
 use Rattle.demands.specs.Matrix.{Short, HasTable}

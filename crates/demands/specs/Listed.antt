@@ -12,7 +12,7 @@ use Rattle.journal.specs.Journal.{phase}
 use Rattle.adjacency.specs.Adjacency.{edge}
 use Rattle.state.specs.Valid.{lengthsOk, valid}
 use Rattle.state.specs.Laid.{vertexCount}
-use Rattle.editing.specs.List.{listBytes}
+use Rattle.listing.specs.List.{listBytes}
 use Rattle.survey.specs.Survey.{recordsOf, surveyRecords, surveyAnswer}
 
 abbrev pub ListSurveyed : Type 0

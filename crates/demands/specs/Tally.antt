@@ -15,8 +15,8 @@ use Rattle.graph.specs.Tests.{passes, vertices}
 use Rattle.table.specs.Block.{wellFormed, blockCell}
 use Rattle.layout.specs.Layout.{mostVertices}
 use Rattle.journal.specs.Journal.{mostBlocks}
-use Rattle.editing.specs.Add.{addAnswer}
-use Rattle.editing.specs.Remove.{removeAnswer}
+use Rattle.adding.specs.Add.{addAnswer}
+use Rattle.removing.specs.Remove.{removeAnswer}
 use Rattle.completion.specs.Complete.{completeAnswer}
 use Rattle.demands.specs.Calls.{Call, take, layOut, add, remove, complete, readBack, list, figures, survey, State, after}
 

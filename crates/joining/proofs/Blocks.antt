@@ -1,36 +1,42 @@
--- Where the classes start, and that the ones of a block between two starts are a cell of the joint degree matrix.
+-- Where the classes start, that the ones of a block between two starts are a cell of the joint degree matrix, and that those of a
+-- block on the diagonal are twice the ones below it.
 -- Assumes nothing.
-use mathlib.Core.Path.{_≡_, sym}
+use mathlib.Core.Path.{_≡_, sym, ap, ap₂, fun-ext, _∙_}
 use mathlib.Core.List.{List}
-use Prim.Native.Nat.{ℕ, _+_, _-_, _≤_, _<_}
+use Prim.Native.Nat.{ℕ, _+_, _-_, _*_, _≤_, _<_}
 use native.Mathlib.Omega.{arith}
+use lib.Dec.{ltb}
 use lib.ListN.{getD, replicate, length-replicate}
 use Rattle.finite.specs.Range.{sumTo}
 use Rattle.finite.proofs.Fold.{fillTo-at}
-use Rattle.finite.proofs.Sum.{sumTo-more, sumTo-le}
+use Rattle.finite.proofs.Lowest.{lowest-cong}
+use Rattle.finite.proofs.Sum.{sumTo-more, sumTo-le, sumTo-triangle}
 use Rattle.graph.specs.Graph.{Graph, jdm}
 use Rattle.graph.specs.Numbering.{total, classOf}
-use Rattle.graph.specs.Tests.{degrees}
+use Rattle.graph.specs.Tests.{degrees, vertices, vertexDegree}
+use Rattle.graph.proofs.Numbering.{classOf-range}
 use Rattle.graph.proofs.Ranges.{jdm-block}
-use Rattle.layout.specs.Inner.Arrays.{countIn}
-use Rattle.joining.specs.Inner.Block.{startsOf, blockSum}
+use Rattle.layout.specs.Inner.Arrays.{countIn, countsOf}
+use Rattle.table.specs.Inner.Cells.{matrixOf}
+use Rattle.layout.proofs.Counted.{counted, counted-total}
+use Rattle.adjacency.specs.Adjacency.{edge}
+use Rattle.joining.specs.Inner.Block.{startsOf, Numbered, classFrom, blockSum, triangleSum, BlockOf}
 
 module _ (counts : List ℕ) where
   pub start-at : (k : ℕ) → k ≤ degrees → getD (startsOf counts) k 0 ≡ sumTo k (countIn counts)
   start-at k h = fillTo-at (λ k. sumTo k (countIn counts)) (replicate (degrees + 1) 0) (degrees + 1) k (rw length-replicate (omega arith)) (omega arith)
 
-  -- the starts rise, up to the number of vertices
-  pub start-rises : (k l : ℕ) → k ≤ l → l ≤ degrees → getD (startsOf counts) k 0 ≤ getD (startsOf counts) l 0
-  start-rises k l h i = rw (start-at k (omega arith), start-at l i) (sumTo-le k l (countIn counts) h)
-
-  pub start-most : (k : ℕ) → k ≤ degrees → getD (startsOf counts) k 0 ≤ total degrees (countIn counts)
-  start-most k h = rw (start-at k h) (sumTo-le k degrees (countIn counts) h)
+  -- the classes by their starts are those by their counts
+  class-counted : classFrom (startsOf counts) ≡ classOf degrees (countIn counts)
+  class-counted =
+      fun-ext (λ v. lowest-cong 0 degrees (λ k. ltb v (getD (startsOf counts) (k + 1) 0)) (λ k. ltb v (sumTo (k + 1) (countIn counts)))
+      (λ k z l. ap (ltb v) (start-at (k + 1) (omega arith))))
 
   run : (k : ℕ) → sumTo (k + 1) (countIn counts) - sumTo k (countIn counts) ≡ countIn counts k
   run k = omega (arith, sumTo-more (countIn counts) k)
 
   -- `E` is any graph on these vertices
-  pub cell-block : (E : Graph) (k l : ℕ) → k < degrees → l < degrees
+  cell-block : (E : Graph) (k l : ℕ) → k < degrees → l < degrees
       → blockSum E (getD (startsOf counts) k 0) (getD (startsOf counts) (k + 1) 0) (getD (startsOf counts) l 0) (getD (startsOf counts) (l + 1) 0)
       ≡ jdm (total degrees (countIn counts)) (classOf degrees (countIn counts)) E k l
   cell-block E k l kd ld =
@@ -43,3 +49,55 @@ module _ (counts : List ℕ) where
         run l,
       )
       (sym (jdm-block degrees (countIn counts) E k l kd ld))
+
+module _ {n : ℕ} {starts : List ℕ} (m : Numbered n starts) where
+  -- the starts rise, up to the number of vertices
+  pub start-rises : (k l : ℕ) → k ≤ l → l ≤ degrees → getD starts k 0 ≤ getD starts l 0
+  start-rises k l h i =
+      rw (m .started, start-at (m .counts) k (omega arith), start-at (m .counts) l i) (sumTo-le k l (countIn (m .counts)) h)
+
+  pub start-most : (k : ℕ) → k ≤ degrees → getD starts k 0 ≤ n
+  start-most k h = rw (m .started, start-at (m .counts) k h, ← (m .all)) (sumTo-le k degrees (countIn (m .counts)) h)
+
+  -- the vertices of class k are those between its start and the next
+  pub class-inside : (k v : ℕ) → k < degrees → getD starts k 0 ≤ v → v < getD starts (k + 1) 0 → classFrom starts v ≡ k
+  class-inside k v kd f t =
+      ap (λ (s : List ℕ). classFrom s v) (m .started)
+      ∙ ap (λ (cls : ℕ → ℕ). cls v) (class-counted (m .counts))
+      ∙ classOf-range degrees (countIn (m .counts)) v k (omega (arith, m .all, start-most (k + 1) (omega arith))) .1 (
+        rw (m .started, start-at (m .counts) k (omega arith)) at f,
+        rw (m .started, start-at (m .counts) (k + 1) (omega arith)) at t,
+      )
+
+  pub class-only : (k v : ℕ) → k < degrees → v < n → classFrom starts v ≡ k → (getD starts k 0 ≤ v) × (v < getD starts (k + 1) 0)
+  class-only k v kd vn e =
+      rw (m .started, start-at (m .counts) k (omega arith), start-at (m .counts) (k + 1) (omega arith))
+      (classOf-range degrees (countIn (m .counts)) v k (omega (arith, m .all)) .0
+      (sym (ap (λ (cls : ℕ → ℕ). cls v) (class-counted (m .counts))) ∙ sym (ap (λ (s : List ℕ). classFrom s v) (m .started)) ∙ e))
+
+  -- the ones between the starts of two classes are a cell
+  pub block-cell : (E : Graph) (k l : ℕ) → k < degrees → l < degrees
+      → blockSum E (getD starts k 0) (getD starts (k + 1) 0) (getD starts l 0) (getD starts (l + 1) 0) ≡ jdm n (classFrom starts) E k l
+  block-cell E k l kd ld =
+      rw (m .started) (cell-block (m .counts) E k l kd ld)
+      ∙ ap₂ (λ (i : ℕ) (cls : ℕ → ℕ). jdm i cls E k l) (m .all) (sym (class-counted (m .counts)) ∙ sym (ap classFrom (m .started)))
+
+-- the starts of a table's classes
+module _ (cells : List ℕ) {counts starts : List ℕ} (ed : counts ≡ countsOf (matrixOf cells)) (es : starts ≡ startsOf counts) where
+  pub table-numbered : Numbered (vertices (matrixOf cells)) starts
+  table-numbered = record { counts = counts; started = es; all = counted-total cells counts ed }
+
+  pub table-classes : classFrom starts ≡ vertexDegree (matrixOf cells)
+  table-classes = ap classFrom es ∙ class-counted counts ∙ ap (classOf degrees) (counted cells counts ed)
+
+-- a block on the diagonal of a simple graph
+module _ {g : List ℕ} {top bottom left right : ℕ} (b : BlockOf g top bottom left right) where
+  pub on-diagonal : BlockOf g top bottom top bottom
+  on-diagonal = record { n = b .n; few = b .few; simple = b .simple; rows = b .rows; columns = b .rows }
+
+  pub diagonal-block : top ≡ left → bottom ≡ right → 2 * triangleSum (edge g) top bottom ≡ blockSum (edge g) top bottom left right
+  diagonal-block e f =
+      rw (← e, ← f)
+      (sym (sumTo-triangle (bottom - top) (λ i j. edge g (top + i) (top + j))
+      (λ i j p q. b .simple .symmetric (top + i) (top + j) (omega (arith, b .rows)) (omega (arith, b .rows)))
+      (λ i p. b .simple .loopless (top + i) (omega (arith, b .rows)))))

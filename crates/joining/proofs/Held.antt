@@ -1,18 +1,27 @@
 -- The array of degrees beside the matrix: what it holds, and that two entries set keep it right after two vertices' degrees change.
 -- Assumes nothing.
-use mathlib.Core.Path.{_≡_, sym, _∙_}
+use mathlib.Core.Path.{_≡_, sym, ap, _∙_}
 use mathlib.Core.Logic.{_≢_}
 use mathlib.Core.List.{List}
-use Prim.Native.Nat.{ℕ, _≤_, _<_}
+use Prim.Native.Nat.{ℕ, _+_, _-_, _≤_, _<_}
+use native.Mathlib.Nat.{zero-add}
 use native.Mathlib.Decide.{ℕ-discrete, decLt}
 use native.Mathlib.Omega.{arith}
 use lib.ListN.{length, getD, set, replicate, length-set, length-replicate, getD-replicate}
 use lib.Seq.{getD-set-same, getD-set-other, ext-getD}
+use Rattle.finite.specs.Range.{sumTo}
+use Rattle.finite.proofs.Sum.{sumTo-cong}
 use Rattle.finite.proofs.Fold.{fillTo-at, fillTo-behind, fillTo-length}
 use Rattle.graph.specs.Graph.{degree}
 use Rattle.layout.specs.Layout.{mostVertices}
 use Rattle.adjacency.specs.Adjacency.{edge}
 use Rattle.joining.specs.Inner.Work.{degreesOf}
+
+-- a whole row is a degree
+pub row-degree : (n v : ℕ) (g : List ℕ) → sumTo (n - 0) (λ j. edge g v (0 + j)) ≡ degree n (edge g) v
+row-degree n v g =
+    let e : n - 0 ≡ n = omega arith in
+    rw e (sumTo-cong n (λ j. edge g v (0 + j)) (edge g v) (λ j l. ap (edge g v) (zero-add j)))
 
 module _ (n : ℕ) (few : n ≤ mostVertices) where
   pub held-length : (g : List ℕ) → length (degreesOf n g) ≡ mostVertices
@@ -20,6 +29,10 @@ module _ (n : ℕ) (few : n ≤ mostVertices) where
 
   pub held-at : (g : List ℕ) (v : ℕ) → v < n → getD (degreesOf n g) v 0 ≡ degree n (edge g) v
   held-at g v = fillTo-at (degree n (edge g)) (replicate mostVertices 0) n v (rw length-replicate few)
+
+  -- an array that holds the degrees
+  pub held-is : (g : List ℕ) {held : List ℕ} → held ≡ degreesOf n g → (v : ℕ) → v < n → getD held v 0 ≡ degree n (edge g) v
+  held-is g is v l = rw is (held-at g v l)
 
   held-behind : (g : List ℕ) (v : ℕ) → n ≤ v → v < mostVertices → getD (degreesOf n g) v 0 ≡ 0
   held-behind g v h l = fillTo-behind (degree n (edge g)) (replicate mostVertices 0) n v h ∙ getD-replicate mostVertices v 0 0 l

@@ -21,8 +21,11 @@ use Rattle.graph.proofs.Update.{degree-adds}
 use Rattle.adjacency.specs.Adjacency.{adjacencySize, side, edge, setEdge}
 use Rattle.adjacency.proofs.Set.{set-adds}
 use Rattle.joining.specs.Join.{own, substituteAt, transferAt, switchBytes, relieveBytes, relieveCount}
-use Rattle.joining.specs.Inner.Work.{degreesOf, Joinable, SaturatedBelow, SaturatedBut, freed}
+use Rattle.joining.specs.Inner.Block.{classFrom}
+use Rattle.joining.specs.Inner.Work.{degreesOf, Joinable, Placed, freed}
+use Rattle.joining.specs.declared.End.{End}
 use Rattle.joining.proofs.Bytes.{relieve-bytes, ready-v, pair-w, sized-once}
+use Rattle.joining.proofs.Blocks.{start-most}
 use Rattle.joining.proofs.Held.{held-at, held-moved}
 
 module _ {n : ℕ} {cls : ℕ → ℕ} {g : List ℕ} {a o : ℕ} (j : Joinable n cls g a o) where
@@ -80,18 +83,6 @@ module _ {n : ℕ} {cls : ℕ → ℕ} {g : List ℕ} {a o : ℕ} (j : Joinable 
         pair = pair-w n cls (j .table) g a o (j .sized) (j .few) (j .target) (j .partial) (j .pair);
       }
 
-  -- no vertex but a has lost an edge
-  pub saturated-next : {from : ℕ} → from ≤ n → SaturatedBelow n cls g o from → SaturatedBut n cls (relieveBytes n cls g a o) o a from
-  saturated-next inside s i l e d =
-      le-ltb (degree n (edge (relieveBytes n cls g a o)) i) (cls i)
-      (omega (
-        arith,
-        ltb-false (degree n (edge g) i) (cls i) (s i l e),
-        relief-degree n degrees cls own (j .table) (j .target) (edge g) a o (j .partial) (j .pair) (edge (relieveBytes n cls g a o))
-            (relieve-bytes n cls (j .table) g a o (j .sized) (j .few) (j .target) (j .partial) (j .pair)) i (omega arith),
-        δ-other i a d,
-      ))
-
   -- the edge a – o added
   adds : AddsEdge n (edge g) a o (edge (setEdge g a o 1))
   adds =
@@ -110,47 +101,41 @@ module _ {n : ℕ} {cls : ℕ → ℕ} {g : List ℕ} {a o : ℕ} (j : Joinable 
       (omega (arith, more o (j .pair .second), held-at n (j .few) g o (j .pair .second), δ-self o, δ-other o a (λ e. j .pair .distinct (sym e))))
       (λ x xn p q. omega (arith, more x xn, δ-other x a p, δ-other x o q))
 
--- The rest speaks of the array `held` and of the choices b and t as the code has them.
-module _ {n : ℕ} {cls : ℕ → ℕ} {g held : List ℕ} {a o : ℕ} (j : Joinable n cls g a o) (is : held ≡ degreesOf n g) where
-  -- the array tells whether a is saturated
-  saturated-in : {k : ℕ} → k ≡ cls a → ltb (getD held a 0) k ≡ unsaturated n cls own (edge g) a
-  saturated-in e = rw (is, e, held-at n (j .few) g a (j .pair .first))
-
-  pub room-in : {k : ℕ} → k ≡ cls a → getD held a 0 < k → unsaturated n cls own (edge g) a ≡ true
-  room-in {k} e l = sym (saturated-in e) ∙ lt-ltb (getD held a 0) k l
-
-  pub full-in : {k : ℕ} → k ≡ cls a → k ≤ getD held a 0 → unsaturated n cls own (edge g) a ≡ false
-  full-in {k} e l = sym (saturated-in e) ∙ le-ltb (getD held a 0) k l
+-- The rest speaks of the choice b as the code has it.
+module _ {n : ℕ} {cls : ℕ → ℕ} {g : List ℕ} {a o : ℕ} (j : Joinable n cls g a o) (full : unsaturated n cls own (edge g) a ≡ false)
+    {b : ℕ} (chose : b ≡ substituteAt n cls g a o) where
+  t-is : transfer n (edge g) a b ≡ transferAt n cls g a o
+  t-is = ap (transfer n (edge g) a) chose
 
   -- what the switch asks for, and what it leaves
-  module _ (full : unsaturated n cls own (edge g) a ≡ false) {b : ℕ} (chose : b ≡ substituteAt n cls g a o) where
-    pub b-inside : b < side
-    b-inside = rw chose (omega (arith, j .few, chosen j full .b-vertex))
+  pub b-inside : b < side
+  b-inside = rw chose (omega (arith, j .few, chosen j full .b-vertex))
 
-    module _ {t : ℕ} (took : t ≡ transfer n (edge g) a b) where
-      t-is : t ≡ transferAt n cls g a o
-      t-is = took ∙ ap (transfer n (edge g) a) chose
+  pub switchable : (length g ≡ adjacencySize) × (n ≤ side) × (a < side) × (b < side) × (transfer n (edge g) a b < side)
+  switchable = (
+    j .sized,
+    j .few,
+    omega (arith, j .few, j .pair .first),
+    b-inside,
+    rw t-is (omega (arith, j .few, chosen j full .t-vertex)),
+  )
 
-      pub switchable : (length g ≡ adjacencySize) × (a < side) × (b < side) × (t < side) × (0 < getD held a 0) × (getD held b 0 < degrees)
-      switchable = (
-        j .sized,
-        omega (arith, j .few, j .pair .first),
-        b-inside,
-        rw t-is (omega (arith, j .few, chosen j full .t-vertex)),
-        rw is (held-a j full),
-        rw (is, chose) (held-b j full),
-      )
+  pub switch-freed : transfer n (edge g) a b ≡ freed n cls g a o
+  switch-freed = rw full t-is
 
-      pub switch-freed : t ≡ freed n cls g a o
-      switch-freed = rw full t-is
+  pub switch-bytes : switchBytes g a b (transfer n (edge g) a b) ≡ relieveBytes n cls g a o
+  switch-bytes = rw (t-is, chose, full)
 
-      pub switch-bytes : switchBytes g a b t ≡ relieveBytes n cls g a o
-      switch-bytes = rw (t-is, chose, full)
+  -- the entries of a and b in the array of degrees
+  module _ {held : List ℕ} (is : held ≡ degreesOf n g) where
+    pub shiftable : (a < side) × (b < side) × (0 < getD held a 0) × (getD held b 0 < degrees)
+    shiftable = (switchable .2, b-inside, rw is (held-a j full), rw (is, chose) (held-b j full))
 
-      pub switch-held : set (set held a (getD held a 0 - 1)) b (getD held b 0 + 1) ≡ degreesOf n (relieveBytes n cls g a o)
-      switch-held = rw (is, chose, full) (held-switched j full)
+    pub switch-held : set (set held a (getD held a 0 - 1)) b (getD held b 0 + 1) ≡ degreesOf n (relieveBytes n cls g a o)
+    switch-held = rw (is, chose, full) (held-switched j full)
 
-  -- what adding the edge a – o asks for, and what it leaves
+-- what adding the edge a – o asks for, and what it leaves
+module _ {n : ℕ} {cls : ℕ → ℕ} {g held : List ℕ} {a o : ℕ} (j : Joinable n cls g a o) (is : held ≡ degreesOf n g) where
   pub linkable : degree n (edge g) a < cls a → degree n (edge g) o < cls o
       → (length g ≡ adjacencySize) × (a < side) × (o < side) × (getD held a 0 < degrees) × (getD held o 0 < degrees)
   linkable room-a room-o = rw is (
@@ -163,6 +148,33 @@ module _ {n : ℕ} {cls : ℕ → ℕ} {g held : List ℕ} {a o : ℕ} (j : Join
 
   pub link-held : set (set held a (getD held a 0 + 1)) o (getD held o 0 + 1) ≡ degreesOf n (setEdge g a o 1)
   link-held = rw is (held-linked j)
+
+-- after room was made at v no vertex but v has lost an edge: w's substitutes are where they were
+pub placed-next : {n : ℕ} {starts g : List ℕ} (v w : End) → Joinable n (classFrom starts) g (v .at) (w .at) → Placed n starts g w (v .at)
+    → Placed n starts (relieveBytes n (classFrom starts) g (v .at) (w .at)) w (v .at)
+placed-next {n} {starts} {g} v w j p =
+    record {
+      numbered = p .numbered;
+      class = p .class;
+      after = p .after;
+      before = p .before;
+      saturated = λ i l e d.
+          le-ltb (degree n (edge g′) i) (cls i)
+          (omega (
+            arith,
+            ltb-false (degree n (edge g) i) (cls i) (p .saturated i l e d),
+            relief-degree n degrees cls own (j .table) (j .target) (edge g) (v .at) (w .at) (j .partial) (j .pair) (edge g′)
+                (relieve-bytes n cls (j .table) g (v .at) (w .at) (j .sized) (j .few) (j .target) (j .partial) (j .pair)) i
+                (omega (arith, p .before, start-most (p .numbered) (w .class + 1) (omega (arith, p .class, j .target .classed (w .at) (j .pair .second))))),
+            δ-other i (v .at) d,
+          ));
+    }
+  where
+    cls : ℕ → ℕ
+    cls = classFrom starts
+
+    g′ : List ℕ
+    g′ = relieveBytes n (classFrom starts) g (v .at) (w .at)
 
 -- both reliefs, one after the other: the pair may be linked then, and both have room
 module _ {n : ℕ} {cls : ℕ → ℕ} {g : List ℕ} {v w : ℕ} (j : Joinable n cls g v w) where

@@ -1,42 +1,107 @@
--- The substitute found in the arrays, from a vertex below which all others of the class are saturated, is document 01's b.
+-- The substitute found among the vertices of a class, from one before which all others are saturated, is document 01's b.
 -- Assumes nothing.
-use mathlib.Core.Path.{_≡_, sym, _∙_}
-use mathlib.Core.Bool.{false}
+use mathlib.Core.Path.{_≡_, sym, ap, _∙_}
+use mathlib.Core.Bool.{Bool, true, false}
 use mathlib.Core.List.{List}
-use Prim.Native.Nat.{ℕ, _≤_, _<_, zero-le}
-use native.Mathlib.Decide.{ℕ-discrete}
-use borrow.Author.Tests.{eq-eqb, ne-eqb}
+use Prim.Native.Nat.{ℕ, _+_, _≤_, _<_, zero-le}
+use native.Mathlib.Decide.{ℕ-discrete, decLt}
+use native.Mathlib.Omega.{arith}
+use lib.Dec.{ltb}
+use lib.ListN.{getD}
+use borrow.Author.Tests.{eq-eqb, ne-eqb, lt-ltb, le-ltb}
 use Rattle.finite.specs.Range.{lowest}
 use Rattle.finite.proofs.All.{and-false}
-use Rattle.finite.proofs.Lowest.{lowest-skip, lowest-cong}
+use Rattle.finite.proofs.Lowest.{lowest-skip, lowest-cong, lowest-ge, lowest-holds, lowest-before, lowest-only, lowest-none, lowest-here, lowest-end}
+use Rattle.graph.specs.Graph.{degree}
 use Rattle.graph.specs.Switch.{unsaturated, canSubstitute, orElse}
-use Rattle.layout.specs.Layout.{mostVertices}
-use Rattle.layout.specs.Inner.Arrays.{classIn}
+use Rattle.graph.specs.Tests.{degrees}
 use Rattle.adjacency.specs.Adjacency.{edge}
 use Rattle.joining.specs.Join.{own, substituteAt}
-use Rattle.joining.specs.Inner.Work.{degreesOf, Joinable, SaturatedBut, canSubstituteIn}
-use Rattle.joining.proofs.Held.{held-at}
+use Rattle.joining.specs.Inner.Block.{classFrom}
+use Rattle.joining.specs.Inner.Work.{Joinable, Placed, canStandIn}
+use Rattle.joining.specs.declared.End.{End}
+use Rattle.joining.proofs.Blocks.{start-most, class-inside, class-only}
 
-module _ (n : ℕ) (classes g : List ℕ) (a o from : ℕ) (few : n ≤ mostVertices) (inside : from ≤ n)
-    (saturated : SaturatedBut n (classIn classes) g a o from) where
-  fails : (i : ℕ) → i < from → canSubstitute n (classIn classes) own (edge g) a o i ≡ false
-  fails i l = go (ℕ-discrete (classIn classes i) (classIn classes a)) (ℕ-discrete i o)
+-- how a search ends that has passed over the numbers before b
+pub else-found : (from to b other : ℕ) (p : ℕ → Bool) → lowest from to p ≡ lowest b to p → b < to → p b ≡ true
+    → b ≡ orElse to other (lowest from to p)
+else-found from to b other p e l t = rw (e ∙ lowest-here b to p l t, lt-ltb b to l)
+
+pub else-none : (from to b other : ℕ) (p : ℕ → Bool) → lowest from to p ≡ lowest b to p → to ≤ b
+    → other ≡ orElse to other (lowest from to p)
+else-none from to b other p e l = rw (e ∙ lowest-end b to p l, le-ltb b to l)
+
+-- a search may stop where no number passes any more
+else-cut : (a c b other : ℕ) (p : ℕ → Bool) → a ≤ c → c ≤ b → ((i : ℕ) → c ≤ i → i < b → p i ≡ false)
+    → orElse c other (lowest a c p) ≡ orElse b other (lowest a b p)
+else-cut a c b other p ac cb f = go (decLt (lowest a c p) c)
+  where
+    go : Dec (lowest a c p < c) → orElse c other (lowest a c p) ≡ orElse b other (lowest a b p)
+    go (yes l) =
+        rw (
+          lowest-only a b p (omega arith) (lowest a c p) (lowest-ge a c p ac) (omega arith) (lowest-holds a c p ac l) (lowest-before a c p ac),
+          lt-ltb (lowest a c p) c l,
+          lt-ltb (lowest a c p) b (omega arith),
+        )
+    go (no l) =
+        rw (
+          lowest-none a b p (omega arith) (λ j g m. fails j g m (decLt j c)),
+          le-ltb (lowest a c p) c (omega arith),
+          le-ltb b b (omega arith),
+        )
+      where
+        fails : (j : ℕ) → a ≤ j → j < b → Dec (j < c) → p j ≡ false
+        fails j g m (yes q) = lowest-before a c p ac j g (omega arith)
+        fails j g m (no q) = f j (omega arith) m
+
+module _ {n : ℕ} {starts g : List ℕ} {a : End} {o : ℕ} (j : Joinable n (classFrom starts) g (a .at) o) (p : Placed n starts g a o) where
+  abbrev cls : ℕ → ℕ
+  cls = classFrom starts
+
+  abbrev to : ℕ
+  to = getD starts (a .class + 1) 0
+
+  pub class-below : a .class < degrees
+  class-below = rw (p .class) (j .target .classed (a .at) (j .pair .first))
+
+  pub end-within : to ≤ n
+  end-within = start-most (p .numbered) (a .class + 1) (omega (arith, class-below))
+
+  -- no vertex can substitute before `low` or behind the class
+  other-class : (i : ℕ) → (cls i ≡ a .class → ⊥) → canSubstitute n cls own (edge g) (a .at) o i ≡ false
+  other-class i d = rw (ne-eqb (cls i) (cls (a .at)) (λ e. d (e ∙ sym (p .class))))
+
+  before : (i : ℕ) → i < a .low → canSubstitute n cls own (edge g) (a .at) o i ≡ false
+  before i l = go (ℕ-discrete (cls i) (a .class)) (ℕ-discrete i o)
     where
-      go : Dec (classIn classes i ≡ classIn classes a) → Dec (i ≡ o) → canSubstitute n (classIn classes) own (edge g) a o i ≡ false
-      go (no e) d = rw (ne-eqb (classIn classes i) (classIn classes a) e)
-      go (yes e) (yes d) =
-          rw (eq-eqb (classIn classes i) (classIn classes a) e, eq-eqb i o d) (and-false (unsaturated n (classIn classes) own (edge g) i))
-      go (yes e) (no d) = rw (eq-eqb (classIn classes i) (classIn classes a) e, saturated i l e d)
+      go : Dec (cls i ≡ a .class) → Dec (i ≡ o) → canSubstitute n cls own (edge g) (a .at) o i ≡ false
+      go (no e) d = other-class i e
+      go (yes e) (yes d) = rw (eq-eqb (cls i) (cls (a .at)) (e ∙ p .class), eq-eqb i o d) (and-false (unsaturated n cls own (edge g) i))
+      go (yes e) (no d) = rw (eq-eqb (cls i) (cls (a .at)) (e ∙ p .class), p .saturated i l e d)
 
-  found : lowest from n (canSubstituteIn classes (degreesOf n g) (classIn classes a) o)
-      ≡ lowest 0 n (canSubstitute n (classIn classes) own (edge g) a o)
-  found =
-      lowest-cong from n (canSubstituteIn classes (degreesOf n g) (classIn classes a) o) (canSubstitute n (classIn classes) own (edge g) a o)
-      (λ i p l. rw (held-at n few g i l))
-      ∙ sym (lowest-skip 0 from n (canSubstitute n (classIn classes) own (edge g) a o) zero-le inside (λ i p l. fails i l))
+  behind : (i : ℕ) → to ≤ i → i < n → canSubstitute n cls own (edge g) (a .at) o i ≡ false
+  behind i l m = other-class i (λ e. omega (arith, class-only (p .numbered) (a .class) i class-below m e))
 
--- with the arrays and the class as the code has them
-pub substitute-in : {n : ℕ} (classes : List ℕ) {g held : List ℕ} {a o from k : ℕ} → Joinable n (classIn classes) g a o → held ≡ degreesOf n g
-    → from ≤ n → SaturatedBut n (classIn classes) g a o from → k ≡ classIn classes a
-    → orElse n o (lowest from n (canSubstituteIn classes held k o)) ≡ substituteAt n (classIn classes) g a o
-substitute-in {n} classes {g} {held} {a} {o} {from} j is inside saturated e = rw (is, e, found n classes g a o from (j .few) inside saturated)
+  -- `held`: the edges of each vertex, as the code has them
+  module _ (held : ℕ → ℕ) (counts : (i : ℕ) → i < n → held i ≡ degree n (edge g) i) where
+    inside : (i : ℕ) → a .low ≤ i → i < to → canStandIn held (a .class) o i ≡ canSubstitute n cls own (edge g) (a .at) o i
+    inside i f t =
+        let e = class-inside (p .numbered) (a .class) i class-below (omega (arith, p .after)) t in
+        rw (eq-eqb (cls i) (cls (a .at)) (e ∙ p .class), e, counts i (omega (arith, end-within)))
+
+    pub substitute-in : orElse to o (lowest (a .low) to (canStandIn held (a .class) o)) ≡ substituteAt n cls g (a .at) o
+    substitute-in =
+        ap (orElse to o) (lowest-cong (a .low) to (canStandIn held (a .class) o) (canSubstitute n cls own (edge g) (a .at) o) inside)
+        ∙ else-cut (a .low) to n o (canSubstitute n cls own (edge g) (a .at) o) (p .before) end-within behind
+        ∙ ap (orElse n o)
+        (sym (lowest-skip 0 (a .low) n (canSubstitute n cls own (edge g) (a .at) o) zero-le (omega (arith, p .before, end-within)) (λ i z l. before i l)))
+
+    -- whether a is saturated
+    saturated-in : ltb (held (a .at)) (a .class) ≡ unsaturated n cls own (edge g) (a .at)
+    saturated-in = rw (counts (a .at) (j .pair .first), p .class)
+
+    pub room-in : held (a .at) < a .class → unsaturated n cls own (edge g) (a .at) ≡ true
+    room-in l = sym saturated-in ∙ lt-ltb (held (a .at)) (a .class) l
+
+    pub full-in : a .class ≤ held (a .at) → unsaturated n cls own (edge g) (a .at) ≡ false
+    full-in l = sym saturated-in ∙ le-ltb (held (a .at)) (a .class) l

@@ -1,16 +1,17 @@
 // The cells of the joint degree matrix as blocks of the adjacency matrix: the vertices of a class stand next to each other.
 ghost use mathlib.Core.Path.{_≡_};
-ghost use Prim.Native.Nat.{_+_, _-_, _*_, _≤_, _<_};
-ghost use lib.ListN.{length};
+ghost use Prim.Native.Nat.{ℕ, _+_, _-_, _*_, _≤_, _<_};
+ghost use lib.ListN.{length, getD};
 ghost use Rattle.finite.specs.Range.{sumTo};
 ghost use Rattle.graph.specs.Numbering.{total};
 ghost use Rattle.graph.specs.Tests.{degrees};
 ghost use Rattle.layout.specs.Layout.{mostVertices};
 ghost use Rattle.layout.specs.Inner.Arrays.{countIn};
 ghost use Rattle.adjacency.specs.Adjacency.{adjacencySize, side, edge};
-ghost use Rattle.joining.specs.Inner.Block.{startsOf, blockSum};
+ghost use Rattle.joining.specs.Inner.Block.{startsOf, classFrom, blockSum, triangleSum, BlockOf};
 use adjacency::SIDE;
 use adjacency::byte_sum;
+use slices::wide;
 use table::degree::DEGREES;
 
 // One entry for each class, and one past the last.
@@ -31,19 +32,45 @@ pub fn starts(counts: &[usize; DEGREES]) -> [usize; STARTS]
     t
 }
 
+// The class of vertex v.
+pub fn class_at(starts: &[usize; STARTS], v: usize) -> usize
+    ensures { λ r. ⌜ r ≡ classFrom (now (starts .entry)) v ⌝ }
+{
+    let mut k = 0;
+    while k < DEGREES {
+        if v < starts[k + 1] {
+            return k;
+        }
+        k += 1;
+    }
+    k
+}
+
+// How many of these bytes are 1, where each is 0 or 1. The sum fits in a byte: this is a vector loop of 16 at a time.
+fn ones(s: &[u8]) -> usize
+    requires { ⌜ (length (now s) ≤ side) × ((i : ℕ) → i < length (now s) → getD (now s) i 0 ≤ 1) ⌝ }
+    ensures { λ r. ⌜ (r ≡ sumTo (length (now (s .entry))) (λ i. getD (now (s .entry)) i 0)) × (r ≤ side) ⌝ }
+{
+    let mut sum: u8 = 0;
+    for i in 0..s.len() {
+        sum += s[i];
+    }
+    wide(sum)
+}
+
 // The ones of row v in columns left, .., right - 1.
-fn row_sum(adjacency: &[u8], v: usize, left: usize, right: usize) -> usize
-    requires { ⌜ (length (now adjacency) ≡ adjacencySize) × (v < side) × (left ≤ right) × (right ≤ side) ⌝ }
-    ensures { λ r. ⌜ (r ≡ sumTo (right - left) (λ j. edge (now (adjacency .entry)) v (left + j))) × (r ≤ 255 * side) ⌝ }
+pub fn row_sum(adjacency: &[u8], v: usize, left: usize, right: usize) -> usize
+    requires { ⌜ (length (now adjacency) ≡ adjacencySize) × (v < side) × (left ≤ right) × (right ≤ side) × ((w : ℕ) → w < right → edge (now adjacency) v w ≤ 1) ⌝ }
+    ensures { λ r. ⌜ (r ≡ sumTo (right - left) (λ j. edge (now (adjacency .entry)) v (left + j))) × (r ≤ side) ⌝ }
 {
     let from = v * SIDE + left;
     let to = v * SIDE + right;
-    byte_sum(&adjacency[from..to])
+    ones(&adjacency[from..to])
 }
 
 // How many ones stand in rows top, .., bottom - 1 and columns left, .., right - 1.
-pub fn block_sum(adjacency: &[u8], top: usize, bottom: usize, left: usize, right: usize) -> usize
-    requires { ⌜ (length (now adjacency) ≡ adjacencySize) × (top ≤ bottom) × (bottom ≤ side) × (left ≤ right) × (right ≤ side) ⌝ }
+fn rows_sum(adjacency: &[u8], top: usize, bottom: usize, left: usize, right: usize) -> usize
+    requires { ⌜ (length (now adjacency) ≡ adjacencySize) × BlockOf (now adjacency) top bottom left right ⌝ }
     ensures { λ r. ⌜ r ≡ blockSum (edge (now (adjacency .entry))) top bottom left right ⌝ }
 {
     let mut sum = 0;
@@ -51,4 +78,30 @@ pub fn block_sum(adjacency: &[u8], top: usize, bottom: usize, left: usize, right
         sum += row_sum(adjacency, v, left, right);
     }
     sum
+}
+
+// How many edges the vertices from, .., to - 1 have among each other, each counted at its higher end.
+fn edges_among(adjacency: &[u8], from: usize, to: usize) -> usize
+    requires { ⌜ (length (now adjacency) ≡ adjacencySize) × BlockOf (now adjacency) from to from to ⌝ }
+    ensures { λ r. ⌜ (r ≡ triangleSum (edge (now (adjacency .entry))) from to) × (r ≤ side * side) ⌝ }
+{
+    let mut sum = 0;
+    for v in from..to {
+        sum += row_sum(adjacency, v, from, v);
+    }
+    sum
+}
+
+// The ones of a block. On the diagonal each edge is two of them.
+pub fn block_sum(adjacency: &[u8], top: usize, bottom: usize, left: usize, right: usize) -> usize
+    requires { ⌜ (length (now adjacency) ≡ adjacencySize) × BlockOf (now adjacency) top bottom left right ⌝ }
+    ensures { λ r. ⌜ r ≡ blockSum (edge (now (adjacency .entry))) top bottom left right ⌝ }
+{
+    if top != left {
+        return rows_sum(adjacency, top, bottom, left, right);
+    }
+    if bottom != right {
+        return rows_sum(adjacency, top, bottom, left, right);
+    }
+    2 * edges_among(adjacency, top, bottom)
 }

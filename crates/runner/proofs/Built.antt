@@ -36,9 +36,9 @@ use Rattle.clearing.specs.Clear.{ClearedState}
 use Rattle.clearing.proofs.Cleared.{cleared-state}
 use Rattle.taking.proofs.Take.{taken-facts, held-facts, take-lengths, take-valid}
 use Rattle.laying_out.proofs.LayOut.{lay-out-vertices}
-use Rattle.editing.specs.List.{edgeBytes, listBytes}
-use Rattle.editing.proofs.List.{list-length}
-use Rattle.editing.proofs.Pairs.{cat-sized, one-sized}
+use Rattle.listing.specs.List.{edgeBytes, listBytes}
+use Rattle.listing.proofs.List.{list-length}
+use Rattle.listing.proofs.Pairs.{cat-sized, one-sized}
 use Rattle.completion.specs.Complete.{completed, completeAnswer, completeAdjacency}
 use Rattle.completion.proofs.Entry.{completed-facts, complete-works}
 use Rattle.text.specs.Text.{refusedLine, headLine, edgeLines}

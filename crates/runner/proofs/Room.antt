@@ -24,9 +24,9 @@ use Rattle.state.specs.Laid.{vertexCount, degreeAt}
 use Rattle.state.proofs.Facts.{edgeTotal, StateFacts, Laid, valid-facts}
 use Rattle.state.proofs.Checks.{phase-go}
 use Rattle.laying_out.specs.LayOut.{layOutAnswer, layOutJournal}
-use Rattle.editing.specs.List.{listBytes, listAnswer, listOutput}
-use Rattle.editing.proofs.List.{list-length}
-use Rattle.editing.proofs.Listed.{list-rising}
+use Rattle.listing.specs.List.{listBytes, listAnswer, listOutput}
+use Rattle.listing.proofs.List.{list-length}
+use Rattle.listing.proofs.Listed.{list-rising}
 use Rattle.completion.specs.Complete.{mostEdges, completed, completeAnswer, completeAdjacency}
 use Rattle.completion.proofs.Cellwise.{room}
 use Rattle.completion.proofs.Works.{few-edges}

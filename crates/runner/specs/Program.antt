@@ -21,7 +21,7 @@ use Rattle.state.specs.Laid.{vertexCount}
 use Rattle.taking.specs.Take.{takeAnswer, takeJournal}
 use Rattle.laying_out.specs.LayOut.{layOutAnswer, layOutJournal}
 use Rattle.completion.specs.Complete.{mostEdges, completeAnswer, completeAdjacency}
-use Rattle.editing.specs.List.{listBytes}
+use Rattle.listing.specs.List.{listBytes}
 use Rattle.text.specs.Text.{refusedLine, headLine, edgeLines, headMost, edgeMost}
 
 -- how many blocks the input has: none where it is empty, and the last may be shorter

@@ -133,7 +133,7 @@ fn put_state(
     ensures { λ _. ⌜ now (output .exit) ≡ sets (now (output .entry)) 0 (stateText n switches (now (journal .entry)) (now (adjacency .entry))) ⌝ }
 {
     let mut list = [0u8; LIST_MOST];
-    let answer = editing::listing::edge_list(journal, adjacency, &mut list);
+    let answer = listing::edge_list(journal, adjacency, &mut list);
     match answer {
         WrittenAnswer::Refused(r) => put_refused(output, 0, r),
         WrittenAnswer::Written(len) => put_list(output, n, switches, &list[..len]),

@@ -6,6 +6,7 @@ ghost use Rattle.journal.specs.Journal.{journalSize, journalOk, jdmOf};
 ghost use Rattle.adjacency.specs.Adjacency.{adjacencySize};
 ghost use Rattle.state.specs.Valid.{lengthsOk, laidOk, valid};
 ghost use Rattle.state.specs.Checks.{stateVerdict, phaseVerdict};
+ghost use Rattle.state.specs.Laid.{vertexCount};
 use adjacency::ADJACENCY_SIZE;
 use adjacency::adjacency_ok;
 use answer::Cause;
@@ -85,4 +86,14 @@ pub fn phase_check(journal: &[u8], adjacency: &[u8], phase: usize) -> Verdict
             Verdict::Go
         }
     }
+}
+
+// N of a laid state.
+pub fn laid_vertices(journal: &[u8]) -> usize
+    requires { ⌜ (length (now journal) ≡ journalSize) × (journalOk (now journal) ≡ true) ⌝ }
+    ensures { λ r. ⌜ r ≡ vertexCount (now (journal .entry)) ⌝ }
+{
+    let cells = cells_of(journal);
+    let d = counts(&cells);
+    vertex_count(&cells, &d)
 }

@@ -37,10 +37,10 @@ use Rattle.state.proofs.Facts.{valid-facts}
 use Rattle.taking.specs.Take.{takeOnValid, takeJournal}
 use Rattle.laying_out.specs.LayOut.{laidOut, layOutJournal}
 use Rattle.figures.specs.Figures.{figuresOf}
-use Rattle.editing.specs.Add.{addLaid, addAdjacency}
-use Rattle.editing.specs.Remove.{removeLaid, removeAdjacency}
-use Rattle.editing.specs.List.{listLaid}
-use Rattle.editing.proofs.List.{list-none}
+use Rattle.adding.specs.Add.{addLaid, addAdjacency}
+use Rattle.removing.specs.Remove.{removeLaid, removeAdjacency}
+use Rattle.listing.specs.List.{listLaid}
+use Rattle.listing.proofs.List.{list-none}
 use Rattle.survey.specs.Survey.{surveyAnswer}
 use Rattle.completion.specs.Complete.{completed, completeAdjacency}
 use Rattle.demands.specs.Calls.{Call, take, layOut, add, remove, complete, readBack, list, figures, survey, State, cleared, after}

@@ -14,9 +14,9 @@ use Rattle.taking.specs.Take.{takeAnswer}
 use Rattle.reading_back.specs.Held.{lengthAnswer}
 use Rattle.laying_out.specs.LayOut.{layOutAnswer}
 use Rattle.figures.specs.Figures.{figuresAnswer}
-use Rattle.editing.specs.Add.{addAnswer}
-use Rattle.editing.specs.Remove.{removeAnswer}
-use Rattle.editing.specs.List.{listBytes, listAnswer}
+use Rattle.adding.specs.Add.{addAnswer}
+use Rattle.removing.specs.Remove.{removeAnswer}
+use Rattle.listing.specs.List.{listBytes, listAnswer}
 use Rattle.survey.specs.Survey.{surveyAnswer}
 use Rattle.completion.specs.Complete.{completeAnswer}
 use Rattle.demands.specs.Calls.{Call, take, layOut, add, remove, complete, readBack, list, figures, survey, State, cleared, after}

@@ -16,8 +16,7 @@ complete-spec =
     (λ c κs.
     let m = c .before in
     let p = m .before .before in
-    let a = p .before .before .before .before .args in
-    phase-passed _ (a .journal .now) (a .adjacency .now) (sym (p .phase-check .ensures) ∙ m .enum-told .given .1))  -- complete-laid-requires
+    sym (p .phase-check .ensures) ∙ m .enum-told .given .1)  -- complete-laid-requires
     (λ c. search needs)  -- same-length
     (λ c. let v = c .before in rw (← (v .before .before .phase-check .ensures), v .verdict .given .1) (refl, refl))  -- returns
     (λ c. search needs)  -- same-length-2

@@ -8,13 +8,13 @@ use lib.ListN.{getD}
 use Rattle.graph.specs.Graph.{jdm, edges}
 use Rattle.graph.specs.Switch.{unsaturated}
 use Rattle.graph.specs.Tests.{degrees, vertices}
-use Rattle.adjacency.specs.Adjacency.{side, edge}
+use Rattle.adjacency.specs.Adjacency.{edge}
 use Rattle.table.specs.Inner.Cells.{matrixOf}
 use Rattle.layout.specs.Layout.{mostVertices}
-use Rattle.layout.specs.Inner.Arrays.{countsOf, classesOf, classIn}
+use Rattle.layout.specs.Inner.Arrays.{countsOf}
 use Rattle.joining.specs.Join.{own}
 use Rattle.joining.specs.Inner.Work.{degreesOf}
-use Rattle.joining.specs.Inner.Block.{startsOf, blockSum}
+use Rattle.joining.specs.Inner.Block.{startsOf, Numbered, classFrom, blockSum, BlockOf}
 use Rattle.completion.specs.Complete.{Ran}
 use Rattle.completion.specs.Inner.Cellwise.{cellMissing, Filling}
 use Rattle.completion.specs.Inner.Cursor.{RowsDone, ColumnsDone}
@@ -43,6 +43,8 @@ pub record Resumes (n : ℕ) (cls : ℕ → ℕ) (g : List ℕ) (c : Cell) (u : 
   pub column : u .at .w ≤ c .columns .to
   pub rows : RowsDone n cls g (c .k) (c .l) (u .at .v)
   pub columns : ColumnsDone cls g (c .k) (c .l) (u .at .v) (u .at .w)
+  pub row-low : c .rows .from ≤ u .low .v
+  pub column-low : c .columns .from ≤ u .low .w
   pub low-row : u .low .v ≤ c .rows .to
   pub low-column : u .low .w ≤ c .columns .to
   pub saturated-rows : Saturated n cls g (c .k) (u .low .v)
@@ -75,23 +77,26 @@ cellIn starts k l =
       columns = record { from = getD starts l 0; to = getD starts (l + 1) 0 };
     }
 
--- the arrays of a layout, all from the table's cells
-pub record Arranged (n : ℕ) (cells classes starts : List ℕ) : Type 0 where
+-- the cell of two of the classes that start there
+pub record CellOf (n : ℕ) (starts : List ℕ) (c : Cell) : Type 0 where
+  pub numbered : Numbered n starts
+  pub between : c ≡ cellIn starts (c .k) (c .l)
+
+-- the starts of a layout's classes, from the table's cells
+pub record Arranged (n : ℕ) (cells starts : List ℕ) : Type 0 where
   pub count : n ≡ vertices (matrixOf cells)
   pub few : n ≤ mostVertices
-  pub classed : classes ≡ classesOf (matrixOf cells)
   pub started : starts ≡ startsOf (countsOf (matrixOf cells))
 
 -- these, and beside them a partial graph of the table with its degrees
-pub record Working (n : ℕ) (cells classes starts held : List ℕ) (s : Ran) : Type 0 where
-  pub arranged : Arranged n cells classes starts
-  pub sound : Sound n (classIn classes) (matrixOf cells) s
+pub record Working (n : ℕ) (cells starts held : List ℕ) (s : Ran) : Type 0 where
+  pub arranged : Arranged n cells starts
+  pub sound : Sound n (classFrom starts) (matrixOf cells) s
   pub degrees-held : held ≡ degreesOf n (s .adjacency)
 
 -- what a cell misses can be counted: its ranges are ranges of vertices, and it does not hold more than the table
 pub record Countable (g cells : List ℕ) (c : Cell) : Type 0 where
   pub first : c .k < degrees
   pub second : c .l < degrees
-  pub rows : (c .rows .from ≤ c .rows .to) × (c .rows .to ≤ side)
-  pub columns : (c .columns .from ≤ c .columns .to) × (c .columns .to ≤ side)
+  pub block : BlockOf g (c .rows .from) (c .rows .to) (c .columns .from) (c .columns .to)
   pub within : blockSum (edge g) (c .rows .from) (c .rows .to) (c .columns .from) (c .columns .to) ≤ matrixOf cells (c .k) (c .l)

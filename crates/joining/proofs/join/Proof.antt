@@ -4,7 +4,7 @@ use mathlib.Core.Path.{refl, ap₂, _∙_}
 use Prim.Native.Nat.{_+_}
 use native.Mathlib.Omega.{arith}
 use borrow.Author.Needs.{needs}
-use Rattle.joining.proofs.Relief.{freed-count, joinable-next, saturated-next, linkable, link-held, joinable-last, room-v, room-w}
+use Rattle.joining.proofs.Relief.{freed-count, joinable-next, placed-next, linkable, link-held, joinable-last, room-v, room-w}
 use Rattle.joining.proofs.join.Statement.{statement}
 use Rattle.joining.proofs.join.Tie as tie
 
@@ -13,15 +13,14 @@ join-spec =
     tie.close (tie.spec
     (λ c κs.
     let p = c .before .before .before .pre in
-    (p .0, p .1, p .2, λ i l e d. p .4 i l e))  -- relieve-requires
+    (p .0, p .2, p .1))  -- relieve-requires
     (λ c κs.
     let r = c .before .before .before .before in
     let s = r .before .before .before .before in
     rw (r .relieve .ensures .1 .0, r .relieve .ensures .1 .1) (
       joinable-next (s .pre .0),
+      placed-next (s .args .v) (s .args .w) (s .pre .0) (s .pre .3),
       refl,
-      s .pre .3,
-      saturated-next (s .pre .0) (s .pre .3) (s .pre .5),
     ))  -- relieve-requires-2
     (λ c κs.
     let r2 = c .before .before .before .before in

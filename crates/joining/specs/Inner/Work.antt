@@ -3,7 +3,7 @@
 use mathlib.Core.Path.{_≡_}
 use mathlib.Core.Bool.{Bool, false, _&&_, not, cond}
 use mathlib.Core.List.{List}
-use Prim.Native.Nat.{ℕ, _≤_, _<_}
+use Prim.Native.Nat.{ℕ, _+_, _≤_, _<_}
 use lib.Dec.{eqb, ltb}
 use lib.ListN.{length, getD, replicate}
 use Rattle.finite.specs.Inner.Fill.{fillTo}
@@ -14,6 +14,8 @@ use Rattle.graph.specs.Tests.{degrees}
 use Rattle.layout.specs.Layout.{mostVertices}
 use Rattle.adjacency.specs.Adjacency.{adjacencySize, edge}
 use Rattle.joining.specs.Join.{own, transferAt}
+use Rattle.joining.specs.Inner.Block.{Numbered, classFrom}
+use Rattle.joining.specs.declared.End.{End}
 
 -- how many bytes of a row are tested at once
 abbrev pub lanes : ℕ
@@ -32,18 +34,17 @@ pub record Joinable (n : ℕ) (cls : ℕ → ℕ) (g : List ℕ) (v w : ℕ) : T
   pub partial : Partial n degrees cls own table (edge g)
   pub pair : Open n cls table (edge g) v w
 
--- every vertex below `from` that has a's class is saturated, so the search for a substitute may begin there
-abbrev pub SaturatedBelow : ℕ → (ℕ → ℕ) → List ℕ → ℕ → ℕ → Type 0
-SaturatedBelow n cls g a from = (i : ℕ) → i < from → cls i ≡ cls a → unsaturated n cls own (edge g) i ≡ false
+-- where a substitute for a is searched: a's class is known, and all its vertices before `low` but `other` are saturated
+pub record Placed (n : ℕ) (starts g : List ℕ) (a : End) (other : ℕ) : Type 0 where
+  pub numbered : Numbered n starts
+  pub class : a .class ≡ classFrom starts (a .at)
+  pub after : getD starts (a .class) 0 ≤ a .low
+  pub before : a .low ≤ getD starts (a .class + 1) 0
+  pub saturated : (i : ℕ) → i < a .low → classFrom starts i ≡ a .class → (i ≡ other → ⊥) → unsaturated n (classFrom starts) own (edge g) i ≡ false
 
--- the same of every such vertex but `other`, which is no substitute
-abbrev pub SaturatedBut : ℕ → (ℕ → ℕ) → List ℕ → ℕ → ℕ → ℕ → Type 0
-SaturatedBut n cls g a other from =
-    (i : ℕ) → i < from → cls i ≡ cls a → (i ≡ other → ⊥) → unsaturated n cls own (edge g) i ≡ false
-
--- the substitute test on the arrays
-abbrev pub canSubstituteIn : List ℕ → List ℕ → ℕ → ℕ → ℕ → Bool
-canSubstituteIn classes held k other b = eqb (getD classes b 0) k && ltb (getD held b 0) (getD classes b 0) && not (eqb b other)
+-- b, of a class with degree k, may stand in for a vertex of it; `held` says how many edges each has
+abbrev pub canStandIn : (ℕ → ℕ) → ℕ → ℕ → ℕ → Bool
+canStandIn held k other b = ltb (held b) k && not (eqb b other)
 
 -- the vertex that the switch of v cut off from v; n where v was not switched
 abbrev pub freed : ℕ → (ℕ → ℕ) → List ℕ → ℕ → ℕ → ℕ

@@ -5,7 +5,7 @@ use Prim.Native.Nat.{_≤_, _-_}
 use native.Mathlib.Omega.{arith}
 use Rattle.finite.specs.Range.{foldTo}
 use Rattle.finite.proofs.Fold.{foldTo-none, foldTo-after}
-use Rattle.layout.specs.Inner.Arrays.{classIn}
+use Rattle.joining.specs.Inner.Block.{classFrom}
 use Rattle.joining.specs.Inner.Work.{degreesOf}
 use Rattle.completion.specs.Inner.Cellwise.{cellStep}
 use Rattle.completion.specs.Inner.Work.{ran, Resumes}
@@ -14,14 +14,14 @@ use Rattle.completion.proofs.cell.fill_cell.Statement.{statement}
 use Rattle.completion.proofs.cell.fill_cell.Tie as tie
 
 abbrev Inv-loop : tie.InvT-loop
-Inv-loop adjacency₀ held₀ classes n cell m cursor₀ sum₀ counter₀ adjacency held cursor sum counter =
+Inv-loop adjacency₀ held₀ starts n cell m cursor₀ sum₀ counter₀ adjacency held cursor sum counter =
     (counter ≤ m)
-    × (ran adjacency sum ≡ foldTo counter (λ i. cellStep n (classIn classes) (cell .k) (cell .l)) (ran adjacency₀ sum₀))
+    × (ran adjacency sum ≡ foldTo counter (λ i. cellStep n (classFrom starts) (cell .k) (cell .l)) (ran adjacency₀ sum₀))
     × (held ≡ degreesOf n adjacency)
-    × Resumes n (classIn classes) adjacency cell cursor
+    × Resumes n (classFrom starts) adjacency cell cursor
 
 abbrev μ-loop : tie.MeasureT-loop
-μ-loop adjacency₀ held₀ classes n cell m cursor₀ sum₀ counter₀ adjacency held cursor sum counter = m - counter
+μ-loop adjacency₀ held₀ starts n cell m cursor₀ sum₀ counter₀ adjacency held cursor sum counter = m - counter
 
 pub fill-cell-spec : {M : Type 1} → statement M
 fill-cell-spec =
@@ -29,13 +29,13 @@ fill-cell-spec =
     (λ c.
     let f = c .before in
     let a = f .args in
-    let start = start-resumes (a .n) (classIn (a .classes .now)) (a .adjacency .now) (a .cell) (f .pre .ranged) in
-    (omega arith, sym (foldTo-none _ _), f .pre .degrees-held, start))  -- loop-holds
+    let start = start-resumes (a .n) (classFrom (a .starts .now)) (a .adjacency .now) (a .cell) (f .pre .0 .ranged) in
+    (omega arith, sym (foldTo-none _ _), f .pre .0 .degrees-held, start))  -- loop-holds
     (λ c κs.
     let t = c .before .before in
     let l = t .before in
     let f = l .before .before in
-    fill-steppable (f .pre) (l .loop .counter) _ (l .loop .inv .1) (t .loop-test .taken) _ _ (l .loop .inv .3) (l .loop .inv .2))  -- fill-step-requires
+    (fill-steppable (f .pre .0) (l .loop .counter) _ (l .loop .inv .1) (t .loop-test .taken) _ _ (l .loop .inv .3) (l .loop .inv .2), f .pre .1))  -- fill-step-requires
     (λ c. let l = c .before .before .before .before .before .before .before .before in omega (arith, l .loop .inv .0))  -- add-counter
     (λ c. let l = c .before .before .before .before .before .before .before .before in omega (arith, l .loop .inv .0))  -- loop-less
     (λ c.
@@ -43,7 +43,7 @@ fill-cell-spec =
     let l = t .before .before .before .before in
     let a = l .before .before .args in (
       omega (arith, l .loop .inv .0),
-      foldTo-after (λ i. cellStep (a .n) (classIn (a .classes .now)) (a .cell .k) (a .cell .l))
+      foldTo-after (λ i. cellStep (a .n) (classFrom (a .starts .now)) (a .cell .k) (a .cell .l))
           _ (l .loop .counter) _ _ (l .loop .inv .1) (t .fill-step .ensures .0 .0),
       t .fill-step .ensures .1,
       t .fill-step .ensures .0 .1,
@@ -51,7 +51,7 @@ fill-cell-spec =
     (λ c.
     let l = c .before in
     let f = l .before .before in
-    fill-sized (f .pre) (l .loop .counter) _ (l .loop .inv .1) (l .loop .inv .0))  -- same-length
+    fill-sized (f .pre .0) (l .loop .counter) _ (l .loop .inv .1) (l .loop .inv .0))  -- same-length
     (λ c.
     let l = c .before in
     let e : l .loop .counter ≡ l .before .before .args .m = omega arith in

@@ -2,7 +2,7 @@
 -- Assumes nothing.
 use native.Mathlib.Omega.{arith}
 use borrow.Author.Needs.{needs}
-use Rattle.completion.proofs.Arranged.{countable, fillable, cell-filled}
+use Rattle.completion.proofs.Arranged.{countable, cell-of, fillable, cell-filled}
 use Rattle.completion.proofs.fill.complete_cell.Statement.{statement}
 use Rattle.completion.proofs.fill.complete_cell.Tie as tie
 
@@ -22,9 +22,10 @@ complete-cell-spec =
     let d = m .before .before in
     let f = d .before .before in
     let a = f .args in
-    rw (d .cell-at .ensures)
-    (fillable (f .pre .0) (a .k) (a .l) (f .pre .1) (f .pre .2) (m .missing .result)
-    (rw (d .cell-at .ensures) at (m .missing .ensures))))  -- fill-cell-requires
+    rw (d .cell-at .ensures) (
+      fillable (f .pre .0) (a .k) (a .l) (f .pre .1) (f .pre .2) (m .missing .result) (rw (d .cell-at .ensures) at (m .missing .ensures)),
+      cell-of (f .pre .0) (a .k) (a .l) (f .pre .1) (f .pre .2),
+    ))  -- fill-cell-requires
     (λ c. search needs)  -- same-length
     (λ c.
     let t = c .before .before in

@@ -7,33 +7,41 @@ use Rattle.finite.specs.Range.{foldTo}
 use Rattle.finite.proofs.Fold.{foldTo-none, foldTo-after}
 use Rattle.graph.specs.Tests.{degrees}
 use Rattle.table.specs.Inner.Cells.{matrixOf}
-use Rattle.layout.specs.Inner.Arrays.{classIn}
+use Rattle.joining.specs.Inner.Block.{classFrom}
 use Rattle.joining.specs.Inner.Work.{degreesOf}
 use Rattle.completion.specs.Inner.Cellwise.{fillCell}
 use Rattle.completion.specs.Inner.Work.{ran}
-use Rattle.completion.proofs.Arranged.{working, working-sized, cells-sound}
+use Rattle.completion.proofs.Arranged.{working, working-sized, cells-sound, row-empty}
 use Rattle.completion.proofs.fill.complete_row.Statement.{statement}
 use Rattle.completion.proofs.fill.complete_row.Tie as tie
 
 abbrev Inv-loop : tie.InvT-loop
-Inv-loop adjacency₀ held₀ classes cells starts n k sum₀ i₀ i-end adjacency held sum i =
+Inv-loop adjacency₀ held₀ cells starts n k sum₀ i₀ i-end adjacency held sum i =
     (k + i ≤ degrees)
-    × (ran adjacency sum ≡ foldTo i (λ i. fillCell n (classIn classes) (matrixOf cells) k (k + i)) (ran adjacency₀ sum₀))
+    × (ran adjacency sum ≡ foldTo i (λ i. fillCell n (classFrom starts) (matrixOf cells) k (k + i)) (ran adjacency₀ sum₀))
     × (held ≡ degreesOf n adjacency)
 
 abbrev μ-loop : tie.MeasureT-loop
-μ-loop adjacency₀ held₀ classes cells starts n k sum₀ i₀ i-end adjacency held sum i = i-end - i
+μ-loop adjacency₀ held₀ cells starts n k sum₀ i₀ i-end adjacency held sum i = i-end - i
 
 pub complete-row-spec : {M : Type 1} → statement M
 complete-row-spec =
     tie.close (tie.spec Inv-loop μ-loop
-    (λ c. omega (arith, c .before .pre .1))  -- sub-i-end
-    (λ c. let f = c .before in (omega (arith, f .pre .1), sym (foldTo-none _ _), f .pre .0 .degrees-held))  -- loop-holds
+    (λ c. omega (arith, c .before .pre .1))  -- mul-if1
+    (λ c. omega (arith, c .before .pre .1))  -- element-copy-out-if1
+    (λ c. omega (arith, c .before .before .pre .1))  -- add-if1
+    (λ c. omega (arith, c .before .before .pre .1))  -- mul-if1-2
+    (λ c. omega (arith, c .before .before .pre .1))  -- element-copy-out-if1-2
+    (λ c.
+    let f = c .before .before .before .before in
+    (row-empty (f .pre .0) (f .args .k) (f .pre .1) (c .if1 .taken), f .pre .0 .degrees-held))  -- returns
+    (λ c. omega (arith, c .before .before .before .before .pre .1))  -- sub-i-end
+    (λ c. let f = c .before .before .before .before in (omega (arith, f .pre .1), sym (foldTo-none _ _), f .pre .0 .degrees-held))  -- loop-holds
     (λ c. let l = c .before .before .before in omega (arith, l .loop .inv .0))  -- add-complete-cell
     (λ c κs.
     let t = c .before .before in
     let l = t .before in
-    let f = l .before .before in
+    let f = l .before .before .before .before .before in
     let a = f .args in (
       working (f .pre .0) _ (cells-sound (f .pre .0) (l .loop .i) _ (a .k) (l .loop .inv .0) (l .loop .inv .1)) _ (l .loop .inv .2),
       f .pre .1,
@@ -45,18 +53,18 @@ complete-row-spec =
     let d = c .before .before in
     let t = d .before .before .before in
     let l = t .before in
-    let a = l .before .before .args in (
+    let a = l .before .before .before .before .before .args in (
       omega (arith, t .loop-test .taken),
-      foldTo-after (λ i. fillCell (a .n) (classIn (a .classes .now)) (matrixOf (a .cells .now)) (a .k) (a .k + i))
+      foldTo-after (λ i. fillCell (a .n) (classFrom (a .starts .now)) (matrixOf (a .cells .now)) (a .k) (a .k + i))
           _ (l .loop .i) _ _ (l .loop .inv .1) (d .complete-cell .ensures .0),
       d .complete-cell .ensures .1,
     ))  -- loop-again
     (λ c.
     let l = c .before in
-    let f = l .before .before in
+    let f = l .before .before .before .before .before in
     let a = f .args in
     working-sized (f .pre .0) _ (cells-sound (f .pre .0) (l .loop .i) _ (a .k) (l .loop .inv .0) (l .loop .inv .1)))  -- same-length
     (λ c.
     let l = c .before in
-    let e : l .loop .i ≡ degrees - l .before .before .args .k = omega (arith, l .loop .inv .0) in
-    (rw e at (l .loop .inv .1), l .loop .inv .2)))  -- returns
+    let e : l .loop .i ≡ degrees - l .before .before .before .before .before .args .k = omega (arith, l .loop .inv .0) in
+    (rw e at (l .loop .inv .1), l .loop .inv .2)))  -- returns-2

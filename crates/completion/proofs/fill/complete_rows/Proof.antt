@@ -7,7 +7,7 @@ use Rattle.finite.specs.Range.{foldTo}
 use Rattle.finite.proofs.Fold.{foldTo-none, foldTo-after}
 use Rattle.graph.specs.Tests.{leastDegree, mostDegree}
 use Rattle.table.specs.Inner.Cells.{matrixOf}
-use Rattle.layout.specs.Inner.Arrays.{classIn}
+use Rattle.joining.specs.Inner.Block.{classFrom}
 use Rattle.joining.specs.Inner.Work.{degreesOf}
 use Rattle.completion.specs.Inner.Cellwise.{fillRow}
 use Rattle.completion.specs.Inner.Work.{ran}
@@ -16,13 +16,13 @@ use Rattle.completion.proofs.fill.complete_rows.Statement.{statement}
 use Rattle.completion.proofs.fill.complete_rows.Tie as tie
 
 abbrev Inv-loop : tie.InvT-loop
-Inv-loop adjacency₀ held₀ classes cells starts n sum₀ i₀ adjacency held sum i =
+Inv-loop adjacency₀ held₀ cells starts n sum₀ i₀ adjacency held sum i =
     (i ≤ mostDegree)
-    × (ran adjacency sum ≡ foldTo i (λ i. fillRow n (classIn classes) (matrixOf cells) (leastDegree + i)) (ran adjacency₀ sum₀))
+    × (ran adjacency sum ≡ foldTo i (λ i. fillRow n (classFrom starts) (matrixOf cells) (leastDegree + i)) (ran adjacency₀ sum₀))
     × (held ≡ degreesOf n adjacency)
 
 abbrev μ-loop : tie.MeasureT-loop
-μ-loop adjacency₀ held₀ classes cells starts n sum₀ i₀ adjacency held sum i = mostDegree - i
+μ-loop adjacency₀ held₀ cells starts n sum₀ i₀ adjacency held sum i = mostDegree - i
 
 pub complete-rows-spec : {M : Type 1} → statement M
 complete-rows-spec =
@@ -44,7 +44,7 @@ complete-rows-spec =
     let l = t .before in
     let a = l .before .before .args in (
       omega (arith, t .loop-test .taken),
-      foldTo-after (λ i. fillRow (a .n) (classIn (a .classes .now)) (matrixOf (a .cells .now)) (leastDegree + i))
+      foldTo-after (λ i. fillRow (a .n) (classFrom (a .starts .now)) (matrixOf (a .cells .now)) (leastDegree + i))
           _ (l .loop .i) _ _ (l .loop .inv .1) (d .complete-row .ensures .0),
       d .complete-row .ensures .1,
     ))  -- loop-again

@@ -1,18 +1,12 @@
 -- `completion::fill::missing` meets its contract.
 -- Assumes nothing.
-use mathlib.Core.Path.{_≡_, sym, _∙_}
-use mathlib.Core.Bool.{Bool, true, false, cond}
-use Prim.Native.Nat.{ℕ, _-_, _/_}
+use mathlib.Core.Path.{sym, _∙_}
 use native.Mathlib.Omega.{arith}
 use lib.Dec.{eqb}
 use borrow.Author.Needs.{needs}
+use Rattle.completion.proofs.Arranged.{none-missing}
 use Rattle.completion.proofs.fill.missing.Statement.{statement}
 use Rattle.completion.proofs.fill.missing.Tie as tie
-
--- a cell that the table has nothing in misses nothing
-none : (want have : ℕ) (t : Bool) → want ≡ 0 → 0 ≡ (want - have) / cond t 2 1
-none want have true e = omega arith
-none want have false e = omega arith
 
 pub missing-spec : {M : Type 1} → statement M
 missing-spec =
@@ -20,11 +14,11 @@ missing-spec =
     (λ c κs. search needs)  -- cell-requires
     (λ c.
     let a = c .before .before .before .args in
-    none _ _ (eqb (a .c .k) (a .c .l)) (sym (c .before .cell .ensures .0) ∙ c .if1 .taken))  -- returns
+    none-missing _ _ (eqb (a .c .k) (a .c .l)) (sym (c .before .cell .ensures .0) ∙ c .if1 .taken))  -- returns
     (λ c κs.
     let f = c .before .before .before in
     let p = f .pre .1 in
-    (f .pre .0, p .rows .0, p .rows .1, p .columns .0, p .columns .1))  -- block-sum-requires
+    (f .pre .0, p .block))  -- block-sum-requires
     (λ c.
     let f = c .before .before .before .before in
     omega (arith, f .pre .1 .within, c .block-sum .ensures, c .before .before .cell .ensures .0))  -- sub-result

@@ -1,39 +1,22 @@
--- `joining::cell::block_sum` meets its contract: before row v, sum is that of the rows above it.
+-- `joining::cell::block_sum` meets its contract.
 -- Assumes nothing.
-use mathlib.Core.Path.{_≡_}
-use Prim.Native.Nat.{_+_, _-_, _*_, _≤_}
+use mathlib.Core.Path.{ap, _∙_}
+use Prim.Native.Nat.{ℕ, _*_}
 use native.Mathlib.Omega.{arith}
-use Rattle.finite.proofs.Sum.{sumTo-none, sumTo-more}
-use Rattle.adjacency.specs.Adjacency.{side, edge}
-use Rattle.joining.specs.Inner.Block.{blockSum}
+use Rattle.joining.proofs.Blocks.{on-diagonal, diagonal-block}
 use Rattle.joining.proofs.cell.block_sum.Statement.{statement}
 use Rattle.joining.proofs.cell.block_sum.Tie as tie
 
-abbrev Inv-loop : tie.InvT-loop
-Inv-loop adjacency top bottom left right sum₀ v₀ sum v =
-    (top ≤ v) × (v ≤ bottom) × (sum ≡ blockSum (edge adjacency) top v left right) × (sum ≤ 255 * side * v)
-
-abbrev μ-loop : tie.MeasureT-loop
-μ-loop adjacency top bottom left right sum₀ v₀ sum v = bottom - v
-
 pub block-sum-spec : {M : Type 1} → statement M
 block-sum-spec =
-    tie.close (tie.spec Inv-loop μ-loop
+    tie.close (tie.spec
+    (λ c κs. c .before .before .pre)  -- rows-sum-requires
+    (λ c. c .rows-sum .ensures)  -- returns
+    (λ c κs. c .before .before .before .pre)  -- rows-sum-requires-2
+    (λ c. c .rows-sum2 .ensures)  -- returns-2
+    (λ c κs. let p = c .before .before .before .pre in (p .0, on-diagonal (p .1)))  -- edges-among-requires
+    (λ c. omega arith)  -- mul-result
     (λ c.
-    let x = c .before .args in
-    let e : x .top - x .top ≡ 0 = omega arith in
-    (omega arith, omega arith, rw (e, sumTo-none), omega arith))  -- loop-holds
-    (λ c κs. omega arith)  -- row-sum-requires
-    (λ c. omega arith)  -- add-sum
-    (λ c. omega arith)  -- add-v
-    (λ c. omega arith)  -- loop-less
-    (λ c.
-    let l = c .before .before in
-    let top = l .before .before .args .top in
-    let e : l .loop .v + 1 - top ≡ l .loop .v - top + 1 = omega arith in
-    let f : top + (l .loop .v - top) ≡ l .loop .v = omega arith in
-    (omega arith, omega arith, rw (e, sumTo-more, f) (omega arith), omega arith))  -- loop-again
-    (λ c.
-    let l = c .before in
-    let e : l .loop .v ≡ l .before .before .args .bottom = omega arith in
-    rw e at (l .loop .inv .2)))  -- returns
+    let i2 = c .before in
+    let i1 = i2 .before in
+    ap (λ (x : ℕ). 2 * x) (c .edges-among .ensures .0) ∙ diagonal-block (i1 .before .before .pre .1) (i1 .if1 .left) (i2 .if2 .left)))  -- returns-3

@@ -7,7 +7,7 @@ use native.Mathlib.Omega.{arith}
 use lib.ListN.{length, getD}
 use Rattle.finite.proofs.Sum.{sumTo-cong}
 use Rattle.adjacency.specs.Adjacency.{side, edge}
-use Rattle.adjacency.proofs.Row.{part-length, part-sum}
+use Rattle.adjacency.proofs.Row.{part-length, part-at, part-sum}
 use Rattle.joining.proofs.cell.row_sum.Statement.{statement}
 use Rattle.joining.proofs.cell.row_sum.Tie as tie
 
@@ -18,13 +18,21 @@ row-sum-spec =
     (λ c. omega arith)  -- add-from
     (λ c. omega arith)  -- mul-to
     (λ c. omega arith)  -- add-to
-    (λ c. omega arith)  -- sub-byte-sum
-    (λ c. omega arith)  -- part-byte-sum-start
-    (λ c. omega arith)  -- part-byte-sum-end
+    (λ c. omega arith)  -- sub-ones
+    (λ c. omega arith)  -- part-ones-start
+    (λ c. omega arith)  -- part-ones-end
     (λ c κs.
-    let x = c .before .before .args in
-    let e : (x .v * side + x .right) - (x .v * side + x .left) ≡ x .right - x .left = omega arith in
-    rw (e, part-length (x .adjacency .now) (x .v * side + x .left) (x .right - x .left) (omega arith)) (omega arith))  -- byte-sum-requires
+    let s = c .before .before in
+    let x = s .args in
+    let g = x .adjacency .now in
+    let from = x .v * side + x .left in
+    let n = x .right - x .left in
+    let e : (x .v * side + x .right) - from ≡ n = omega arith in
+    let f : from + n ≤ length g = omega arith in
+    rw (e, part-length g from n f) (
+      omega arith,
+      λ i l. rw (part-at g from n f i l, add-assoc (x .v * side) (x .left) i) (s .pre .4 (x .left + i) (omega arith)),
+    ))  -- ones-requires
     (λ c.
     let x = c .before .before .before .args in
     let g = x .adjacency .now in
@@ -32,8 +40,8 @@ row-sum-spec =
     let n = x .right - x .left in
     let e : (x .v * side + x .right) - from ≡ n = omega arith in
     let f : from + n ≤ length g = omega arith in
-    let p = rw e at (c .byte-sum .ensures) in (
+    let p = rw e at (c .ones .ensures) in (
       p .0 ∙ part-sum g from n f ∙ sumTo-cong n (λ i. getD g (from + i) 0) (λ i. edge g (x .v) (x .left + i))
           (λ i l. ap (λ (m : ℕ). getD g m 0) (add-assoc (x .v * side) (x .left) i)),
-      omega (arith, p .1, part-length g from n f),
+      p .1,
     )))  -- returns

@@ -1,0 +1,2 @@
+pub mod Add
+pub mod Unlinked

@@ -1,0 +1,2 @@
+pub mod Add
+pub mod Inner

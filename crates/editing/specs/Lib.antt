@@ -1,4 +1,0 @@
-pub mod Add
-pub mod Remove
-pub mod List
-pub mod Inner

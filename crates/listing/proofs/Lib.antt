@@ -1,0 +1,3 @@
+pub mod Pairs
+pub mod List
+pub mod Listed
