@@ -18,10 +18,10 @@ use Rattle.layout.specs.Inner.Arrays.{countsOf, countIn}
 use Rattle.layout.proofs.Counted.{counted-total}
 use Rattle.journal.specs.Journal.{jdmOf}
 use Rattle.adjacency.specs.Adjacency.{edge}
-use Rattle.joining.specs.Inner.Block.{startsOf, Numbered, classFrom, blockSum, BlockOf}
+use Rattle.classes.specs.Inner.Block.{startsOf, Numbered, classFrom, blockSum, BlockOf}
 use Rattle.joining.specs.Join.{joinBytes, joinCount}
 use Rattle.joining.specs.Inner.Work.{Joinable, Placed}
-use Rattle.joining.proofs.Blocks.{start-rises, start-most, class-only, block-cell, table-numbered, table-classes}
+use Rattle.classes.proofs.Blocks.{start-rises, start-most, class-only, block-cell, table-numbered, table-classes}
 use Rattle.adding.specs.Add.{addAdjacency}
 use Rattle.adding.specs.Inner.Work.{Unlinked, addedAdjacency}
 

@@ -17,8 +17,8 @@ use Rattle.finite.proofs.Fold.{foldTo-keeps, foldTo-none}
 use Rattle.finite.proofs.Sum.{sumTo-zero, sumTo-term}
 use Rattle.adjacency.specs.Adjacency.{edge}
 use Rattle.joining.specs.Inner.Work.{degreesOf}
-use Rattle.joining.specs.Inner.Block.{Numbered, classFrom, blockSum}
-use Rattle.joining.proofs.Blocks.{start-rises, start-most, class-inside, class-only, block-cell, table-numbered}
+use Rattle.classes.specs.Inner.Block.{Numbered, classFrom, blockSum}
+use Rattle.classes.proofs.Blocks.{start-rises, start-most, class-inside, class-only, block-cell, table-numbered}
 use Rattle.completion.specs.Complete.{Ran}
 use Rattle.completion.specs.Inner.Cellwise.{cellStep, cellMissing, fillCell, fillRow}
 use Rattle.completion.specs.Inner.Cursor.{ClassRange}

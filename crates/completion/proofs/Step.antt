@@ -19,7 +19,7 @@ use Rattle.graph.proofs.Resume.{join-degree}
 use Rattle.layout.specs.Layout.{mostVertices}
 use Rattle.adjacency.specs.Adjacency.{edge}
 use Rattle.joining.specs.Join.{own, joinBytes, joinCount}
-use Rattle.joining.specs.Inner.Block.{classFrom}
+use Rattle.classes.specs.Inner.Block.{classFrom}
 use Rattle.joining.specs.Inner.Work.{degreesOf, Joinable, Placed, freed}
 use Rattle.joining.proofs.Bytes.{join-bytes}
 use Rattle.completion.specs.Choice.{openW, openV}

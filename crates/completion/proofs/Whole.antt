@@ -19,8 +19,8 @@ use Rattle.adjacency.specs.Adjacency.{edge}
 use Rattle.state.specs.Checks.{phaseVerdict}
 use Rattle.state.proofs.Checks.{phase-facts}
 use Rattle.joining.specs.Inner.Work.{degreesOf}
-use Rattle.joining.specs.Inner.Block.{startsOf, classFrom}
-use Rattle.joining.proofs.Blocks.{table-classes}
+use Rattle.classes.specs.Inner.Block.{startsOf, classFrom}
+use Rattle.classes.proofs.Blocks.{table-classes}
 use Rattle.completion.specs.Complete.{Ran, run, mostEdges, completed}
 use Rattle.completion.specs.Inner.Cellwise.{Filling, fillAll}
 use Rattle.completion.specs.Inner.Work.{Working}

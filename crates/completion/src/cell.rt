@@ -5,15 +5,15 @@ ghost use lib.Dec.{ltb};
 ghost use lib.ListN.{getD};
 ghost use Rattle.finite.specs.Range.{lowest, foldTo};
 ghost use Rattle.adjacency.specs.Adjacency.{side};
-ghost use Rattle.joining.specs.Inner.Block.{classFrom};
+ghost use Rattle.classes.specs.Inner.Block.{classFrom};
 ghost use Rattle.joining.specs.Inner.Work.{degreesOf};
 ghost use Rattle.completion.specs.Inner.Cellwise.{cellStep};
 ghost use Rattle.completion.specs.Inner.Work.{ran, CellOf, Resumes, Steppable, Fillable};
 use crate::pair::Cell;
 use crate::pair::Pair;
 use crate::pair::open_pair;
+use classes::STARTS;
 use joining::End;
-use joining::cell::STARTS;
 use layout::MOST_VERTICES;
 
 // Edges added and switches made.

@@ -26,7 +26,7 @@ fn complete_laid(journal: &[u8], adjacency: &mut [u8]) -> Totals
     let cells = cells_of(journal);
     let d = counts(&cells);
     let n = vertex_count(&cells, &d);
-    let s = joining::cell::starts(&d);
+    let s = classes::starts(&d);
     let mut held = joining::degrees(adjacency, n);
     let none = Totals {
         joins: 0,

@@ -21,11 +21,11 @@ use Rattle.graph.proofs.Update.{degree-adds}
 use Rattle.adjacency.specs.Adjacency.{adjacencySize, side, edge, setEdge}
 use Rattle.adjacency.proofs.Set.{set-adds}
 use Rattle.joining.specs.Join.{own, substituteAt, transferAt, switchBytes, relieveBytes, relieveCount}
-use Rattle.joining.specs.Inner.Block.{classFrom}
+use Rattle.classes.specs.Inner.Block.{classFrom}
 use Rattle.joining.specs.Inner.Work.{degreesOf, Joinable, Placed, freed}
 use Rattle.joining.specs.declared.End.{End}
 use Rattle.joining.proofs.Bytes.{relieve-bytes, ready-v, pair-w, sized-once}
-use Rattle.joining.proofs.Blocks.{start-most}
+use Rattle.classes.proofs.Blocks.{start-most}
 use Rattle.joining.proofs.Held.{held-at, held-moved}
 
 module _ {n : ℕ} {cls : ℕ → ℕ} {g : List ℕ} {a o : ℕ} (j : Joinable n cls g a o) where

@@ -17,10 +17,10 @@ use Rattle.graph.specs.Switch.{unsaturated, canSubstitute, orElse}
 use Rattle.graph.specs.Tests.{degrees}
 use Rattle.adjacency.specs.Adjacency.{edge}
 use Rattle.joining.specs.Join.{own, substituteAt}
-use Rattle.joining.specs.Inner.Block.{classFrom}
+use Rattle.classes.specs.Inner.Block.{classFrom}
 use Rattle.joining.specs.Inner.Work.{Joinable, Placed, canStandIn}
 use Rattle.joining.specs.declared.End.{End}
-use Rattle.joining.proofs.Blocks.{start-most, class-inside, class-only}
+use Rattle.classes.proofs.Blocks.{start-most, class-inside, class-only}
 
 -- how a search ends that has passed over the numbers before b
 pub else-found : (from to b other : ℕ) (p : ℕ → Bool) → lowest from to p ≡ lowest b to p → b < to → p b ≡ true

@@ -11,17 +11,16 @@ ghost use Rattle.graph.specs.Switch.{orElse};
 ghost use Rattle.graph.specs.Tests.{degrees};
 ghost use Rattle.adjacency.specs.Adjacency.{adjacencySize, side, edge, setEdge};
 ghost use Rattle.joining.specs.Join.{relieveBytes, joinBytes, joinCount};
-ghost use Rattle.joining.specs.Inner.Block.{classFrom};
+ghost use Rattle.classes.specs.Inner.Block.{classFrom};
 ghost use Rattle.joining.specs.Inner.Work.{degreesOf, Joinable, Placed, canStandIn, freed};
 
-pub mod cell;
 pub mod once;
 mod switch;
 
-use crate::cell::STARTS;
-use crate::cell::row_sum;
 use crate::switch::neighbor_switch;
 use adjacency::set_edge;
+use classes::STARTS;
+use classes::row_sum;
 use layout::MOST_VERTICES;
 
 // An end of the edge to be: the vertex, its class, and a vertex of the class before which all but the other end are saturated.

@@ -7,14 +7,14 @@ ghost use Rattle.graph.specs.Graph.{degree};
 ghost use Rattle.graph.specs.Switch.{orElse};
 ghost use Rattle.adjacency.specs.Adjacency.{adjacencySize, side, edge};
 ghost use Rattle.joining.specs.Join.{relieveBytes, joinBytes, joinCount};
-ghost use Rattle.joining.specs.Inner.Block.{classFrom};
+ghost use Rattle.classes.specs.Inner.Block.{classFrom};
 ghost use Rattle.joining.specs.Inner.Work.{Joinable, Placed, canStandIn, freed};
 use crate::End;
-use crate::cell::STARTS;
 use crate::switch::neighbor_switch;
 use crate::switch_count;
 use adjacency::degree_of;
 use adjacency::set_edge;
+use classes::STARTS;
 
 fn can_stand_in(adjacency: &[u8], n: usize, class: usize, other: usize, b: usize) -> bool
     requires { ⌜ (length (now adjacency) ≡ adjacencySize) × (n ≤ side) × (b < side) ⌝ }

@@ -14,7 +14,7 @@ use Rattle.layout.specs.Layout.{mostVertices}
 use Rattle.layout.specs.Inner.Arrays.{countsOf}
 use Rattle.joining.specs.Join.{own}
 use Rattle.joining.specs.Inner.Work.{degreesOf}
-use Rattle.joining.specs.Inner.Block.{startsOf, Numbered, classFrom, blockSum, BlockOf}
+use Rattle.classes.specs.Inner.Block.{startsOf, Numbered, classFrom, blockSum, BlockOf}
 use Rattle.completion.specs.Complete.{Ran}
 use Rattle.completion.specs.Inner.Cellwise.{cellMissing, Filling}
 use Rattle.completion.specs.Inner.Cursor.{RowsDone, ColumnsDone}

@@ -14,7 +14,7 @@ use Rattle.graph.specs.Tests.{degrees}
 use Rattle.layout.specs.Layout.{mostVertices}
 use Rattle.adjacency.specs.Adjacency.{adjacencySize, edge}
 use Rattle.joining.specs.Join.{own, transferAt}
-use Rattle.joining.specs.Inner.Block.{Numbered, classFrom}
+use Rattle.classes.specs.Inner.Block.{Numbered, classFrom}
 use Rattle.joining.specs.declared.End.{End}
 
 -- how many bytes of a row are tested at once

@@ -5,7 +5,7 @@ use Prim.Native.Nat.{_≤_, _-_}
 use native.Mathlib.Omega.{arith}
 use Rattle.finite.specs.Range.{foldTo}
 use Rattle.finite.proofs.Fold.{foldTo-none, foldTo-after}
-use Rattle.joining.specs.Inner.Block.{classFrom}
+use Rattle.classes.specs.Inner.Block.{classFrom}
 use Rattle.joining.specs.Inner.Work.{degreesOf}
 use Rattle.completion.specs.Inner.Cellwise.{cellStep}
 use Rattle.completion.specs.Inner.Work.{ran, Resumes}

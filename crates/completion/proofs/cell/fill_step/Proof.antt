@@ -2,7 +2,7 @@
 -- Assumes nothing.
 use native.Mathlib.Omega.{arith}
 use borrow.Author.Needs.{needs}
-use Rattle.joining.specs.Inner.Block.{classFrom}
+use Rattle.classes.specs.Inner.Block.{classFrom}
 use Rattle.completion.proofs.Sound.{count-le, joins-most}
 use Rattle.completion.proofs.Step.{step-searchable, step-joinable, step-ran, row-placed, column-placed, step-resumes}
 use Rattle.completion.proofs.cell.fill_step.Statement.{statement}

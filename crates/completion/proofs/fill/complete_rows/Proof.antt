@@ -7,7 +7,7 @@ use Rattle.finite.specs.Range.{foldTo}
 use Rattle.finite.proofs.Fold.{foldTo-none, foldTo-after}
 use Rattle.graph.specs.Tests.{leastDegree, mostDegree}
 use Rattle.table.specs.Inner.Cells.{matrixOf}
-use Rattle.joining.specs.Inner.Block.{classFrom}
+use Rattle.classes.specs.Inner.Block.{classFrom}
 use Rattle.joining.specs.Inner.Work.{degreesOf}
 use Rattle.completion.specs.Inner.Cellwise.{fillRow}
 use Rattle.completion.specs.Inner.Work.{ran}

@@ -1,11 +1,11 @@
--- `joining::cell::block_sum` meets its contract.
+-- `classes::block_sum` meets its contract.
 -- Assumes nothing.
 use mathlib.Core.Path.{ap, _∙_}
 use Prim.Native.Nat.{ℕ, _*_}
 use native.Mathlib.Omega.{arith}
-use Rattle.joining.proofs.Blocks.{on-diagonal, diagonal-block}
-use Rattle.joining.proofs.cell.block_sum.Statement.{statement}
-use Rattle.joining.proofs.cell.block_sum.Tie as tie
+use Rattle.classes.proofs.Blocks.{on-diagonal, diagonal-block}
+use Rattle.classes.proofs.block_sum.Statement.{statement}
+use Rattle.classes.proofs.block_sum.Tie as tie
 
 pub block-sum-spec : {M : Type 1} → statement M
 block-sum-spec =

@@ -8,7 +8,7 @@ ghost use Rattle.graph.specs.Tests.{degrees};
 ghost use Rattle.layout.specs.Layout.{mostVertices};
 ghost use Rattle.layout.specs.Inner.Arrays.{countIn};
 ghost use Rattle.adjacency.specs.Adjacency.{adjacencySize, side, edge};
-ghost use Rattle.joining.specs.Inner.Block.{startsOf, classFrom, blockSum, triangleSum, BlockOf};
+ghost use Rattle.classes.specs.Inner.Block.{startsOf, classFrom, blockSum, triangleSum, BlockOf};
 use adjacency::SIDE;
 use adjacency::byte_sum;
 use slices::wide;

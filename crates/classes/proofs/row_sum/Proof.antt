@@ -1,4 +1,4 @@
--- `joining::cell::row_sum` meets its contract.
+-- `classes::row_sum` meets its contract.
 -- Assumes nothing.
 use mathlib.Core.Path.{_≡_, ap, _∙_}
 use Prim.Native.Nat.{ℕ, _+_, _-_, _*_, _≤_}
@@ -8,8 +8,8 @@ use lib.ListN.{length, getD}
 use Rattle.finite.proofs.Sum.{sumTo-cong}
 use Rattle.adjacency.specs.Adjacency.{side, edge}
 use Rattle.adjacency.proofs.Row.{part-length, part-at, part-sum}
-use Rattle.joining.proofs.cell.row_sum.Statement.{statement}
-use Rattle.joining.proofs.cell.row_sum.Tie as tie
+use Rattle.classes.proofs.row_sum.Statement.{statement}
+use Rattle.classes.proofs.row_sum.Tie as tie
 
 pub row-sum-spec : {M : Type 1} → statement M
 row-sum-spec =

@@ -1,13 +1,13 @@
--- `joining::cell::rows_sum` meets its contract: before row v, sum is that of the rows above it.
+-- `classes::rows_sum` meets its contract: before row v, sum is that of the rows above it.
 -- Assumes nothing.
 use mathlib.Core.Path.{_≡_}
 use Prim.Native.Nat.{_+_, _-_, _*_, _≤_}
 use native.Mathlib.Omega.{arith}
 use Rattle.finite.proofs.Sum.{sumTo-none, sumTo-more}
 use Rattle.adjacency.specs.Adjacency.{side, edge}
-use Rattle.joining.specs.Inner.Block.{blockSum}
-use Rattle.joining.proofs.cell.rows_sum.Statement.{statement}
-use Rattle.joining.proofs.cell.rows_sum.Tie as tie
+use Rattle.classes.specs.Inner.Block.{blockSum}
+use Rattle.classes.proofs.rows_sum.Statement.{statement}
+use Rattle.classes.proofs.rows_sum.Tie as tie
 
 abbrev Inv-loop : tie.InvT-loop
 Inv-loop adjacency top bottom left right sum₀ v₀ sum v =

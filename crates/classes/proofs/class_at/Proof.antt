@@ -1,4 +1,4 @@
--- `joining::cell::class_at` meets its contract: what is left to search has the answer of the whole.
+-- `classes::class_at` meets its contract: what is left to search has the answer of the whole.
 -- Assumes nothing.
 use mathlib.Core.Path.{_≡_, refl, sym, _∙_}
 use Prim.Native.Nat.{_+_, _-_, _≤_}
@@ -9,9 +9,9 @@ use borrow.Author.Tests.{lt-ltb, le-ltb}
 use Rattle.finite.specs.Range.{lowest}
 use Rattle.finite.proofs.Lowest.{lowest-end, lowest-here, lowest-next}
 use Rattle.graph.specs.Tests.{degrees}
-use Rattle.joining.specs.Inner.Block.{classFrom}
-use Rattle.joining.proofs.cell.class_at.Statement.{statement}
-use Rattle.joining.proofs.cell.class_at.Tie as tie
+use Rattle.classes.specs.Inner.Block.{classFrom}
+use Rattle.classes.proofs.class_at.Statement.{statement}
+use Rattle.classes.proofs.class_at.Tie as tie
 
 abbrev Inv-loop : tie.InvT-loop
 Inv-loop starts v k₀ k = (k ≤ degrees) × (classFrom starts v ≡ lowest k degrees (λ k. ltb v (getD starts (k + 1) 0)))

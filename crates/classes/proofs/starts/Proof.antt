@@ -1,4 +1,4 @@
--- `joining::cell::starts` meets its contract: after k turns the first k entries are filled in, and sum is the next.
+-- `classes::starts` meets its contract: after k turns the first k entries are filled in, and sum is the next.
 -- Assumes nothing.
 use mathlib.Core.Path.{_≡_, sym}
 use Prim.Native.Nat.{_+_, _-_, _≤_}
@@ -10,8 +10,8 @@ use Rattle.finite.proofs.Fold.{fillTo-none, fillTo-more}
 use Rattle.finite.proofs.Sum.{sumTo-none, sumTo-more, sumTo-le}
 use Rattle.graph.specs.Tests.{degrees}
 use Rattle.layout.specs.Inner.Arrays.{countIn}
-use Rattle.joining.proofs.cell.starts.Statement.{statement}
-use Rattle.joining.proofs.cell.starts.Tie as tie
+use Rattle.classes.proofs.starts.Statement.{statement}
+use Rattle.classes.proofs.starts.Tie as tie
 
 abbrev Inv-loop : tie.InvT-loop
 Inv-loop counts t₀ sum₀ k₀ t sum k =

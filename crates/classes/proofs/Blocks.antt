@@ -20,7 +20,7 @@ use Rattle.layout.specs.Inner.Arrays.{countIn, countsOf}
 use Rattle.table.specs.Inner.Cells.{matrixOf}
 use Rattle.layout.proofs.Counted.{counted, counted-total}
 use Rattle.adjacency.specs.Adjacency.{edge}
-use Rattle.joining.specs.Inner.Block.{startsOf, Numbered, classFrom, blockSum, triangleSum, BlockOf}
+use Rattle.classes.specs.Inner.Block.{startsOf, Numbered, classFrom, blockSum, triangleSum, BlockOf}
 
 module _ (counts : List ℕ) where
   pub start-at : (k : ℕ) → k ≤ degrees → getD (startsOf counts) k 0 ≡ sumTo k (countIn counts)

@@ -1,13 +1,13 @@
--- `joining::cell::edges_among` meets its contract: before vertex v, sum counts the edges among those before it.
+-- `classes::edges_among` meets its contract: before vertex v, sum counts the edges among those before it.
 -- Assumes nothing.
 use mathlib.Core.Path.{_≡_}
 use Prim.Native.Nat.{_+_, _-_, _*_, _≤_}
 use native.Mathlib.Omega.{arith}
 use Rattle.finite.proofs.Sum.{sumTo-none, sumTo-more}
 use Rattle.adjacency.specs.Adjacency.{side, edge}
-use Rattle.joining.specs.Inner.Block.{triangleSum}
-use Rattle.joining.proofs.cell.edges_among.Statement.{statement}
-use Rattle.joining.proofs.cell.edges_among.Tie as tie
+use Rattle.classes.specs.Inner.Block.{triangleSum}
+use Rattle.classes.proofs.edges_among.Statement.{statement}
+use Rattle.classes.proofs.edges_among.Tie as tie
 
 abbrev Inv-loop : tie.InvT-loop
 Inv-loop adjacency from to sum₀ v₀ sum v = (from ≤ v) × (v ≤ to) × (sum ≡ triangleSum (edge adjacency) from v) × (sum ≤ side * v)
