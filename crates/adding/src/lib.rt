@@ -27,7 +27,6 @@ use classes::starts;
 use joining::End;
 use joining::once::join_once;
 use journal::cells_of;
-use layout::classes;
 use layout::counts;
 use layout::vertex_count;
 use state::phase_check;

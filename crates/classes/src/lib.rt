@@ -10,7 +10,6 @@ ghost use Rattle.layout.specs.Inner.Arrays.{countIn};
 ghost use Rattle.adjacency.specs.Adjacency.{adjacencySize, side, edge};
 ghost use Rattle.classes.specs.Inner.Block.{startsOf, classFrom, blockSum, triangleSum, BlockOf};
 use adjacency::SIDE;
-use adjacency::byte_sum;
 use slices::wide;
 use table::degree::DEGREES;
 

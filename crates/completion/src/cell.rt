@@ -85,12 +85,10 @@ fn fill_step(
         low: w,
     };
     let done = joining::join(adjacency, held, starts, n, row, column);
+    let next = least(done.freed, pair.w + 1);
     Step {
         cursor: Cursor {
-            at: Pair {
-                v: pair.v,
-                w: least(done.freed, pair.w + 1),
-            },
+            at: Pair { v: pair.v, w: next },
             low: Pair { v, w },
         },
         totals: Totals {
