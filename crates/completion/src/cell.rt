@@ -1,6 +1,6 @@
 // Filling one cell.
 ghost use mathlib.Core.Path.{_≡_};
-ghost use Prim.Native.Nat.{_+_, _≤_, _<_, min};
+ghost use Prim.Native.Nat.{_+_, _≤_, _<_};
 ghost use lib.Dec.{ltb};
 ghost use lib.ListN.{getD};
 ghost use Rattle.finite.specs.Range.{lowest, foldTo};
@@ -15,6 +15,7 @@ use crate::pair::open_pair;
 use classes::STARTS;
 use joining::End;
 use layout::MOST_VERTICES;
+use slices::least;
 
 // Edges added and switches made.
 pub struct Totals {
@@ -46,15 +47,6 @@ fn advance(held: &[usize; MOST_VERTICES], from: usize, to: usize, k: usize) -> u
         i += 1;
     }
     i
-}
-
-fn least(a: usize, b: usize) -> usize
-    ensures { λ r. ⌜ r ≡ min a b ⌝ }
-{
-    if a < b {
-        return a;
-    }
-    b
 }
 
 // The lowest open pair of the cell joined. A switch of v may free a column that was passed: the cursor falls to it.

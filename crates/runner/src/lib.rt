@@ -2,7 +2,7 @@
 ghost use mathlib.Core.Path.{_≡_};
 ghost use mathlib.Core.Bool.{true};
 ghost use mathlib.Core.List.{_++_};
-ghost use Prim.Native.Nat.{_+_, _-_, _*_, _/_, _≤_, min};
+ghost use Prim.Native.Nat.{_+_, _-_, _*_, _/_, _≤_};
 ghost use lib.Dec.{eqb};
 ghost use lib.ListN.{length};
 ghost use lib.Seq.{sets};
@@ -25,6 +25,7 @@ use journal::JOURNAL_SIZE;
 use journal::MOST_BLOCKS;
 use layout::MOST_VERTICES;
 use libc::STDOUT_FILENO;
+use slices::least;
 use table::degree::DEGREES;
 use table::record::BLOCK_MOST;
 use text::EDGE_MOST;
@@ -47,16 +48,6 @@ pub fn is_enough(n: usize) -> bool
     ensures { λ r. ⌜ r ≡ eqb n inputMost ⌝ }
 {
     n == INPUT_MOST
-}
-
-// The smaller of two numbers.
-fn least(a: usize, b: usize) -> usize
-    ensures { λ r. ⌜ r ≡ min a b ⌝ }
-{
-    if a < b {
-        return a;
-    }
-    b
 }
 
 // How many blocks len bytes are; the last may be shorter.

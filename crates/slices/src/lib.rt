@@ -1,6 +1,6 @@
-// Byte slices: a byte as a number, all zero, equal, one byte stored, copied into another.
+// Byte slices: a byte as a number, the smaller of two numbers, all zero, equal, one byte stored, copied into another.
 ghost use mathlib.Core.Path.{_≡_};
-ghost use Prim.Native.Nat.{_+_, _≤_, _<_};
+ghost use Prim.Native.Nat.{_+_, _≤_, _<_, min};
 ghost use lib.ListN.{length, replicate, set};
 ghost use lib.Seq.{sets};
 ghost use Rattle.slices.specs.Slices.{allZero, sameBytes};
@@ -10,6 +10,16 @@ pub fn wide(x: u8) -> usize
     ensures { λ r. ⌜ (r ≡ x) × (r < 256) ⌝ }
 {
     x as usize
+}
+
+// The smaller of two numbers.
+pub fn least(a: usize, b: usize) -> usize
+    ensures { λ r. ⌜ r ≡ min a b ⌝ }
+{
+    if a < b {
+        return a;
+    }
+    b
 }
 
 // Every byte is 0. A flag and no early exit, so that the loop is a vector loop.
