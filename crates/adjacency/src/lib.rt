@@ -99,7 +99,7 @@ fn wide16(x: u8) -> u16
 }
 
 // The sum of the bytes of a part of a row.
-pub fn byte_sum(s: &[u8]) -> usize
+fn byte_sum(s: &[u8]) -> usize
     requires { ⌜ length (now s) ≤ side ⌝ }
     ensures { λ r. ⌜ (r ≡ sumTo (length (now (s .entry))) (λ i. getD (now (s .entry)) i 0)) × (r ≤ 255 * length (now (s .entry))) ⌝ }
 {

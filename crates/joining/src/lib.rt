@@ -127,7 +127,7 @@ fn link(adjacency: &mut [u8], held: &mut [usize; MOST_VERTICES], v: usize, w: us
 }
 
 // 1 where a vertex was cut off, else 0.
-pub fn switch_count(n: usize, cut: usize) -> usize
+fn switch_count(n: usize, cut: usize) -> usize
     ensures { λ r. ⌜ (r ≡ cond (ltb cut n) 1 0) × (r ≤ 1) ⌝ }
 {
     if cut < n {

@@ -47,7 +47,7 @@ pub fn cell(cells: &[u32; CELLS], k: usize, l: usize) -> usize
     upper_cell(cells, l, k)
 }
 
-pub fn add_record(cells: &mut [u32; CELLS], block: &[u8], i: usize)
+fn add_record(cells: &mut [u32; CELLS], block: &[u8], i: usize)
     requires { ⌜ (recordSize * i + recordSize ≤ length (now block)) × (goodRecord (now block) i ≡ true) × AtMost (cellSumMost) (now cells) ⌝ }
     ensures { λ _. ⌜ now (cells .exit) ≡ addRecord (now (block .entry)) i (now (cells .entry)) ⌝ }
 {

@@ -44,7 +44,7 @@ fn good_pair(k: u8, l: u8) -> bool
     a.at_most(b)
 }
 
-pub fn good_record(block: &[u8], i: usize) -> bool
+fn good_record(block: &[u8], i: usize) -> bool
     requires { ⌜ recordSize * i + recordSize ≤ length (now block) ⌝ }
     ensures { λ r. ⌜ r ≡ goodRecord (now (block .entry)) i ⌝ }
 {
