@@ -22,7 +22,7 @@ pub data Call : Type 0 where
   readBack : ℕ → Call
   list : List ℕ → Call
   figures : Call
-  survey : List ℕ → List ℕ → Call
+  survey : List ℕ → ℕ → List ℕ → Call
 
 pub record State : Type 0 where
   pub journal : List ℕ
@@ -59,7 +59,7 @@ after s complete =
 after s (readBack number) = s
 after s (list out) = s
 after s figures = s
-after s (survey e out) = s
+after s (survey e total out) = s
 
 -- the state after a list of calls
 abbrev pub afterAll : State → List Call → State

@@ -61,8 +61,8 @@ pub record Demand1 : Type 0 where
       Numbered r (1 ∷ 2 ∷ 3 ∷ 18 ∷ []) × (listOutput (listAnswer j g (length out)) j g out ≡ out)
   pub list-written : (j g out : List ℕ) (n : ℕ) → listAnswer j g (length out) ≡ Write.Written n →
       SamePast n out (listOutput (listAnswer j g (length out)) j g out)
-  pub survey : (e out : List ℕ) (r : Refusal) → surveyAnswer e (length out) ≡ Write.Refused r →
-      Numbered r (19 ∷ 20 ∷ 18 ∷ []) × (surveyOutput (surveyAnswer e (length out)) e out ≡ out)
-  pub survey-written : (e out : List ℕ) (n : ℕ) → surveyAnswer e (length out) ≡ Write.Written n →
-      SamePast n out (surveyOutput (surveyAnswer e (length out)) e out)
+  pub survey : (e : List ℕ) (total : ℕ) (out : List ℕ) (r : Refusal) → surveyAnswer e total (length out) ≡ Write.Refused r →
+      Numbered r (19 ∷ 20 ∷ 18 ∷ []) × (surveyOutput (surveyAnswer e total (length out)) e total out ≡ out)
+  pub survey-written : (e : List ℕ) (total : ℕ) (out : List ℕ) (n : ℕ) → surveyAnswer e total (length out) ≡ Write.Written n →
+      SamePast n out (surveyOutput (surveyAnswer e total (length out)) e total out)
   pub figures : (j g : List ℕ) (r : Refusal) → figuresAnswer j g ≡ Figs.Refused r → Numbered r (1 ∷ 2 ∷ [])

@@ -1,5 +1,6 @@
 -- Demand 2: "A finished bench, touched by these entries alone since its last clear, holds a simple graph whose table, counted by equation (1)
--- of the 2K construction paper, equals in every cell the sum of the blocks answered as taken or held since then, each block number once".
+-- of the 2K construction paper, equals in every cell the sum of the blocks answered as taken or held since then, each block number once"; and
+-- (document 02, P1) exactly as many of its vertices have no edge as those blocks add up to.
 -- Assumes nothing.
 use mathlib.Core.Path.{_≡_}
 use mathlib.Core.Bool.{Bool, true, false, _&&_, _||_, not, cond}
@@ -11,7 +12,8 @@ use Rattle.answer.specs.declared.AddAnswer.the-variants as Add
 use Rattle.answer.specs.declared.RemoveAnswer.{RemoveAnswer}
 use Rattle.answer.specs.declared.RemoveAnswer.the-variants as Remove
 use Rattle.answer.specs.declared.CompleteAnswer.the-variants.{Completed}
-use Rattle.table.specs.Block.{blockCell}
+use Rattle.graph.specs.Graph.{DegreeTable}
+use Rattle.table.specs.Block.{blockCell, blockIsolated}
 use Rattle.journal.specs.Journal.{phase}
 use Rattle.taking.specs.Take.{takeAnswer}
 use Rattle.adding.specs.Add.{addAnswer}
@@ -25,26 +27,27 @@ abbrev pub member : ℕ → List ℕ → Bool
 member n [] = false
 member n (m ∷ ms) = eqb n m || member n ms
 
--- The sum, in cell (k, l), of the blocks answered as taken or held by these calls, each block number once; `seen` are the numbers
--- that came already.
-abbrev pub answered : List ℕ → State → List Call → ℕ → ℕ → ℕ
-answered seen s [] k l = 0
-answered seen s (take number b ∷ cs) k l =
-    let rest = answered seen (after s (take number b)) cs k l in
-    let more = answered (number ∷ seen) (after s (take number b)) cs k l in
-    cond (accepted (takeAnswer (s .journal) (s .adjacency) number b) && not (member number seen)) (blockCell b k l + more) rest
-answered seen s (layOut ∷ cs) k l = answered seen (after s layOut) cs k l
-answered seen s (add v w ∷ cs) k l = answered seen (after s (add v w)) cs k l
-answered seen s (remove v w ∷ cs) k l = answered seen (after s (remove v w)) cs k l
-answered seen s (complete ∷ cs) k l = answered seen (after s complete) cs k l
-answered seen s (readBack number ∷ cs) k l = answered seen s cs k l
-answered seen s (list out ∷ cs) k l = answered seen s cs k l
-answered seen s (figures ∷ cs) k l = answered seen s cs k l
-answered seen s (survey e out ∷ cs) k l = answered seen s cs k l
+-- What the blocks answered as taken or held by these calls add up to, each block number once: `adds b` is what block b adds, `seen` are the
+-- numbers that came already.
+abbrev pub answered : (List ℕ → ℕ) → List ℕ → State → List Call → ℕ
+answered adds seen s [] = 0
+answered adds seen s (take number b ∷ cs) =
+    let rest = answered adds seen (after s (take number b)) cs in
+    let more = answered adds (number ∷ seen) (after s (take number b)) cs in
+    cond (accepted (takeAnswer (s .journal) (s .adjacency) number b) && not (member number seen)) (adds b + more) rest
+answered adds seen s (layOut ∷ cs) = answered adds seen (after s layOut) cs
+answered adds seen s (add v w ∷ cs) = answered adds seen (after s (add v w)) cs
+answered adds seen s (remove v w ∷ cs) = answered adds seen (after s (remove v w)) cs
+answered adds seen s (complete ∷ cs) = answered adds seen (after s complete) cs
+answered adds seen s (readBack number ∷ cs) = answered adds seen s cs
+answered adds seen s (list out ∷ cs) = answered adds seen s cs
+answered adds seen s (figures ∷ cs) = answered adds seen s cs
+answered adds seen s (survey e total out ∷ cs) = answered adds seen s cs
 
--- the sum since the clear
-abbrev pub answeredSum : List Call → ℕ → ℕ → ℕ
-answeredSum calls = answered [] cleared calls
+-- the sum since the clear: in each cell, and of the isolated vertices
+abbrev pub answeredSum : List Call → DegreeTable
+answeredSum calls =
+    record { cells = λ k l. answered (λ b. blockCell b k l) [] cleared calls; isolated = answered blockIsolated [] cleared calls }
 
 abbrev pub addRefused : AddAnswer → Bool
 addRefused (Add.Added switches) = false
@@ -65,7 +68,7 @@ quiet s (complete ∷ cs) = quiet (after s complete) cs
 quiet s (readBack number ∷ cs) = quiet s cs
 quiet s (list out ∷ cs) = quiet s cs
 quiet s (figures ∷ cs) = quiet s cs
-quiet s (survey e out ∷ cs) = quiet s cs
+quiet s (survey e total out ∷ cs) = quiet s cs
 
 pub record Demand2 : Type 0 where
   -- completed: calls since the clear, a completing that was not refused, and calls after it that added and removed nothing
@@ -77,7 +80,7 @@ pub record Demand2 : Type 0 where
   -- finished in any way, "touched by these entries alone since its last clear": laid, and no cell is short
   pub finished : (calls : List Call) →
       let s = afterAll cleared calls in
-      let T = answeredSum calls in
-      phase (s .journal) ≡ 1 → ((k l : ℕ) → Short T s k l → ⊥) → HasTable T s
+      let t = answeredSum calls in
+      phase (s .journal) ≡ 1 → ((k l : ℕ) → Short t s k l → ⊥) → HasTable t s
   -- "each block number once": the blocks answered as taken or held under one number are one block
   pub once : (calls : List Call) (number : ℕ) (b b′ : List ℕ) → AcceptedIn calls number b → AcceptedIn calls number b′ → b ≡ b′

@@ -6,7 +6,7 @@ use mathlib.Core.List.{List}
 use mathlib.Core.Logic.{_↔_, _≢_}
 use Prim.Native.Nat.{ℕ, _+_, _*_, _≤_, _<_}
 use Rattle.finite.specs.Range.{sumTo}
-use Rattle.graph.specs.Graph.{edges}
+use Rattle.graph.specs.Graph.{edges, DegreeTable}
 use Rattle.graph.specs.Tests.{degrees, rowSum, vertices, vertexDegree}
 use Rattle.graph.specs.Theorems.{Realized}
 use Rattle.answer.specs.Numbers.{layOutNumbers}
@@ -27,39 +27,39 @@ RefusedForWantOfAGraph s =
     (9 ≤ layOutNumbers (layOutAnswer (s .journal) (s .adjacency)) .number)
     × (layOutNumbers (layOutAnswer (s .journal) (s .adjacency)) .number ≤ 11)
 
--- the edges of the matrix on the vertices of the table T
-abbrev pub edgesLaid : (ℕ → ℕ → ℕ) → State → ℕ
-edgesLaid T s = edges (vertices T) (edge (s .adjacency))
+-- the edges of the matrix on the vertices of the table t
+abbrev pub edgesLaid : DegreeTable → State → ℕ
+edgesLaid t s = edges (vertices t) (edge (s .adjacency))
 
 -- two different vertices below N, not linked, whose cell is short
-pub record OpenPair (T : ℕ → ℕ → ℕ) (s : State) (v w : ℕ) : Type 0 where
-  pub first : v < vertices T
-  pub second : w < vertices T
+pub record OpenPair (t : DegreeTable) (s : State) (v w : ℕ) : Type 0 where
+  pub first : v < vertices t
+  pub second : w < vertices t
   pub different : v ≢ w
   pub unlinked : edge (s .adjacency) v w ≢ 1
-  pub short : Short T s (vertexDegree T v) (vertexDegree T w)
+  pub short : Short t s (vertexDegree t v) (vertexDegree t w)
 
 -- joining v and w is not refused; afterwards the state is valid, the pair is linked, and there is exactly one edge more
-pub record CanBeJoined (T : ℕ → ℕ → ℕ) (s : State) (v w : ℕ) : Type 0 where
+pub record CanBeJoined (t : DegreeTable) (s : State) (v w : ℕ) : Type 0 where
   pub switches : ℕ
   pub answer : addAnswer (s .journal) (s .adjacency) v w ≡ Added switches
   pub sound : valid (after s (add v w) .journal) (after s (add v w) .adjacency) ≡ true
   pub linked : edge (after s (add v w) .adjacency) v w ≡ 1
-  pub one-more : edgesLaid T (after s (add v w)) ≡ edgesLaid T s + 1
+  pub one-more : edgesLaid t (after s (add v w)) ≡ edgesLaid t s + 1
 
 -- Completing is not refused; its joins and the tally's edges together are half the sum of all cells of T; the matrix then holds
--- exactly that many edges more and, as a simple graph, has T.
+-- exactly that many edges more and, as a simple graph, has T in every cell and as many vertices without an edge as the tally's isolated ones.
 pub record Completes (t : Tally) (s : State) : Type 0 where
   pub joins : ℕ
   pub switches : ℕ
   pub answer : completeAnswer (s .journal) (s .adjacency) ≡ Completed joins switches
-  pub missing : 2 * (t .edges + joins) ≡ sumTo degrees (rowSum (t .table))
+  pub missing : 2 * (t .edges + joins) ≡ sumTo degrees (rowSum (t .table .cells))
   pub more : edgesLaid (t .table) (after s complete) ≡ edgesLaid (t .table) s + joins
   pub has-table : HasTable (t .table) (after s complete)
 
--- not laid: refused with 9, 10 or 11 if and only if no simple graph of any size has T
+-- not laid: refused with 9, 10 or 11 if and only if no simple graph of any size has T (isolated vertices hinder no graph)
 pub record NotLaid (t : Tally) (s : State) : Type 0 where
-  pub honest : RefusedForWantOfAGraph s ↔ (Realized (t .table) → ⊥)
+  pub honest : RefusedForWantOfAGraph s ↔ (Realized (t .table .cells) → ⊥)
 
 -- laid: no dead end
 pub record Laid (t : Tally) (s : State) : Type 0 where

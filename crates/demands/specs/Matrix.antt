@@ -1,17 +1,19 @@
--- The state's matrix beside a table T: which cells are short, and that it has T.
+-- The state's matrix beside a degree table t: which cells are short, and that it has t.
 -- Assumes nothing.
 use mathlib.Core.Path.{_≡_}
 use Prim.Native.Nat.{ℕ, _<_}
-use Rattle.graph.specs.Graph.{Simple, jdm, ownJdm}
+use Rattle.graph.specs.Graph.{Simple, jdm, ownJdm, isolated, DegreeTable}
 use Rattle.graph.specs.Tests.{vertices, vertexDegree}
 use Rattle.adjacency.specs.Adjacency.{edge}
 use Rattle.demands.specs.Calls.{State}
 
--- The edges counted as equation (1) does, but at the degrees laid out, stay below T in the cell (k, l).
-abbrev pub Short : (ℕ → ℕ → ℕ) → State → ℕ → ℕ → Type 0
-Short T s k l = jdm (vertices T) (vertexDegree T) (edge (s .adjacency)) k l < T k l
+-- The edges counted as equation (1) does, but at the degrees laid out, stay below t in the cell (k, l).
+abbrev pub Short : DegreeTable → State → ℕ → ℕ → Type 0
+Short t s k l = jdm (vertices t) (vertexDegree t) (edge (s .adjacency)) k l < t .cells k l
 
--- "a simple graph whose table, counted by equation (1) .., equals in every cell" T: on N vertices, at the graph's own degrees
-pub record HasTable (T : ℕ → ℕ → ℕ) (s : State) : Type 0 where
-  pub simple : Simple (vertices T) (edge (s .adjacency))
-  pub exact : (k l : ℕ) → ownJdm (vertices T) (edge (s .adjacency)) k l ≡ T k l
+-- "a simple graph whose table, counted by equation (1) .., equals in every cell" that of t: on N vertices, at the graph's own degrees; and of
+-- these N exactly as many as t says have no edge
+pub record HasTable (t : DegreeTable) (s : State) : Type 0 where
+  pub simple : Simple (vertices t) (edge (s .adjacency))
+  pub exact : (k l : ℕ) → ownJdm (vertices t) (edge (s .adjacency)) k l ≡ t .cells k l
+  pub exact-isolated : isolated (vertices t) (edge (s .adjacency)) ≡ t .isolated

@@ -11,8 +11,9 @@ use Rattle.answer.specs.declared.RemoveAnswer.{RemoveAnswer}
 use Rattle.answer.specs.declared.RemoveAnswer.the-variants as Remove
 use Rattle.answer.specs.declared.CompleteAnswer.{CompleteAnswer}
 use Rattle.answer.specs.declared.CompleteAnswer.the-variants as Complete
+use Rattle.graph.specs.Graph.{DegreeTable}
 use Rattle.graph.specs.Tests.{passes, vertices}
-use Rattle.table.specs.Block.{wellFormed, blockCell}
+use Rattle.table.specs.Block.{wellFormed, blockCell, blockIsolated}
 use Rattle.layout.specs.Layout.{mostVertices}
 use Rattle.journal.specs.Journal.{mostBlocks}
 use Rattle.adding.specs.Add.{addAnswer}
@@ -38,31 +39,35 @@ told s complete = toldComplete (completeAnswer (s .journal) (s .adjacency))
 told s (readBack number) = toldNothing
 told s (list out) = toldNothing
 told s figures = toldNothing
-told s (survey e out) = toldNothing
+told s (survey e total out) = toldNothing
 
--- a block count, a table T, laid or not, and an edge count
+-- a block count, a table (T and, beside it, the isolated vertices), laid or not, and an edge count
 pub record Tally : Type 0 where
   pub blocks : ℕ
-  pub table : ℕ → ℕ → ℕ
+  pub table : DegreeTable
   pub laid : Bool
   pub edges : ℕ
 
 -- at first 0, all 0, not laid, 0
 abbrev pub noTally : Tally
-noTally = record { blocks = 0; table = λ k l. 0; laid = false; edges = 0 }
+noTally = record { blocks = 0; table = record { cells = λ k l. 0; isolated = 0 }; laid = false; edges = 0 }
 
 -- A block that 4 and 5 let pass, numbered as the block count, while not laid and with that count below the most.
 abbrev pub counts : Tally → ℕ → List ℕ → Bool
 counts t number b = wellFormed b && eqb number (t .blocks) && not (t .laid) && ltb (t .blocks) mostBlocks
 
--- one block more, its records are added to T
+-- what block b adds to a table: to T, and to the isolated vertices
+abbrev pub plus : DegreeTable → List ℕ → DegreeTable
+plus t b = record { cells = λ k l. t .cells k l + blockCell b k l; isolated = t .isolated + blockIsolated b }
+
+-- one block more, its records are added to the table
 abbrev pub withBlock : Tally → List ℕ → Tally
 withBlock t b =
-    record { blocks = t .blocks + 1; table = λ k l. t .table k l + blockCell b k l; laid = t .laid; edges = t .edges }
+    record { blocks = t .blocks + 1; table = plus (t .table) b; laid = t .laid; edges = t .edges }
 
 -- laying out, while not laid, with T passing the tests 9 to 12
 abbrev pub laysOut : Tally → Bool
-laysOut t = not (t .laid) && passes (t .table) && leb (vertices (t .table)) mostVertices
+laysOut t = not (t .laid) && passes (t .table .cells) && leb (vertices (t .table)) mostVertices
 
 abbrev pub nowLaid : Tally → Tally
 nowLaid t = record { blocks = t .blocks; table = t .table; laid = true; edges = t .edges }

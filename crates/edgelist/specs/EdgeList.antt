@@ -1,4 +1,5 @@
--- A list of edges as bytes (document 01: the link list): 2 bytes an edge, v then w, v < w, ascending by v then w.
+-- A list of edges as bytes (document 01: the link list): 2 bytes an edge, v then w, v < w, ascending by v then w; and the total of the vertices
+-- that it may name (document 02, P1: the board total).
 -- Assumes nothing.
 use mathlib.Core.Bool.{Bool, _&&_, _||_, not}
 use mathlib.Core.List.{List}
@@ -7,7 +8,6 @@ use lib.Dec.{eqb, ltb}
 use lib.ListN.{length, getD}
 use Rattle.finite.specs.Range.{sumTo, lowest}
 use Rattle.graph.specs.Graph.{Graph, atEdge}
-use Rattle.layout.specs.Layout.{mostVertices}
 
 -- how many whole edges the bytes hold, and the two ends of edge i
 abbrev pub listed : List ℕ → ℕ
@@ -24,13 +24,13 @@ abbrev pub rises : List ℕ → ℕ → Bool
 rises e i =
     eqb i 0 || ltb (endV e (i - 1)) (endV e i) || (eqb (endV e (i - 1)) (endV e i) && ltb (endW e (i - 1)) (endW e i))
 
--- v < w, w < 200, and above the edge before it
-abbrev pub goodEdge : List ℕ → ℕ → Bool
-goodEdge e i = ltb (endV e i) (endW e i) && ltb (endW e i) mostVertices && rises e i
+-- v < w, w below the total, and above the edge before it
+abbrev pub goodEdge : List ℕ → ℕ → ℕ → Bool
+goodEdge e total i = ltb (endV e i) (endW e i) && ltb (endW e i) total && rises e i
 
 -- the first edge that is not good; the number of edges where all are
-abbrev pub firstBadEdge : List ℕ → ℕ
-firstBadEdge e = lowest 0 (listed e) (λ i. not (goodEdge e i))
+abbrev pub firstBadEdge : List ℕ → ℕ → ℕ
+firstBadEdge e total = lowest 0 (listed e) (λ i. not (goodEdge e total i))
 
 -- the graph that has these edges and no others
 abbrev pub graphOf : List ℕ → Graph

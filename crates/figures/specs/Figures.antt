@@ -11,7 +11,7 @@ use Rattle.answer.specs.declared.FiguresAnswer.the-variants.{Reported, Refused}
 use Rattle.graph.specs.Graph.{edges}
 use Rattle.graph.specs.Tests.{vertices}
 use Rattle.layout.specs.Layout.{wanted}
-use Rattle.journal.specs.Journal.{phase, blocks, jdmOf}
+use Rattle.journal.specs.Journal.{phase, blocks, jdmOf, tableOf}
 use Rattle.adjacency.specs.Adjacency.{edge}
 use Rattle.state.specs.Checks.{stateVerdict}
 
@@ -22,9 +22,9 @@ figuresOf false j g =
     record {
       phase = 1;
       blocks = blocks j;
-      vertices = vertices (jdmOf j);
+      vertices = vertices (tableOf j);
       wanted = wanted (jdmOf j);
-      laid = edges (vertices (jdmOf j)) (edge g);
+      laid = edges (vertices (tableOf j)) (edge g);
     }
 
 -- the checks 1, 2

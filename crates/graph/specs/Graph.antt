@@ -36,6 +36,19 @@ jdm n cls E k l = sumTo n (λ v. δ (cls v) k * sumTo n (λ w. δ (cls w) l * E 
 abbrev pub ownJdm : ℕ → Graph → ℕ → ℕ → ℕ
 ownJdm n E = jdm n (degree n E) E
 
+-- how many vertices have no edge (document 02, P1: the idle boards)
+abbrev pub isolated : ℕ → Graph → ℕ
+isolated n E = size n (degree n E) 0
+
+-- A degree table: a joint degree matrix, and beside it the number of isolated vertices, of which no cell can tell.
+pub record DegreeTable : Type 0 where
+  pub cells : ℕ → ℕ → ℕ
+  pub isolated : ℕ
+
+-- that of a graph
+abbrev pub ownTable : ℕ → Graph → DegreeTable
+ownTable n E = record { cells = ownJdm n E; isolated = isolated n E }
+
 -- where the edge x – y stands: 1 at (x, y) and at (y, x)
 abbrev pub atEdge : ℕ → ℕ → Graph
 atEdge x y v w = δ v x * δ w y + δ v y * δ w x

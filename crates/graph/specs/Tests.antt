@@ -1,11 +1,12 @@
--- Document 01's S(k), D(k) and N, the numbering of the vertices, and its tests 9, 10 and 11, on a joint degree matrix over the degrees 1 to 40
--- ("Laying out").
+-- Document 01's S(k), D(k) and its tests 9, 10 and 11, on a joint degree matrix over the degrees 1 to 40 ("Laying out"); N and the numbering of the
+-- vertices, on a degree table.
 -- Assumes nothing.
 use mathlib.Core.Path.{_≡_}
 use mathlib.Core.Bool.{Bool, _&&_, not, cond}
 use Prim.Native.Nat.{ℕ, _+_, _/_, _%_, _<_}
 use lib.Dec.{eqb, ltb}
 use Rattle.finite.specs.Range.{sumTo, lowest}
+use Rattle.graph.specs.Graph.{DegreeTable}
 use Rattle.graph.specs.Target.{cellMost}
 use Rattle.graph.specs.Numbering.{classOf}
 
@@ -23,17 +24,21 @@ degrees = mostDegree + 1
 abbrev pub rowSum : (ℕ → ℕ → ℕ) → ℕ → ℕ
 rowSum T k = sumTo degrees (T k)
 
--- D(k) = S(k) / k; the table has no vertices of a degree below the least
+-- D(k) = S(k) / k, for a degree k of the table
 abbrev pub count : (ℕ → ℕ → ℕ) → ℕ → ℕ
-count T k = cond (ltb k leastDegree) 0 (rowSum T k / k)
+count T k = rowSum T k / k
 
--- N, the sum of all D(k), from the least degree on
-abbrev pub vertices : (ℕ → ℕ → ℕ) → ℕ
-vertices T = sumTo mostDegree (λ i. count T (leastDegree + i))
+-- how many vertices have degree k: D(k), and of degree 0 the isolated ones
+abbrev pub classCount : DegreeTable → ℕ → ℕ
+classCount t k = cond (ltb k leastDegree) (t .isolated) (count (t .cells) k)
 
--- the degree of vertex v: vertices are numbered by rising degree
-abbrev pub vertexDegree : (ℕ → ℕ → ℕ) → ℕ → ℕ
-vertexDegree T = classOf degrees (count T)
+-- N: the isolated vertices, and the sum of all D(k)
+abbrev pub vertices : DegreeTable → ℕ
+vertices t = t .isolated + sumTo mostDegree (λ i. count (t .cells) (leastDegree + i))
+
+-- the degree of vertex v: vertices are numbered by rising degree, so the isolated ones first
+abbrev pub vertexDegree : DegreeTable → ℕ → ℕ
+vertexDegree t = classOf degrees (classCount t)
 
 -- cell (k, k) is odd
 abbrev pub odd : (ℕ → ℕ → ℕ) → ℕ → Bool

@@ -7,8 +7,9 @@ use lib.Dec.{eqb, ltb, leb}
 use lib.ListN.{length, getD, set, take, drop}
 use lib.Seq.{sets}
 use Rattle.finite.specs.Range.{sumTo, allTo}
+use Rattle.graph.specs.Graph.{DegreeTable}
 use Rattle.slices.specs.Slices.{allZero, sameBytes}
-use Rattle.table.specs.Block.{blockMost, blockLength, records, firstBad, blockCell}
+use Rattle.table.specs.Block.{blockMost, blockLength, records, firstBad, blockCell, blockIsolated}
 
 -- most blocks; bytes of a slot, 65: its length byte and a block; bytes of the journal, 4,162: phase, number of blocks, and the slots
 abbrev pub mostBlocks : ℕ
@@ -59,6 +60,14 @@ journalOk j = leb (phase j) 1 && leb (blocks j) mostBlocks && allTo mostBlocks (
 -- the joint degree matrix that the blocks add up to (document 01: the summed table)
 abbrev pub jdmOf : List ℕ → ℕ → ℕ → ℕ
 jdmOf j k l = sumTo (blocks j) (λ i. blockCell (blockAt j i) k l)
+
+-- the isolated vertices that they add up to
+abbrev pub isolatedOf : List ℕ → ℕ
+isolatedOf j = sumTo (blocks j) (λ i. blockIsolated (blockAt j i))
+
+-- what the journal says: the matrix, and the isolated vertices beside it
+abbrev pub tableOf : List ℕ → DegreeTable
+tableOf j = record { cells = jdmOf j; isolated = isolatedOf j }
 
 -- block i of the journal is b
 abbrev pub sameBlock : List ℕ → ℕ → List ℕ → Bool

@@ -8,7 +8,7 @@ use Rattle.answer.specs.declared.LayOutAnswer.{LayOutAnswer}
 use Rattle.answer.specs.declared.LayOutAnswer.the-variants.{LaidOut, Refused}
 use Rattle.graph.specs.Tests.{vertices}
 use Rattle.layout.specs.Layout.{layoutVerdict}
-use Rattle.journal.specs.Journal.{jdmOf, laid}
+use Rattle.journal.specs.Journal.{tableOf, laid}
 use Rattle.state.specs.Checks.{phaseVerdict}
 
 -- after the tests 9 to 12: N, or the refusal they gave
@@ -17,7 +17,7 @@ laidOut v n = unlessStopped v Refused (LaidOut n)
 
 -- the checks 1, 2, 3, then 9, 10, 11, 12
 abbrev pub layOutAnswer : List ℕ → List ℕ → LayOutAnswer
-layOutAnswer j g = unlessStopped (phaseVerdict 0 j g) Refused (laidOut (layoutVerdict (jdmOf j)) (vertices (jdmOf j)))
+layOutAnswer j g = unlessStopped (phaseVerdict 0 j g) Refused (laidOut (layoutVerdict (tableOf j)) (vertices (tableOf j)))
 
 -- the journal afterwards
 abbrev pub layOutJournal : LayOutAnswer → List ℕ → List ℕ

@@ -3,6 +3,7 @@
 use Prim.Native.Nat.{ℕ, _/_}
 use lib.Dec.{eqb, leb}
 use Rattle.finite.specs.Range.{sumTo}
+use Rattle.graph.specs.Graph.{DegreeTable}
 use Rattle.graph.specs.Tests.{degrees, rowSum, vertices, firstOdd, firstUneven, firstOverfull, firstOverfullIn}
 use Rattle.answer.specs.Refusals.{refusal, stop, unless}
 use Rattle.answer.specs.declared.Cause.the-variants.{OddDiagonal, UnevenRow, OverfullCell, TooManyVertices}
@@ -17,10 +18,11 @@ mostVertices = 200
 abbrev pub wanted : (ℕ → ℕ → ℕ) → ℕ
 wanted T = sumTo degrees (rowSum T) / 2
 
--- The tests 9 to 12, each over all cells before the next begins, with the places of the first failure.
-abbrev pub layoutVerdict : (ℕ → ℕ → ℕ) → Verdict
-layoutVerdict T =
+-- The tests 9 to 12, each over all cells before the next begins, with the places of the first failure. Only 12 sees the isolated vertices.
+abbrev pub layoutVerdict : DegreeTable → Verdict
+layoutVerdict t =
+    let T = t .cells in
     unless (eqb (firstOdd T) degrees) (Stop (refusal OddDiagonal (firstOdd T) (firstOdd T)))
     (unless (eqb (firstUneven T) degrees) (Stop (refusal UnevenRow (firstUneven T) 0))
     (unless (eqb (firstOverfull T) degrees) (Stop (refusal OverfullCell (firstOverfull T) (firstOverfullIn T (firstOverfull T))))
-    (unless (leb (vertices T) mostVertices) (stop TooManyVertices) Go)))
+    (unless (leb (vertices t) mostVertices) (stop TooManyVertices) Go)))

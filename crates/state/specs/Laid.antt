@@ -1,4 +1,4 @@
--- A laid state's graph: what follows from the summed table alone, and its cells so far.
+-- A laid state's graph: what follows from what the journal says alone, and its cells so far.
 -- Assumes nothing.
 use mathlib.Core.Bool.{Bool}
 use mathlib.Core.List.{List}
@@ -6,15 +6,15 @@ use Prim.Native.Nat.{ℕ}
 use lib.Dec.{ltb}
 use Rattle.graph.specs.Graph.{jdm}
 use Rattle.graph.specs.Tests.{vertices, vertexDegree}
-use Rattle.journal.specs.Journal.{jdmOf}
+use Rattle.journal.specs.Journal.{jdmOf, tableOf}
 use Rattle.adjacency.specs.Adjacency.{edge}
 
 -- N, and the degree of vertex v
 abbrev pub vertexCount : List ℕ → ℕ
-vertexCount j = vertices (jdmOf j)
+vertexCount j = vertices (tableOf j)
 
 abbrev pub degreeAt : List ℕ → ℕ → ℕ
-degreeAt j = vertexDegree (jdmOf j)
+degreeAt j = vertexDegree (tableOf j)
 
 -- cell (k, l) of the edges so far: equation (1) at the degrees laid out
 abbrev pub cellAt : List ℕ → List ℕ → ℕ → ℕ → ℕ

@@ -1,4 +1,4 @@
--- What is proved of a survey (demand 2, its second half): it writes exactly the joint degree matrix of the list.
+-- What is proved of a survey (demand 2, its second half): it writes exactly the degree table of the list and its total.
 -- The proof, `survey-exact`, stands in proofs/Survey.antt.
 -- Assumes nothing.
 use mathlib.Core.Path.{_≡_}
@@ -7,10 +7,10 @@ use mathlib.Core.List.{List}
 use mathlib.Core.Logic.{_⊎_}
 use Prim.Native.Nat.{ℕ, _*_, _%_, _≤_, _<_}
 use lib.ListN.{length, getD, take, drop}
-use Rattle.graph.specs.Graph.{Simple, edges, ownJdm}
+use Rattle.graph.specs.Graph.{Simple, edges, ownJdm, isolated}
 use Rattle.graph.specs.Tests.{Table}
 use Rattle.answer.specs.declared.WrittenAnswer.the-variants.{Written}
-use Rattle.table.specs.Block.{recordSize, records, recordK, recordL, recordCount, goodRecord, blockCell}
+use Rattle.table.specs.Block.{recordSize, records, recordK, recordL, recordCount, goodRecord, blockCell, blockIsolated}
 use Rattle.layout.specs.Layout.{mostVertices}
 use Rattle.edgelist.specs.EdgeList.{listed, firstBadEdge, graphOf}
 use Rattle.survey.specs.Survey.{surveyRecords, surveyAnswer, surveyOutput}
@@ -24,23 +24,26 @@ pub record Ascending (b : List ℕ) : Type 0 where
   pub rising : (i j : ℕ) → i < j → j < records b
       → (recordK b i < recordK b j) ⊎ ((recordK b i ≡ recordK b j) × (recordL b i < recordL b j))
 
--- the list e, and the output after n bytes were written to it
-pub record Surveyed (e out : List ℕ) (n : ℕ) (after : List ℕ) : Type 0 where
-  -- the list is whole, well-formed edges, and no edge comes twice
+-- the list e on a total of vertices, and the output after n bytes were written to it
+pub record Surveyed (e : List ℕ) (total : ℕ) (out : List ℕ) (n : ℕ) (after : List ℕ) : Type 0 where
+  -- the list is whole, well-formed edges among at most 200 vertices, and no edge comes twice
+  pub few : total ≤ mostVertices
   pub even : length e % 2 ≡ 0
-  pub well-formed : firstBadEdge e ≡ listed e
-  pub simple : Simple mostVertices (graphOf e)
-  pub edge-count : edges mostVertices (graphOf e) ≡ listed e
+  pub well-formed : firstBadEdge e total ≡ listed e
+  pub simple : Simple total (graphOf e)
+  pub edge-count : edges total (graphOf e) ≡ listed e
   -- its matrix, equation (1) at its own degrees, is symmetric and 0 at degree 0 and above 40
-  pub table : Table (ownJdm mostVertices (graphOf e))
-  -- the n bytes are the records of the matrix, and the bytes behind them are as they were
+  pub table : Table (ownJdm total (graphOf e))
+  -- the n bytes are the records of the table, and the bytes behind them are as they were
   pub fits : n ≤ length out
-  pub written : take n after ≡ surveyRecords e
+  pub written : take n after ≡ surveyRecords e total
   pub behind : drop n after ≡ drop n out
-  -- the records read back are the matrix in every cell
+  -- the records read back are the matrix in every cell, and the vertices that are in no edge
   pub ascending : Ascending (take n after)
-  pub exact : (k l : ℕ) → blockCell (take n after) k l ≡ ownJdm mostVertices (graphOf e) k l
+  pub exact : (k l : ℕ) → blockCell (take n after) k l ≡ ownJdm total (graphOf e) k l
+  pub exact-isolated : blockIsolated (take n after) ≡ isolated total (graphOf e)
 
 abbrev pub SurveyExact : Type 0
 SurveyExact =
-    (e out : List ℕ) (n : ℕ) → surveyAnswer e (length out) ≡ Written n → Surveyed e out n (surveyOutput (surveyAnswer e (length out)) e out)
+    (e : List ℕ) (total : ℕ) (out : List ℕ) (n : ℕ) → surveyAnswer e total (length out) ≡ Written n →
+    Surveyed e total out n (surveyOutput (surveyAnswer e total (length out)) e total out)

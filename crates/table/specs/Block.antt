@@ -1,4 +1,5 @@
--- Blocks and records (document 01, "Blocks and records"), and what a block adds to the joint degree matrix.
+-- Blocks and records (document 01, "Blocks and records"), and what a block adds to a degree table: to the cells of its matrix, and to the isolated
+-- vertices beside them (document 02, P1).
 -- Assumes nothing.
 use mathlib.Core.Bool.{Bool, _&&_, _||_, not, cond}
 use mathlib.Core.List.{List}
@@ -45,9 +46,15 @@ recordL b i = getD b (recordSize * i + 1) 0
 abbrev pub recordCount : List ℕ → ℕ → ℕ
 recordCount b i = getD b (recordSize * i + 2) 0 + 256 * getD b (recordSize * i + 3) 0
 
--- both are degrees, and k ≤ l
+-- the two forms of a record: 0, 0 and a number of isolated vertices (document 02: idle boards); or a cell, where both are degrees and k ≤ l
+abbrev pub ofIsolated : List ℕ → ℕ → Bool
+ofIsolated b i = eqb (recordK b i) 0 && eqb (recordL b i) 0
+
+abbrev pub ofCell : List ℕ → ℕ → Bool
+ofCell b i = isDegree (recordK b i) && isDegree (recordL b i) && leb (recordK b i) (recordL b i)
+
 abbrev pub goodRecord : List ℕ → ℕ → Bool
-goodRecord b i = isDegree (recordK b i) && isDegree (recordL b i) && leb (recordK b i) (recordL b i)
+goodRecord b i = ofCell b i || ofIsolated b i
 
 -- the first record that is not good; the number of records where all are
 abbrev pub firstBad : List ℕ → ℕ
@@ -61,10 +68,18 @@ wellFormed b = blockLength (length b) && eqb (firstBad b) (records b)
 abbrev pub samePair : ℕ → ℕ → ℕ → ℕ → Bool
 samePair k l a b = (eqb k a && eqb l b) || (eqb k b && eqb l a)
 
--- What record i adds to cell (k, l): its count where (k, l) is its pair in either order, so to the diagonal once.
+-- What record i adds to cell (k, l): its count where (k, l) is its pair in either order, so to the diagonal once. Isolated vertices are no cell.
 abbrev pub recordCell : List ℕ → ℕ → ℕ → ℕ → ℕ
-recordCell b i k l = cond (samePair k l (recordK b i) (recordL b i)) (recordCount b i) 0
+recordCell b i k l = cond (not (ofIsolated b i) && samePair k l (recordK b i) (recordL b i)) (recordCount b i) 0
+
+-- how many isolated vertices record i adds
+abbrev pub recordIsolated : List ℕ → ℕ → ℕ
+recordIsolated b i = cond (ofIsolated b i) (recordCount b i) 0
 
 -- what the block adds to cell (k, l)
 abbrev pub blockCell : List ℕ → ℕ → ℕ → ℕ
 blockCell b k l = sumTo (records b) (λ i. recordCell b i k l)
+
+-- how many isolated vertices the block adds
+abbrev pub blockIsolated : List ℕ → ℕ
+blockIsolated b = sumTo (records b) (recordIsolated b)

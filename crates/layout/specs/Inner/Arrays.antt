@@ -10,20 +10,30 @@ use lib.ListN.{getD, replicate}
 use Rattle.finite.specs.Range.{sumTo, allTo}
 use Rattle.graph.specs.Target.{cellMost}
 use Rattle.finite.specs.Inner.Fill.{fillTo}
-use Rattle.graph.specs.Tests.{degrees, count, vertices, vertexDegree}
+use Rattle.graph.specs.Graph.{DegreeTable}
+use Rattle.graph.specs.Tests.{degrees, count, classCount, vertices, vertexDegree}
+use Rattle.table.specs.Inner.Cells.{matrixOf}
 use Rattle.layout.specs.Layout.{mostVertices}
 
--- all D(k), by degree
-abbrev pub countsOf : (ℕ → ℕ → ℕ) → List ℕ
-countsOf T = fillTo degrees (count T) (replicate degrees 0)
+-- how many vertices each degree has
+abbrev pub countsOf : DegreeTable → List ℕ
+countsOf t = fillTo degrees (classCount t) (replicate degrees 0)
 
 -- the degrees of the N vertices, in an array of 200 with zeros behind them
-abbrev pub classesOf : (ℕ → ℕ → ℕ) → List ℕ
-classesOf T = fillTo (vertices T) (vertexDegree T) (replicate mostVertices 0)
+abbrev pub classesOf : DegreeTable → List ℕ
+classesOf t = fillTo (vertices t) (vertexDegree t) (replicate mostVertices 0)
 
--- D(k) as the array of counts has it
+-- how many vertices degree k has, as the array of counts says
 abbrev pub countIn : List ℕ → ℕ → ℕ
-countIn t k = getD t k 0
+countIn d k = getD d k 0
+
+-- the table whose matrix and whose isolated vertices these arrays hold
+abbrev pub tableIn : List ℕ → List ℕ → DegreeTable
+tableIn cells counts = record { cells = matrixOf cells; isolated = countIn counts 0 }
+
+-- the array has the counts of the table with these cells
+abbrev pub Counts : List ℕ → List ℕ → Type 0
+Counts cells counts = counts ≡ countsOf (tableIn cells counts)
 
 -- the class of vertex v as the array of classes has it
 abbrev pub classIn : List ℕ → ℕ → ℕ
