@@ -3,16 +3,16 @@
 use mathlib.Core.Path.{_≡_, sym, ap, _∙_}
 use mathlib.Core.Bool.{true}
 use mathlib.Core.Logic.{⊎-elim}
-use Prim.Native.Nat.{ℕ, _+_, _*_, _/_, _<_}
-use native.Mathlib.Nat.{eq-zero-or-pos, add-zero, div-add-mod, mul-mod-left, mul-div-cancel}
+use Prim.Native.Nat.{ℕ, _+_, _*_, _≤_, _<_}
+use native.Mathlib.Nat.{eq-zero-or-pos, add-zero, zero-mul, div-add-mod, mul-mod-left, mul-div-cancel}
 use native.Mathlib.Decide.{decLt}
 use native.Mathlib.Omega.{arith}
 use Rattle.finite.specs.Range.{δ}
 use Rattle.finite.proofs.Delta.{δ-move}
 use Rattle.finite.proofs.Sum.{sumTo-cong, sumTo-const, sumTo-scale-right, sumTo-mono, sumTo-split, sumTo-zero}
-use Rattle.graph.specs.Graph.{Graph, Simple, degree, size, jdm, ownJdm}
-use Rattle.graph.specs.Target.{Target, Partial}
-use Rattle.graph.specs.Tests.{mostDegree, degrees, rowSum, count, vertices, vertexDegree, passes, Table}
+use Rattle.graph.specs.Graph.{Graph, Simple, degree, size, jdm, ownJdm, isolated, DegreeTable}
+use Rattle.graph.specs.Target.{cellMost, Target, Partial}
+use Rattle.graph.specs.Tests.{mostDegree, degrees, rowSum, count, classCount, vertices, vertexDegree, passes, Table}
 use Rattle.graph.specs.Theorems.{Realized, Realizability, Necessary}
 use Rattle.graph.proofs.Matrix.{jdm-none, cellMost-cong}
 use Rattle.graph.proofs.Necessary.{necessary-always}
@@ -25,50 +25,69 @@ module _ (T : ℕ → ℕ → ℕ) (table : Table T) where
   none-of-0 : (k l : ℕ) → k ≡ 0 → T k l ≡ 0
   none-of-0 k l e = rw e (table .none-of-0 l)
 
-  -- A table that passes is a target, its vertices numbered by degree.
-  module _ (passed : Passed T) where
-    pub table-target : Target (vertices T) degrees (vertexDegree T) (λ k. k) T
-    table-target =
-        record {
-          classed = vertex-class T;
-          symmetric = λ k l p q. table .symmetric k l;
-          even = λ k p. ⊎-elim (λ e. rw (none-of-0 k k e)) (λ a. passed .even k a p) (eq-zero-or-pos k);
-          rows = λ k p. rw (class-size T k p) (⊎-elim (row-0 k) (λ a. row k a p) (eq-zero-or-pos k));
-          fits = λ k l p q.
-              rw (cellMost-cong (size (vertices T) (vertexDegree T)) (count T) k l (class-size T k p) (class-size T l q))
-              (⊎-elim (λ e. omega (arith, none-of-0 k l e))
-              (λ a. ⊎-elim (λ e. omega (arith, table .symmetric k l, none-of-0 l k e)) (λ b. passed .fits k l a p b q) (eq-zero-or-pos l))
-              (eq-zero-or-pos k));
-        }
+-- A table that passes is a target, its vertices numbered by degree, however many of them are isolated.
+module _ (t : DegreeTable) (table : Table (t .cells)) (passed : Passed (t .cells)) where
+  pub table-target : Target (vertices t) degrees (vertexDegree t) (λ k. k) (t .cells)
+  table-target =
+      record {
+        classed = vertex-class t;
+        symmetric = λ k l p q. table .symmetric k l;
+        even = λ k p. ⊎-elim (λ e. rw (none-of-0 (t .cells) table k k e)) (λ a. passed .even k a p) (eq-zero-or-pos k);
+        rows = λ k p. rw (class-size t k p) (⊎-elim (row-0 k) (λ a. row k a p) (eq-zero-or-pos k));
+        fits = λ k l p q.
+            ⊎-elim (λ e. omega (arith, none-of-0 (t .cells) table k l e))
+            (λ a. ⊎-elim (λ e. omega (arith, table .symmetric k l, none-of-0 (t .cells) table l k e)) (λ b. fit k l a p b q) (eq-zero-or-pos l))
+            (eq-zero-or-pos k);
+      }
+    where
+      row-0 : (k : ℕ) → k ≡ 0 → rowSum (t .cells) k ≡ k * classCount t k
+      row-0 k e = rw (sumTo-zero degrees (t .cells k) (λ l q. none-of-0 (t .cells) table k l e), e) (sym (zero-mul (classCount t 0)))
+
+      row : (k : ℕ) → 0 < k → k < degrees → rowSum (t .cells) k ≡ k * classCount t k
+      row k a p =
+          rw (count-at t k a)
+          (sym (rw (passed .rows k a p, add-zero (k * count (t .cells) k)) at (div-add-mod (rowSum (t .cells) k) k)))
+
+      sized : (k : ℕ) → 0 < k → k < degrees → size (vertices t) (vertexDegree t) k ≡ count (t .cells) k
+      sized k a p = class-size t k p ∙ count-at t k a
+
+      fit : (k l : ℕ) → 0 < k → k < degrees → 0 < l → l < degrees → t .cells k l ≤ cellMost (size (vertices t) (vertexDegree t)) k l
+      fit k l a p b q =
+          rw (cellMost-cong (size (vertices t) (vertexDegree t)) (count (t .cells)) k l (sized k a p) (sized l b q)) (passed .fits k l a p b q)
+
+  module _ (E : Graph) (part : Partial (vertices t) degrees (vertexDegree t) (λ k. k) (t .cells) E)
+      (full : (k l : ℕ) → k < degrees → l < degrees → jdm (vertices t) (vertexDegree t) E k l ≡ t .cells k l) where
+    -- each vertex has the degree laid out for it
+    own : (v : ℕ) → v < vertices t → degree (vertices t) E v ≡ vertexDegree t v
+    own = complete-is-exact (vertices t) degrees (vertexDegree t) (λ k. k) (t .cells) E table-target part full
+
+    -- so none has a degree past the table's
+    low : (v : ℕ) → v < vertices t → degree (vertices t) E v < degrees
+    low v p = rw (own v p) (vertex-class t v p)
+
+    past : (k l : ℕ) → mostDegree < k → ownJdm (vertices t) E k l ≡ 0
+    past k l a = jdm-none (vertices t) (degree (vertices t) E) E k l (λ v p e. absurd (omega (arith, low v p)))
+
+    -- in every cell, those of degree 0 and above 40 included
+    pub has-table : (k l : ℕ) → ownJdm (vertices t) E k l ≡ t .cells k l
+    has-table k l = go (decLt k degrees) (decLt l degrees)
       where
-        row-0 : (k : ℕ) → k ≡ 0 → rowSum T k ≡ k * count T k
-        row-0 k e = rw (sumTo-zero degrees (T k) (λ l q. none-of-0 k l e), e)
+        go : Dec (k < degrees) → Dec (l < degrees) → ownJdm (vertices t) E k l ≡ t .cells k l
+        go (yes p) (yes q) = complete-has-target (vertices t) degrees (vertexDegree t) (t .cells) E table-target part full k l p q
+        go (yes p) (no q) =
+            necessary-always (vertices t) degrees (degree (vertices t) E) E (part .simple) low .symmetric k l
+            ∙ past l k (omega arith)
+            ∙ sym (table .none-above l k (omega arith))
+            ∙ table .symmetric l k
+        go (no p) d = past k l (omega arith) ∙ sym (table .none-above k l (omega arith))
 
-        row : (k : ℕ) → 0 < k → k < degrees → rowSum T k ≡ k * count T k
-        row k a p = rw (count-at T k a) (sym (rw (passed .rows k a p, add-zero (k * (rowSum T k / k))) at (div-add-mod (rowSum T k) k)))
+    -- and as many vertices as the table says have no edge
+    pub has-isolated : isolated (vertices t) E ≡ t .isolated
+    has-isolated =
+        sumTo-cong (vertices t) (λ v. δ (degree (vertices t) E v) 0) (λ v. δ (vertexDegree t v) 0) (λ v p. rw (own v p))
+        ∙ class-size t 0 (omega arith)
 
-    module _ (E : Graph) (part : Partial (vertices T) degrees (vertexDegree T) (λ k. k) T E)
-        (full : (k l : ℕ) → k < degrees → l < degrees → jdm (vertices T) (vertexDegree T) E k l ≡ T k l) where
-      -- no vertex has a degree past the table's
-      low : (v : ℕ) → v < vertices T → degree (vertices T) E v < degrees
-      low v p = rw (complete-is-exact (vertices T) degrees (vertexDegree T) (λ k. k) T E table-target part full v p) (vertex-class T v p)
-
-      past : (k l : ℕ) → mostDegree < k → ownJdm (vertices T) E k l ≡ 0
-      past k l a = jdm-none (vertices T) (degree (vertices T) E) E k l (λ v p e. absurd (omega (arith, low v p)))
-
-      -- in every cell, those of degree 0 and above 40 included
-      pub has-table : (k l : ℕ) → ownJdm (vertices T) E k l ≡ T k l
-      has-table k l = go (decLt k degrees) (decLt l degrees)
-        where
-          go : Dec (k < degrees) → Dec (l < degrees) → ownJdm (vertices T) E k l ≡ T k l
-          go (yes p) (yes q) = complete-has-target (vertices T) degrees (vertexDegree T) T E table-target part full k l p q
-          go (yes p) (no q) =
-              necessary-always (vertices T) degrees (degree (vertices T) E) E (part .simple) low .symmetric k l
-              ∙ past l k (omega arith)
-              ∙ sym (table .none-above l k (omega arith))
-              ∙ table .symmetric l k
-          go (no p) d = past k l (omega arith) ∙ sym (table .none-above k l (omega arith))
-
+module _ (T : ℕ → ℕ → ℕ) (table : Table T) where
   -- The table of a graph passes.
   module _ (n : ℕ) (E : Graph) (simple : Simple n E) (same : (k l : ℕ) → ownJdm n E k l ≡ T k l) where
     -- a number past all degrees of the graph and of the table
@@ -93,7 +112,7 @@ module _ (T : ℕ → ℕ → ℕ) (table : Table T) where
         above i q = table .symmetric k (degrees + i) ∙ table .none-above (degrees + i) k (omega arith)
 
     counted : (k : ℕ) → 0 < k → size n (degree n E) k ≡ count T k
-    counted k a = rw (count-at T k a, row k) (sym (mul-div-cancel (size n (degree n E) k) a))
+    counted k a = rw (row k) (sym (mul-div-cancel (size n (degree n E) k) a))
 
     graph-passed : Passed T
     graph-passed =
@@ -107,11 +126,15 @@ module _ (T : ℕ → ℕ → ℕ) (table : Table T) where
 pub realizability : Realizability
 realizability T table = (forth, back)
   where
+    -- with no isolated vertices
+    alone : DegreeTable
+    alone = record { cells = T; isolated = 0 }
+
     forth : passes T ≡ true → Realized T
     forth h =
         let passed = passes-passed T .0 h in
-        let r = target-reached (vertices T) degrees (vertexDegree T) (λ k. k) T (table-target T table passed) in
-        (vertices T, r .0, r .1 .simple, has-table T table passed (r .0) (r .1) (r .2))
+        let r = target-reached (vertices alone) degrees (vertexDegree alone) (λ k. k) T (table-target alone table passed) in
+        (vertices alone, r .0, r .1 .simple, has-table alone table passed (r .0) (r .1) (r .2))
 
     back : Realized T → passes T ≡ true
     back r = passes-passed T .1 (graph-passed T table (r .0) (r .1) (r .2) (r .3))

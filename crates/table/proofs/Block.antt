@@ -1,35 +1,59 @@
 -- What a good record is, and what a block adds to the cells: the same to (k, l) as to (l, k), and nothing to a degree out of range.
 -- Assumes nothing.
-use mathlib.Core.Path.{_≡_, refl}
-use mathlib.Core.Bool.{Bool, true, false, _&&_, _||_, not}
+use mathlib.Core.Path.{_≡_, refl, sym, _∙_}
+use mathlib.Core.Bool.{Bool, true, false, _&&_, _||_, not, cond, true≢false}
 use mathlib.Core.List.{List}
 use Prim.Native.Nat.{ℕ, _≤_, _<_}
 use native.Mathlib.Decide.{ℕ-discrete}
 use native.Mathlib.Omega.{arith}
 use lib.Dec.{eqb, leb}
-use borrow.Author.Tests.{leb-true, eq-eqb, ne-eqb, not-false}
+use borrow.Author.Tests.{leb-true, eqb-true, eq-eqb, ne-eqb, not-false}
 use Rattle.finite.proofs.All.{and-left, and-right, and-false}
 use Rattle.finite.proofs.Lowest.{lowest-before}
 use Rattle.finite.proofs.Sum.{sumTo-cong, sumTo-zero}
 use Rattle.graph.specs.Tests.{leastDegree, mostDegree}
-use Rattle.table.specs.Block.{isDegree, records, recordK, recordL, goodRecord, firstBad, samePair, recordCell, blockCell}
+use Rattle.table.specs.Block.{isDegree, records, recordK, recordL, recordCount, ofIsolated, ofCell, goodRecord, firstBad, samePair, recordCell, recordIsolated, blockCell}
 
--- the degrees of a good record: least ≤ k ≤ l ≤ most
+-- k and l of a record of isolated vertices
+isolated-zeros : (b : List ℕ) (i : ℕ) → ofIsolated b i ≡ true → (recordK b i ≡ 0) × (recordL b i ≡ 0)
+isolated-zeros b i e = (
+  eqb-true (recordK b i) 0 (and-left (eqb (recordK b i) 0) (eqb (recordL b i) 0) e),
+  eqb-true (recordL b i) 0 (and-right (eqb (recordK b i) 0) (eqb (recordL b i) 0) e),
+)
+
+zeros-isolated : (b : List ℕ) (i : ℕ) → recordK b i ≡ 0 → recordL b i ≡ 0 → ofIsolated b i ≡ true
+zeros-isolated b i p q = rw (p, q)
+
+-- the degrees of a good record: k ≤ l ≤ most, and least ≤ k unless it is one of isolated vertices
 pub record Good (b : List ℕ) (i : ℕ) : Type 0 where
-  pub least : leastDegree ≤ recordK b i
+  pub least : ofIsolated b i ≡ false → leastDegree ≤ recordK b i
   pub ordered : recordK b i ≤ recordL b i
   pub most : recordL b i ≤ mostDegree
 
 pub good-record : (b : List ℕ) (i : ℕ) → goodRecord b i ≡ true → Good b i
-good-record b i e =
-    let k = recordK b i in
-    let l = recordL b i in
-    let d = and-left (isDegree k && isDegree l) (leb k l) e in
-    record {
-      least = leb-true leastDegree k (and-left (leb leastDegree k) (leb k mostDegree) (and-left (isDegree k) (isDegree l) d));
-      ordered = leb-true k l (and-right (isDegree k && isDegree l) (leb k l) e);
-      most = leb-true l mostDegree (and-right (leb leastDegree l) (leb l mostDegree) (and-right (isDegree k) (isDegree l) d));
-    }
+good-record b i e = go (ofCell b i) refl
+  where
+    k : ℕ
+    k = recordK b i
+
+    l : ℕ
+    l = recordL b i
+
+    cell : ofCell b i ≡ true → Good b i
+    cell c =
+        let d = and-left (isDegree k && isDegree l) (leb k l) c in
+        record {
+          least = λ _. leb-true leastDegree k (and-left (leb leastDegree k) (leb k mostDegree) (and-left (isDegree k) (isDegree l) d));
+          ordered = leb-true k l (and-right (isDegree k && isDegree l) (leb k l) c);
+          most = leb-true l mostDegree (and-right (leb leastDegree l) (leb l mostDegree) (and-right (isDegree k) (isDegree l) d));
+        }
+
+    go : (t : Bool) → ofCell b i ≡ t → Good b i
+    go true c = cell c
+    go false c =
+        let z : ofIsolated b i ≡ true = rw c at e in
+        let zeros = isolated-zeros b i z in
+        record { least = λ n. absurd (true≢false (sym z ∙ n)); ordered = omega (arith, zeros); most = omega (arith, zeros) }
 
 -- in a block with no bad record each one is good
 pub all-good : (b : List ℕ) → firstBad b ≡ records b → (i : ℕ) → i < records b → goodRecord b i ≡ true
@@ -46,6 +70,10 @@ both-fail k a l b h = go (ℕ-discrete k a)
 or-true : (a : Bool) → a || true ≡ true
 or-true true = refl
 or-true false = refl
+
+pub or-false : (a : Bool) → a || false ≡ a
+or-false true = refl
+or-false false = refl
 
 module _ (k l a b : ℕ) where
   pub samePair-straight : k ≡ a → l ≡ b → samePair k l a b ≡ true
@@ -80,10 +108,46 @@ recordCell-sym b i k l = rw (crossed (eqb k (recordK b i)) (eqb l (recordL b i))
 
 -- a good record adds nothing where k is no degree
 pub recordCell-none : (b : List ℕ) (i k l : ℕ) → Good b i → (leastDegree ≤ k → k ≤ mostDegree → ⊥) → recordCell b i k l ≡ 0
-recordCell-none b i k l g h =
-    rw (samePair-none k l (recordK b i) (recordL b i)
-    (λ p q. h (omega (arith, g .least)) (omega (arith, g .ordered, g .most)))
-    (λ p q. h (omega (arith, g .least, g .ordered)) (omega (arith, g .most))))
+recordCell-none b i k l g h = go (ofIsolated b i) refl
+  where
+    go : (t : Bool) → ofIsolated b i ≡ t → cond (not t && samePair k l (recordK b i) (recordL b i)) (recordCount b i) 0 ≡ 0
+    go true e = refl
+    go false e =
+        rw (samePair-none k l (recordK b i) (recordL b i)
+        (λ p q. h (omega (arith, g .least e)) (omega (arith, g .ordered, g .most)))
+        (λ p q. h (omega (arith, g .least e, g .ordered)) (omega (arith, g .most))))
+
+-- What record i adds to an array of cells at the place of (k, l): to a cell what it adds to the matrix, and at (0, 0) its isolated vertices.
+abbrev pub amount : List ℕ → ℕ → ℕ → ℕ → ℕ
+amount b i k l = cond (samePair k l (recordK b i) (recordL b i)) (recordCount b i) 0
+
+module _ (b : List ℕ) (i : ℕ) where
+  pub amount-sym : (k l : ℕ) → amount b i k l ≡ amount b i l k
+  amount-sym k l = rw (crossed (eqb k (recordK b i)) (eqb l (recordL b i)) (eqb k (recordL b i)) (eqb l (recordK b i)))
+
+  pub amount-none-above : (k l : ℕ) → Good b i → mostDegree < k → amount b i k l ≡ 0
+  amount-none-above k l g m =
+      rw (samePair-none k l (recordK b i) (recordL b i) (λ p q. omega (arith, g .ordered, g .most)) (λ p q. omega (arith, g .most)))
+
+  pub amount-cell : (k l : ℕ) → (k ≡ 0 → l ≡ 0 → ⊥) → amount b i k l ≡ recordCell b i k l
+  amount-cell k l h = go (ofIsolated b i) refl
+    where
+      go : (t : Bool) → ofIsolated b i ≡ t → amount b i k l ≡ cond (not t && samePair k l (recordK b i) (recordL b i)) (recordCount b i) 0
+      go true e =
+          let z = isolated-zeros b i e in
+          rw (samePair-none k l (recordK b i) (recordL b i) (λ p q. h (p ∙ z .0) (q ∙ z .1)) (λ p q. h (p ∙ z .1) (q ∙ z .0)))
+      go false e = refl
+
+  pub amount-isolated : amount b i 0 0 ≡ recordIsolated b i
+  amount-isolated = go (ofIsolated b i) refl
+    where
+      go : (t : Bool) → ofIsolated b i ≡ t → amount b i 0 0 ≡ cond t (recordCount b i) 0
+      go true e =
+          let z = isolated-zeros b i e in
+          rw (samePair-straight 0 0 (recordK b i) (recordL b i) (sym (z .0)) (sym (z .1)))
+      go false e =
+          rw (samePair-none 0 0 (recordK b i) (recordL b i)
+          (λ p q. true≢false (sym (zeros-isolated b i (sym p) (sym q)) ∙ e)) (λ p q. true≢false (sym (zeros-isolated b i (sym q) (sym p)) ∙ e)))
 
 module _ (b : List ℕ) where
   pub blockCell-sym : (k l : ℕ) → blockCell b k l ≡ blockCell b l k

@@ -15,12 +15,12 @@ use borrow.Author.Tests.{lt-ltb, le-ltb}
 use Rattle.finite.specs.Range.{sumTo, foldTo}
 use Rattle.finite.proofs.All.{and-false}
 use Rattle.finite.proofs.Fold.{foldTo-keeps}
-use Rattle.finite.proofs.Sum.{sumTo-none, sumTo-more}
+use Rattle.finite.proofs.Sum.{sumTo-none, sumTo-more, sumTo-cong}
 use Rattle.graph.specs.Tests.{degrees}
 use Rattle.slices.proofs.Zero.{getD-zeros}
-use Rattle.table.specs.Block.{mostRecords, records, recordK, recordL, recordCount, firstBad, samePair, recordCell, blockCell}
-use Rattle.table.specs.Inner.Cells.{recordMost, cellsSize, place, matrixOf, addRecord, addBlock, AtMost, blockSumMost}
-use Rattle.table.proofs.Block.{Good, good-record, all-good, samePair-straight, samePair-crossed, samePair-none, recordCell-sym, recordCell-none}
+use Rattle.table.specs.Block.{mostRecords, records, recordK, recordL, recordCount, firstBad, samePair, recordCell, recordIsolated, blockCell, blockIsolated}
+use Rattle.table.specs.Inner.Cells.{recordMost, cellsSize, place, matrixOf, isolatedPlace, addRecord, addBlock, AtMost, blockSumMost}
+use Rattle.table.proofs.Block.{Good, good-record, all-good, samePair-straight, samePair-crossed, samePair-none, amount, amount-sym, amount-none-above, amount-cell, amount-isolated}
 
 pub length-addRecord : (b : List ℕ) (i : ℕ) (c : List ℕ) → length (addRecord b i c) ≡ length c
 length-addRecord b i c = length-set c _ _
@@ -104,9 +104,9 @@ add-here c p q n l e = rw (e, getD-set-same c q (getD c q 0 + n) 0 l)
 pub add-apart : (c : List ℕ) (p q n : ℕ) → p ≢ q → getD (set c q (getD c q 0 + n)) p 0 ≡ getD c p 0 + 0
 add-apart c p q n h = getD-set-other c q p (getD c q 0 + n) 0 h ∙ sym (add-zero (getD c p 0))
 
--- what a good record adds to the matrix
+-- what a good record adds to the array
 module _ (b : List ℕ) (i : ℕ) (c : List ℕ) (size : length c ≡ cellsSize) (g : Good b i) (k l : ℕ) where
-  addRecord-inside : k < degrees → l < degrees → matrixOf (addRecord b i c) k l ≡ matrixOf c k l + recordCell b i k l
+  addRecord-inside : k < degrees → l < degrees → matrixOf (addRecord b i c) k l ≡ matrixOf c k l + amount b i k l
   addRecord-inside hk hl = rw (lt-ltb k degrees hk, lt-ltb l degrees hl) (go (ℕ-discrete (place k l) (place x y)))
     where
       x : ℕ
@@ -115,7 +115,7 @@ module _ (b : List ℕ) (i : ℕ) (c : List ℕ) (size : length c ≡ cellsSize)
       y : ℕ
       y = recordL b i
 
-      go : Dec (place k l ≡ place x y) → getD (addRecord b i c) (place k l) 0 ≡ getD c (place k l) 0 + recordCell b i k l
+      go : Dec (place k l ≡ place x y) → getD (addRecord b i c) (place k l) 0 ≡ getD c (place k l) 0 + amount b i k l
       go (yes e) =
           rw (same-place k l x y hk hl (omega arith) (omega arith) e)
           (add-here c (place k l) (place x y) (recordCount b i) (omega arith) e)
@@ -123,35 +123,56 @@ module _ (b : List ℕ) (i : ℕ) (c : List ℕ) (size : length c ≡ cellsSize)
           rw (other-place k l x y hk hl (omega arith) (omega arith) e)
           (add-apart c (place k l) (place x y) (recordCount b i) e)
 
-  addRecord-outside : degrees ≤ k → matrixOf (addRecord b i c) k l ≡ matrixOf c k l + recordCell b i k l
-  addRecord-outside h = rw (le-ltb k degrees h, recordCell-none b i k l g (λ p q. absurd (omega arith)))
+  addRecord-outside : degrees ≤ k → matrixOf (addRecord b i c) k l ≡ matrixOf c k l + amount b i k l
+  addRecord-outside h = rw (le-ltb k degrees h, amount-none-above b i k l g (omega arith))
 
-  addRecord-beside : degrees ≤ l → matrixOf (addRecord b i c) k l ≡ matrixOf c k l + recordCell b i k l
+  addRecord-beside : degrees ≤ l → matrixOf (addRecord b i c) k l ≡ matrixOf c k l + amount b i k l
   addRecord-beside h =
-      rw (le-ltb l degrees h, and-false (ltb k degrees), recordCell-sym b i k l, recordCell-none b i l k g (λ p q. absurd (omega arith)))
+      rw (le-ltb l degrees h, and-false (ltb k degrees), amount-sym b i k l, amount-none-above b i l k g (omega arith))
 
-  pub matrix-addRecord : matrixOf (addRecord b i c) k l ≡ matrixOf c k l + recordCell b i k l
+  matrix-addRecord : matrixOf (addRecord b i c) k l ≡ matrixOf c k l + amount b i k l
   matrix-addRecord = go (decLt k degrees) (decLt l degrees)
     where
-      go : Dec (k < degrees) → Dec (l < degrees) → matrixOf (addRecord b i c) k l ≡ matrixOf c k l + recordCell b i k l
+      go : Dec (k < degrees) → Dec (l < degrees) → matrixOf (addRecord b i c) k l ≡ matrixOf c k l + amount b i k l
       go (yes hk) (yes hl) = addRecord-inside hk hl
       go (yes hk) (no hl) = addRecord-beside (omega arith)
       go (no hk) (yes hl) = addRecord-outside (omega arith)
       go (no hk) (no hl) = addRecord-outside (omega arith)
 
--- the matrix after a block whose records are all good
-pub matrix-addBlock : (b c : List ℕ) → length c ≡ cellsSize → firstBad b ≡ records b →
-    matrixOf (addBlock b c) ≡ (λ k l. matrixOf c k l + blockCell b k l)
-matrix-addBlock b c size good = fun-ext (λ k. fun-ext (λ l. cell k l .1))
-  where
-    cell : (k l : ℕ) → (length (addBlock b c) ≡ cellsSize) × (matrixOf (addBlock b c) k l ≡ matrixOf c k l + blockCell b k l)
-    cell k l = foldTo-keeps After (addRecord b) c (records b) (size, rw sumTo-none (sym (add-zero (matrixOf c k l)))) step
-      where
-        After : ℕ → List ℕ → Type 0
-        After i x = (length x ≡ cellsSize) × (matrixOf x k l ≡ matrixOf c k l + sumTo i (λ j. recordCell b j k l))
+-- what a block adds to the array at the place of (k, l)
+abbrev pub blockAmount : List ℕ → ℕ → ℕ → ℕ
+blockAmount b k l = sumTo (records b) (λ i. amount b i k l)
 
-        step : (i : ℕ) (x : List ℕ) → i < records b → After i x → After (i + 1) (addRecord b i x)
-        step i x h a = (
-          length-addRecord b i x ∙ a .0,
-          matrix-addRecord b i x (a .0) (good-record b i (all-good b good i h)) k l ∙ rw (a .1, sumTo-more) (add-assoc _ _ _),
-        )
+-- the array after a block whose records are all good
+pub matrix-addBlock : (b c : List ℕ) → length c ≡ cellsSize → firstBad b ≡ records b →
+    (k l : ℕ) → matrixOf (addBlock b c) k l ≡ matrixOf c k l + blockAmount b k l
+matrix-addBlock b c size good k l =
+    foldTo-keeps After (addRecord b) c (records b) (size, rw sumTo-none (sym (add-zero (matrixOf c k l)))) step .1
+  where
+    After : ℕ → List ℕ → Type 0
+    After i x = (length x ≡ cellsSize) × (matrixOf x k l ≡ matrixOf c k l + sumTo i (λ j. amount b j k l))
+
+    step : (i : ℕ) (x : List ℕ) → i < records b → After i x → After (i + 1) (addRecord b i x)
+    step i x h a = (
+      length-addRecord b i x ∙ a .0,
+      matrix-addRecord b i x (a .0) (good-record b i (all-good b good i h)) k l ∙ rw (a .1, sumTo-more) (add-assoc _ _ _),
+    )
+
+-- in a cell it is what the block adds to the matrix, and at (0, 0) its isolated vertices
+pub blockAmount-cell : (b : List ℕ) (k l : ℕ) → (k ≡ 0 → l ≡ 0 → ⊥) → blockAmount b k l ≡ blockCell b k l
+blockAmount-cell b k l h =
+    sumTo-cong (records b) (λ i. amount b i k l) (λ i. recordCell b i k l) (λ i m. amount-cell b i k l h)
+
+pub blockAmount-isolated : (b : List ℕ) → blockAmount b 0 0 ≡ blockIsolated b
+blockAmount-isolated b = sumTo-cong (records b) (λ i. amount b i 0 0) (recordIsolated b) (λ i m. amount-isolated b i)
+
+-- the array without its isolated vertices: 0 there, and the same in every cell
+module _ (c : List ℕ) (size : length c ≡ cellsSize) where
+  pub taken-out : matrixOf (set c isolatedPlace 0) 0 0 ≡ 0
+  taken-out = getD-set-same c isolatedPlace 0 0 (omega arith)
+
+  pub taken-cell : (k l : ℕ) → (k ≡ 0 → l ≡ 0 → ⊥) → matrixOf (set c isolatedPlace 0) k l ≡ matrixOf c k l
+  taken-cell k l h = rw (getD-set-other c isolatedPlace (place k l) 0 0 (λ e. h (omega arith) (omega arith)))
+
+pub atMost-taken : (m : ℕ) (c : List ℕ) → AtMost m c → AtMost m (set c isolatedPlace 0)
+atMost-taken m c h = atMost-set m 0 c isolatedPlace h (omega arith)

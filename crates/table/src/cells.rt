@@ -1,11 +1,12 @@
-// The joint degree matrix as an array: one number for each pair of degrees, in either order.
+// The joint degree matrix as an array: one number for each pair of degrees, in either order. While blocks are added, the isolated vertices stand in
+// the place of (0, 0).
 ghost use mathlib.Core.Path.{_≡_};
 ghost use mathlib.Core.Bool.{true};
 ghost use Prim.Native.Nat.{ℕ, _+_, _*_, _≤_, _<_};
-ghost use lib.ListN.{length};
+ghost use lib.ListN.{length, getD, set};
 ghost use Rattle.graph.specs.Tests.{degrees};
 ghost use Rattle.table.specs.Block.{recordSize, blockMost, goodRecord, records, firstBad};
-ghost use Rattle.table.specs.Inner.Cells.{cellsSize, matrixOf, place, addRecord, addBlock, AtMost, cellSumMost, blockSumMost};
+ghost use Rattle.table.specs.Inner.Cells.{cellsSize, matrixOf, place, isolatedPlace, addRecord, addBlock, AtMost, cellSumMost, blockSumMost};
 use crate::degree::DEGREES;
 use slices::wide;
 
@@ -47,6 +48,7 @@ pub fn cell(cells: &[u32; CELLS], k: usize, l: usize) -> usize
     upper_cell(cells, l, k)
 }
 
+// A record of isolated vertices is added at (0, 0), which is no cell, until take_isolated.
 fn add_record(cells: &mut [u32; CELLS], block: &[u8], i: usize)
     requires { ⌜ (recordSize * i + recordSize ≤ length (now block)) × (goodRecord (now block) i ≡ true) × AtMost (cellSumMost) (now cells) ⌝ }
     ensures { λ _. ⌜ now (cells .exit) ≡ addRecord (now (block .entry)) i (now (cells .entry)) ⌝ }
@@ -68,4 +70,14 @@ pub fn add_block(cells: &mut [u32; CELLS], block: &[u8])
     for i in 0..n {
         add_record(cells, block, i);
     }
+}
+
+// Takes the isolated vertices out of the array, so that it holds cells alone.
+pub fn take_isolated(cells: &mut [u32; CELLS]) -> usize
+    ensures { λ r. ⌜ r ≡ getD (now (cells .entry)) isolatedPlace 0 ⌝ }
+    ensures { λ _. ⌜ now (cells .exit) ≡ set (now (cells .entry)) isolatedPlace 0 ⌝ }
+{
+    let isolated = wide32(cells[0]);
+    cells[0] = 0;
+    isolated
 }

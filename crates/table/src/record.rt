@@ -1,8 +1,8 @@
 // Records of a block.
 ghost use mathlib.Core.Path.{_≡_};
 ghost use Prim.Native.Nat.{_+_, _*_, _≤_, _<_};
-ghost use mathlib.Core.Bool.{_&&_};
-ghost use lib.Dec.{leb};
+ghost use mathlib.Core.Bool.{_&&_, _||_};
+ghost use lib.Dec.{eqb, leb};
 ghost use lib.ListN.{length};
 ghost use Rattle.table.specs.Block.{recordSize, isDegree, blockLength, recordCount, goodRecord, firstBad};
 ghost use Rattle.table.specs.Inner.Cells.{recordMost};
@@ -31,12 +31,12 @@ pub fn record_count(block: &[u8], i: usize) -> usize
     wide(block[at + 2]) + 256 * wide(block[at + 3])
 }
 
-// Both are degrees, and k is not above l.
+// A cell: two degrees, k not above l; or isolated vertices: 0 and 0.
 fn good_pair(k: u8, l: u8) -> bool
-    ensures { λ r. ⌜ r ≡ isDegree k && isDegree l && leb k l ⌝ }
+    ensures { λ r. ⌜ r ≡ (isDegree k && isDegree l && leb k l) || (eqb k 0 && eqb l 0) ⌝ }
 {
     let MadeDegree::Made(a) = Degree::from_byte(k) else {
-        return false;
+        return (k == 0) & (l == 0);
     };
     let MadeDegree::Made(b) = Degree::from_byte(l) else {
         return false;

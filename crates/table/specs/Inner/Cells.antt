@@ -21,6 +21,10 @@ place k l = min k l * degrees + max k l
 abbrev pub matrixOf : List ℕ → ℕ → ℕ → ℕ
 matrixOf c k l = cond (ltb k degrees && ltb l degrees) (getD c (place k l) 0) 0
 
+-- the place of (0, 0), where no cell is: records of isolated vertices are added there, until they are taken out
+abbrev pub isolatedPlace : ℕ
+isolatedPlace = place 0 0
+
 -- the array c with record i of the block b added
 abbrev pub addRecord : List ℕ → ℕ → List ℕ → List ℕ
 addRecord b i c = set c (place (recordK b i) (recordL b i)) (getD c (place (recordK b i) (recordL b i)) 0 + recordCount b i)

@@ -4,7 +4,8 @@ use mathlib.Core.Path.{sym, _∙_}
 use borrow.Author.Needs.{needs}
 use Rattle.finite.proofs.All.{and-false}
 use Rattle.table.specs.Block.{isDegree}
-use Rattle.table.proofs.Made.{made, none-made}
+use Rattle.table.proofs.Block.{or-false}
+use Rattle.table.proofs.Made.{made, none-made, degree-not-0}
 use Rattle.table.proofs.record.good_pair.Statement.{statement}
 use Rattle.table.proofs.record.good_pair.Tie as tie
 
@@ -22,8 +23,11 @@ good-pair-spec =
     (λ c. search needs)  -- enum-told-2
     (λ c.
     let f = c .before .before in
-    let s = f .before .before .before .before .before in
-    rw (none-made (s .args .l) (sym (f .from-byte2 .ensures) ∙ c .enum-told2 .given .1), and-false (isDegree (s .args .k))))  -- returns-2
+    let a = f .before .before in
+    let s = a .before .before .before in
+    let x = made (s .args .k) _ (sym (a .before .before .from-byte .ensures) ∙ a .a .given .1) in
+    let y = none-made (s .args .l) (sym (f .from-byte2 .ensures) ∙ c .enum-told2 .given .1) in
+    rw (y, and-false (isDegree (s .args .k)), degree-not-0 (s .args .k) (x .0)))  -- returns-2
     (λ c κs. tt)  -- at-most-requires
     (λ c.
     let b = c .before .before in
@@ -32,4 +36,4 @@ good-pair-spec =
     let s = a .before .before .before in
     let x = made (s .args .k) _ (sym (a .before .before .from-byte .ensures) ∙ a .a .given .1) in
     let y = made (s .args .l) _ (sym (f .from-byte2 .ensures) ∙ b .b .given .1) in
-    rw (x .0, y .0, ← (x .1), ← (y .1)) (c .at-most .ensures)))  -- returns-3
+    rw (x .0, y .0, degree-not-0 (s .args .k) (x .0), ← (x .1), ← (y .1)) (c .at-most .ensures ∙ sym (or-false _))))  -- returns-3
