@@ -24,13 +24,13 @@ module _ (T : ℕ → ℕ → ℕ) (k : ℕ) where
   fits-from l h = rw (le-ltb l k h)
 
   -- the diagonal cell, then one cell after the other, with the counts D as they are kept
-  module _ (D : ℕ → ℕ) (e : D ≡ count T) where
+  module _ (D : ℕ → ℕ) (a : leastDegree ≤ k) (e : (j : ℕ) → leastDegree ≤ j → D j ≡ count T j) where
     pub fits-first : allTo (k + 1) (cellFits T k) ≡ leb (T k k) (D k * D k - D k)
     fits-first =
-        rw (e, allTo-more, allTo-holds (cellFits T k) k fits-below, fits-from k (omega arith), eq-eqb k k refl, square-less (count T k))
+        rw (e k a, allTo-more, allTo-holds (cellFits T k) k fits-below, fits-from k (omega arith), eq-eqb k k refl, square-less (count T k))
 
     pub fits-next : (l : ℕ) → k < l → allTo (l + 1) (cellFits T k) ≡ allTo l (cellFits T k) && leb (T k l) (D k * D l)
-    fits-next l h = rw (e, allTo-more, fits-from l (omega arith), ne-eqb k l (omega arith))
+    fits-next l h = rw (e k a, e l (omega arith), allTo-more, fits-from l (omega arith), ne-eqb k l (omega arith))
 
   -- a row that does not fit has an overfull cell
   pub row-unfit : leastDegree ≤ k → rowFits T k ≡ false → ltb (firstOverfullIn T k) degrees ≡ true

@@ -8,6 +8,7 @@ use native.Mathlib.Omega.{arith}
 use lib.Dec.{eqb, leb}
 use borrow.Author.Tests.{leb-true, le-leb}
 use Rattle.finite.proofs.All.{and-left, and-right, and-both}
+use Rattle.graph.specs.Graph.{DegreeTable}
 use Rattle.graph.specs.Tests.{degrees, firstOdd, firstUneven, firstOverfull, firstOverfullIn, passes, vertices}
 use Rattle.answer.specs.Numbers.{numberOf}
 use Rattle.answer.specs.Refusals.{refusal, stop, unless}
@@ -29,17 +30,20 @@ failed true false c r s t rest p q o e = (s, refl, q)
 failed true true false r s t rest p q o e = (t, refl, o)
 failed true true true r s t rest p q o e = absurd (true≢false e)
 
-module _ (T : ℕ → ℕ → ℕ) where
-  pub layout-go : layoutVerdict T ≡ Go → (passes T ≡ true) × (vertices T ≤ mostVertices)
+module _ (t : DegreeTable) where
+  abbrev T : ℕ → ℕ → ℕ
+  T = t .cells
+
+  pub layout-go : layoutVerdict t ≡ Go → (passes T ≡ true) × (vertices t ≤ mostVertices)
   layout-go e =
       let x = unless-go (eqb (firstOdd T) degrees) _ _ e in
       let y = unless-go (eqb (firstUneven T) degrees) _ _ (x .1) in
       let z = unless-go (eqb (firstOverfull T) degrees) _ _ (y .1) in
-      let n = unless-go (leb (vertices T) mostVertices) _ _ (z .1) in
+      let n = unless-go (leb (vertices t) mostVertices) _ _ (z .1) in
       (and-both _ _ (and-both _ _ (x .0) (y .0)) (z .0), leb-true _ _ (n .0))
 
   -- where T passes, only the number of vertices is left to test
-  layout-passes : passes T ≡ true → layoutVerdict T ≡ unless (leb (vertices T) mostVertices) (stop TooManyVertices) Go
+  layout-passes : passes T ≡ true → layoutVerdict t ≡ unless (leb (vertices t) mostVertices) (stop TooManyVertices) Go
   layout-passes e =
       let d = and-left (eqb (firstOdd T) degrees && eqb (firstUneven T) degrees) (eqb (firstOverfull T) degrees) e in
       rw (
@@ -48,21 +52,21 @@ module _ (T : ℕ → ℕ → ℕ) where
         and-right (eqb (firstOdd T) degrees && eqb (firstUneven T) degrees) (eqb (firstOverfull T) degrees) e,
       )
 
-  pub go-layout : passes T ≡ true → vertices T ≤ mostVertices → layoutVerdict T ≡ Go
-  go-layout e l = layout-passes e ∙ rw (le-leb (vertices T) mostVertices l)
+  pub go-layout : passes T ≡ true → vertices t ≤ mostVertices → layoutVerdict t ≡ Go
+  go-layout e l = layout-passes e ∙ rw (le-leb (vertices t) mostVertices l)
 
-  pub layout-passed : passes T ≡ true → (layoutVerdict T ≡ Go) ⊎ (layoutVerdict T ≡ stop TooManyVertices)
-  layout-passed e = go (leb (vertices T) mostVertices) (layout-passes e)
+  pub layout-passed : passes T ≡ true → (layoutVerdict t ≡ Go) ⊎ (layoutVerdict t ≡ stop TooManyVertices)
+  layout-passed e = go (leb (vertices t) mostVertices) (layout-passes e)
     where
-      go : (t : Bool) → layoutVerdict T ≡ unless t (stop TooManyVertices) Go
-          → (layoutVerdict T ≡ Go) ⊎ (layoutVerdict T ≡ stop TooManyVertices)
+      go : (b : Bool) → layoutVerdict t ≡ unless b (stop TooManyVertices) Go
+          → (layoutVerdict t ≡ Go) ⊎ (layoutVerdict t ≡ stop TooManyVertices)
       go true h = inl h
       go false h = inr h
 
-  pub layout-refused : passes T ≡ false → (r : Refusal) × (layoutVerdict T ≡ Stop r) × IsTest r
+  pub layout-refused : passes T ≡ false → (r : Refusal) × (layoutVerdict t ≡ Stop r) × IsTest r
   layout-refused e =
       failed (eqb (firstOdd T) degrees) (eqb (firstUneven T) degrees) (eqb (firstOverfull T) degrees)
       (refusal OddDiagonal (firstOdd T) (firstOdd T)) (refusal UnevenRow (firstUneven T) 0)
       (refusal OverfullCell (firstOverfull T) (firstOverfullIn T (firstOverfull T)))
-      (unless (leb (vertices T) mostVertices) (stop TooManyVertices) Go)
+      (unless (leb (vertices t) mostVertices) (stop TooManyVertices) Go)
       (omega arith) (omega arith) (omega arith) e

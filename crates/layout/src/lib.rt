@@ -3,9 +3,9 @@ ghost use mathlib.Core.Path.{_≡_};
 ghost use Prim.Native.Nat.{_*_, _≤_, _<_};
 ghost use Rattle.graph.specs.Numbering.{total, classOf};
 ghost use Rattle.graph.specs.Target.{cellMost};
-ghost use Rattle.graph.specs.Tests.{degrees, rowSum, count, odd, uneven, overfull, firstOdd, firstUneven, firstOverfull, firstOverfullIn, vertices};
+ghost use Rattle.graph.specs.Tests.{degrees, rowSum, odd, uneven, overfull, firstOdd, firstUneven, firstOverfull, firstOverfullIn, vertices};
 ghost use Rattle.table.specs.Inner.Cells.{matrixOf, AtMost, cellSumMost};
-ghost use Rattle.layout.specs.Inner.Arrays.{countIn, rowFits, Reaches, countsOf, classesOf};
+ghost use Rattle.layout.specs.Inner.Arrays.{countIn, rowFits, Reaches, tableIn, Counts, classesOf};
 ghost use Rattle.layout.specs.Layout.{wanted, layoutVerdict, mostVertices};
 use answer::Cause;
 use answer::Verdict;
@@ -74,25 +74,15 @@ fn first_uneven(cells: &[u32; CELLS]) -> usize
     k
 }
 
-// D(k)
-fn count_of(cells: &[u32; CELLS], k: usize) -> usize
-    requires { ⌜ (k < degrees) × AtMost cellSumMost (now cells) ⌝ }
-    ensures { λ r. ⌜ (r ≡ count (matrixOf (now (cells .entry))) k) × (r ≤ degrees * cellSumMost) ⌝ }
-{
-    if k == 0 {
-        return 0;
-    }
-    row_sum(cells, k) / k
-}
-
-// All D(k), by degree.
-pub fn counts(cells: &[u32; CELLS]) -> [usize; DEGREES]
-    requires { ⌜ AtMost cellSumMost (now cells) ⌝ }
-    ensures { λ r. ⌜ r ≡ countsOf (matrixOf (now (cells .entry))) ⌝ }
+// How many vertices each degree has: D(k), and of degree 0 the isolated ones.
+pub fn counts(cells: &[u32; CELLS], isolated: usize) -> [usize; DEGREES]
+    requires { ⌜ AtMost cellSumMost (now cells) × (isolated ≤ cellSumMost) ⌝ }
+    ensures { λ r. ⌜ Counts (now (cells .entry)) r × (countIn r 0 ≡ isolated) ⌝ }
 {
     let mut t = [0usize; DEGREES];
-    for k in 0..DEGREES {
-        t[k] = count_of(cells, k);
+    t[0] = isolated;
+    for k in 1..DEGREES {
+        t[k] = row_sum(cells, k) / k;
     }
     t
 }
@@ -111,14 +101,14 @@ fn cell_most(counts: &[usize; DEGREES], k: usize, l: usize) -> usize
 
 // Cell (k, l) is above its most.
 fn is_overfull(cells: &[u32; CELLS], counts: &[usize; DEGREES], k: usize, l: usize) -> bool
-    requires { ⌜ (k < degrees) × (l < degrees) × AtMost cellSumMost (now cells) × (now counts ≡ countsOf (matrixOf (now cells))) ⌝ }
+    requires { ⌜ (0 < k) × (k < degrees) × (0 < l) × (l < degrees) × AtMost cellSumMost (now cells) × Counts (now cells) (now counts) ⌝ }
     ensures { λ r. ⌜ r ≡ overfull (matrixOf (now (cells .entry))) k l ⌝ }
 {
     cell_most(counts, k, l) < cell(cells, k, l)
 }
 
 fn first_overfull_in(cells: &[u32; CELLS], counts: &[usize; DEGREES], k: usize) -> usize
-    requires { ⌜ (k < degrees) × AtMost cellSumMost (now cells) × (now counts ≡ countsOf (matrixOf (now cells))) ⌝ }
+    requires { ⌜ (0 < k) × (k < degrees) × AtMost cellSumMost (now cells) × Counts (now cells) (now counts) ⌝ }
     ensures { λ r. ⌜ r ≡ firstOverfullIn (matrixOf (now (cells .entry))) k ⌝ }
 {
     let mut l = 1;
@@ -133,7 +123,7 @@ fn first_overfull_in(cells: &[u32; CELLS], counts: &[usize; DEGREES], k: usize) 
 
 // No cell of row k from the diagonal on is above its most. A flag and no early exit: most tables pass.
 fn row_fits(cells: &[u32; CELLS], counts: &[usize; DEGREES], k: usize) -> bool
-    requires { ⌜ (k < degrees) × AtMost cellSumMost (now cells) × (now counts ≡ countsOf (matrixOf (now cells))) ⌝ }
+    requires { ⌜ (0 < k) × (k < degrees) × AtMost cellSumMost (now cells) × Counts (now cells) (now counts) ⌝ }
     ensures { λ r. ⌜ r ≡ rowFits (matrixOf (now (cells .entry))) k ⌝ }
 {
     let d = counts[k];
@@ -146,7 +136,7 @@ fn row_fits(cells: &[u32; CELLS], counts: &[usize; DEGREES], k: usize) -> bool
 
 // The cells before the diagonal stand in rows that have passed.
 fn first_overfull(cells: &[u32; CELLS], counts: &[usize; DEGREES]) -> usize
-    requires { ⌜ AtMost cellSumMost (now cells) × (now counts ≡ countsOf (matrixOf (now cells))) ⌝ }
+    requires { ⌜ AtMost cellSumMost (now cells) × Counts (now cells) (now counts) ⌝ }
     ensures { λ r. ⌜ r ≡ firstOverfull (matrixOf (now (cells .entry))) ⌝ }
 {
     let mut k = 1;
@@ -161,8 +151,8 @@ fn first_overfull(cells: &[u32; CELLS], counts: &[usize; DEGREES]) -> usize
 
 // N
 pub fn vertex_count(cells: &[u32; CELLS], counts: &[usize; DEGREES]) -> usize
-    requires { ⌜ AtMost cellSumMost (now cells) × (now counts ≡ countsOf (matrixOf (now cells))) ⌝ }
-    ensures { λ r. ⌜ r ≡ vertices (matrixOf (now (cells .entry))) ⌝ }
+    requires { ⌜ AtMost cellSumMost (now cells) × Counts (now cells) (now counts) ⌝ }
+    ensures { λ r. ⌜ r ≡ vertices (tableIn (now (cells .entry)) (countIn (now (counts .entry)) 0)) ⌝ }
 {
     let mut n = 0;
     for k in 0..DEGREES {
@@ -193,8 +183,8 @@ fn run_at(counts: &[usize; DEGREES], v: usize, run: Run) -> Run
 
 // The degree of each vertex, with zeros behind the last.
 pub fn classes(cells: &[u32; CELLS], counts: &[usize; DEGREES]) -> [u8; MOST_VERTICES]
-    requires { ⌜ AtMost cellSumMost (now cells) × (now counts ≡ countsOf (matrixOf (now cells))) × (vertices (matrixOf (now cells)) ≤ mostVertices) ⌝ }
-    ensures { λ r. ⌜ r ≡ classesOf (matrixOf (now (cells .entry))) ⌝ }
+    requires { ⌜ AtMost cellSumMost (now cells) × Counts (now cells) (now counts) × (vertices (tableIn (now cells) (countIn (now counts) 0)) ≤ mostVertices) ⌝ }
+    ensures { λ r. ⌜ r ≡ classesOf (tableIn (now (cells .entry)) (countIn (now (counts .entry)) 0)) ⌝ }
 {
     let n = vertex_count(cells, counts);
     let mut t = [0u8; MOST_VERTICES];
@@ -223,8 +213,8 @@ pub fn edges_wanted(cells: &[u32; CELLS]) -> usize
 
 // The tests 9 to 12, each over all cells before the next begins.
 pub fn layout_check(cells: &[u32; CELLS], counts: &[usize; DEGREES]) -> Verdict
-    requires { ⌜ AtMost cellSumMost (now cells) × (now counts ≡ countsOf (matrixOf (now cells))) ⌝ }
-    ensures { λ r. ⌜ r ≡ layoutVerdict (matrixOf (now (cells .entry))) ⌝ }
+    requires { ⌜ AtMost cellSumMost (now cells) × Counts (now cells) (now counts) ⌝ }
+    ensures { λ r. ⌜ r ≡ layoutVerdict (tableIn (now (cells .entry)) (countIn (now (counts .entry)) 0)) ⌝ }
 {
     let odd = first_odd(cells);
     if odd != DEGREES {

@@ -1,30 +1,42 @@
--- `layout::counts` meets its contract: after k turns the first k counts are filled in.
+-- `layout::counts` meets its contract: after k turns the counts of the degrees below k are filled in.
 -- Assumes nothing.
-use mathlib.Core.Path.{_≡_, sym}
+use mathlib.Core.Path.{_≡_, sym, _∙_}
 use Prim.Native.Nat.{_≤_, _-_}
 use native.Mathlib.Omega.{arith}
 use lib.ListN.{replicate}
 use Rattle.finite.specs.Inner.Fill.{fillTo}
 use Rattle.finite.proofs.Fold.{fillTo-none, fillTo-more}
-use Rattle.graph.specs.Tests.{degrees, count}
-use Rattle.table.specs.Inner.Cells.{matrixOf}
+use Rattle.graph.specs.Tests.{degrees, classCount}
+use Rattle.graph.proofs.Counts.{count-at}
+use Rattle.layout.specs.Inner.Arrays.{tableIn}
+use Rattle.layout.proofs.Counted.{counts-made}
 use Rattle.layout.proofs.counts.Statement.{statement}
 use Rattle.layout.proofs.counts.Tie as tie
 
 abbrev Inv-loop : tie.InvT-loop
-Inv-loop cells t₀ k₀ t k = (k ≤ degrees) × (t ≡ fillTo k (count (matrixOf cells)) (replicate degrees 0))
+Inv-loop cells isolated t₀ k₀ t k = (1 ≤ k) × (k ≤ degrees) × (t ≡ fillTo k (classCount (tableIn cells isolated)) (replicate degrees 0))
 
 abbrev μ-loop : tie.MeasureT-loop
-μ-loop cells t₀ k₀ t k = degrees - k
+μ-loop cells isolated t₀ k₀ t k = degrees - k
 
 pub counts-spec : {M : Type 1} → statement M
 counts-spec =
     tie.close (tie.spec Inv-loop μ-loop
-    (λ c. (omega arith, sym (fillTo-none _ _)))  -- loop-holds
-    (λ c κs. (omega arith, c .before .before .pre))  -- count-of-requires
-    (λ c. omega arith)  -- mul-t
     (λ c. omega arith)  -- array-write-t
+    (λ c. (omega arith, omega arith, sym (fillTo-more _ _ 0 ∙ rw (fillTo-none))))  -- loop-holds
+    (λ c κs. (omega arith, c .before .before .pre .0))  -- row-sum-requires
+    (λ c. omega arith)  -- div-t
+    (λ c. omega arith)  -- mul-t
+    (λ c. omega arith)  -- array-write-t-2
     (λ c. omega arith)  -- add-k
     (λ c. omega arith)  -- loop-less
-    (λ c. (omega arith, rw (c .count-of .ensures .0, fillTo-more, c .before .before .loop .inv .1)))  -- loop-again
-    (λ c. let e : c .before .loop .k ≡ degrees = omega arith in rw e at (c .before .loop .inv .1)))  -- returns
+    (λ c.
+    let l = c .before .before in
+    let s = l .before in
+    let e = count-at (tableIn (s .args .cells .now) (s .args .isolated)) (l .loop .k) (l .loop .inv .0) in
+    (omega arith, omega arith, rw (c .row-sum .ensures .0, fillTo-more, e, l .loop .inv .2)))  -- loop-again
+    (λ c.
+    let l = c .before in
+    let s = l .before in
+    let e : l .loop .k ≡ degrees = omega arith in
+    counts-made (s .args .cells .now) _ (s .args .isolated) (rw e at (l .loop .inv .2)) (s .pre .1)))  -- returns

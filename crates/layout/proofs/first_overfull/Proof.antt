@@ -30,7 +30,7 @@ pub first-overfull-spec : {M : Type 1} → statement M
 first-overfull-spec =
     tie.close (tie.spec Inv-loop μ-loop
     (λ c. (omega arith, omega arith, refl, λ j l a b. absurd (omega arith)))  -- loop-holds
-    (λ c κs. let s = c .before .before in (omega arith, s .pre .0, s .pre .1))  -- row-fits-requires
+    (λ c κs. let s = c .before .before in (omega arith, omega arith, s .pre .0, s .pre .1))  -- row-fits-requires
     (λ c.
     let t = c .before in
     let l = t .before .before in

@@ -20,7 +20,7 @@ pub first-overfull-in-spec : {M : Type 1} → statement M
 first-overfull-in-spec =
     tie.close (tie.spec Inv-loop μ-loop
     (λ c. (omega arith, omega arith, refl))  -- loop-holds
-    (λ c κs. let s = c .before .before in (s .pre .0, omega arith, s .pre .1, s .pre .2))  -- is-overfull-requires
+    (λ c κs. let s = c .before .before in (s .pre .0, s .pre .1, omega arith, omega arith, s .pre .2, s .pre .3))  -- is-overfull-requires
     (λ c.
     let t = c .before in
     sym (t .before .before .loop .inv .2 ∙ lowest-here _ _ _ (omega arith) (sym (t .is-overfull .ensures) ∙ c .if1 .taken)))  -- returns

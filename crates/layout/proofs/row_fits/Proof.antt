@@ -8,7 +8,7 @@ use Rattle.finite.specs.Range.{allTo}
 use Rattle.graph.specs.Tests.{degrees}
 use Rattle.table.specs.Inner.Cells.{matrixOf}
 use Rattle.layout.specs.Inner.Arrays.{countIn, cellFits}
-use Rattle.layout.proofs.Counted.{counted, counts-most, le-square}
+use Rattle.layout.proofs.Counted.{counted-degree, counts-most, le-square}
 use Rattle.layout.proofs.Overfull.{fits-first, fits-next}
 use Rattle.layout.proofs.row_fits.Statement.{statement}
 use Rattle.layout.proofs.row_fits.Tie as tie
@@ -28,7 +28,7 @@ row-fits-spec =
     (λ c κs. omega arith)  -- upper-cell-requires
     (λ c.
     let s = c .before .before in
-    let h = counts-most _ (s .args .cells .now) (s .args .counts .now) (s .pre .1) (s .pre .2) (s .args .k) in
+    let h = counts-most (s .args .cells .now) (s .args .counts .now) (s .pre .2) (s .pre .3) (s .args .k) in
     omega (arith, mul-le-mul h h))  -- mul-ok
     (λ c.
     let s = c .before .before in
@@ -36,15 +36,15 @@ row-fits-spec =
     (λ c. omega arith)  -- add-l
     (λ c.
     let s = c .before .before in
-    let e = counted (s .args .cells .now) (s .args .counts .now) (s .pre .2) in
-    (omega arith, omega arith, rw (fits-first (matrixOf (s .args .cells .now)) (s .args .k) _ e, c .upper-cell .ensures .0)))  -- loop-holds
+    let e = counted-degree (s .args .cells .now) (s .args .counts .now) (s .pre .3) in
+    (omega arith, omega arith, rw (fits-first (matrixOf (s .args .cells .now)) (s .args .k) _ (s .pre .0) e, c .upper-cell .ensures .0)))  -- loop-holds
     (λ c κs. omega arith)  -- upper-cell-requires-2
     (λ c. omega arith)  -- mul-ok-2
     (λ c. omega arith)  -- element-copy-out-ok
     (λ c.
     let l = c .before .before .before in
     let s = l .before .before .before in
-    let h = counts-most _ (s .args .cells .now) (s .args .counts .now) (s .pre .1) (s .pre .2) in
+    let h = counts-most (s .args .cells .now) (s .args .counts .now) (s .pre .2) (s .pre .3) in
     omega (arith, mul-le-mul (h (s .args .k)) (h (l .loop .l))))  -- mul-ok-3
     (λ c. omega arith)  -- add-l-2
     (λ c. omega arith)  -- loop-less
@@ -52,9 +52,9 @@ row-fits-spec =
     let u = c .before in
     let l = u .before .before in
     let s = l .before .before .before in
-    let e = counted (s .args .cells .now) (s .args .counts .now) (s .pre .2) in (
+    let e = counted-degree (s .args .cells .now) (s .args .counts .now) (s .pre .3) in (
       omega arith,
       omega arith,
-      rw (fits-next (matrixOf (s .args .cells .now)) (s .args .k) _ e (l .loop .l) (l .loop .inv .0), l .loop .inv .2, u .upper-cell2 .ensures .0),
+      rw (fits-next (matrixOf (s .args .cells .now)) (s .args .k) _ (s .pre .0) e (l .loop .l) (l .loop .inv .0), l .loop .inv .2, u .upper-cell2 .ensures .0),
     ))  -- loop-again
     (λ c. let e : c .before .loop .l ≡ degrees = omega arith in rw e at (c .before .loop .inv .2)))  -- returns

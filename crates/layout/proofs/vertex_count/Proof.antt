@@ -28,14 +28,14 @@ vertex-count-spec =
     (λ c.
     let l = c .before .before in
     let s = l .before in
-    let m = counts-most _ (s .args .cells .now) (s .args .counts .now) (s .pre .0) (s .pre .1) (l .loop .k) in
+    let m = counts-most (s .args .cells .now) (s .args .counts .now) (s .pre .0) (s .pre .1) (l .loop .k) in
     omega arith)  -- add-n
     (λ c. omega arith)  -- add-k
     (λ c. omega arith)  -- loop-less
     (λ c.
     let l = c .before .before in
     let s = l .before in
-    let m = counts-most _ (s .args .cells .now) (s .args .counts .now) (s .pre .0) (s .pre .1) (l .loop .k) in
+    let m = counts-most (s .args .cells .now) (s .args .counts .now) (s .pre .0) (s .pre .1) (l .loop .k) in
     simp sumTo-more (omega arith))  -- loop-again
     (λ c.
     let l = c .before in

@@ -12,7 +12,7 @@ use Rattle.graph.specs.Target.{cellMost}
 use Rattle.finite.specs.Inner.Fill.{fillTo}
 use Rattle.graph.specs.Graph.{DegreeTable}
 use Rattle.graph.specs.Tests.{degrees, count, classCount, vertices, vertexDegree}
-use Rattle.table.specs.Inner.Cells.{matrixOf}
+use Rattle.table.specs.Inner.Cells.{matrixOf, cellSumMost}
 use Rattle.layout.specs.Layout.{mostVertices}
 
 -- how many vertices each degree has
@@ -27,13 +27,14 @@ classesOf t = fillTo (vertices t) (vertexDegree t) (replicate mostVertices 0)
 abbrev pub countIn : List ℕ → ℕ → ℕ
 countIn d k = getD d k 0
 
--- the table whose matrix and whose isolated vertices these arrays hold
-abbrev pub tableIn : List ℕ → List ℕ → DegreeTable
-tableIn cells counts = record { cells = matrixOf cells; isolated = countIn counts 0 }
+-- the table with this matrix and as many isolated vertices
+abbrev pub tableIn : List ℕ → ℕ → DegreeTable
+tableIn cells isolated = record { cells = matrixOf cells; isolated = isolated }
 
--- the array has the counts of the table with these cells
-abbrev pub Counts : List ℕ → List ℕ → Type 0
-Counts cells counts = counts ≡ countsOf (tableIn cells counts)
+-- the array has the counts of the table with these cells and the isolated vertices that it holds itself, no more than blocks can add up to
+pub record Counts (cells counts : List ℕ) : Type 0 where
+  pub same : counts ≡ countsOf (tableIn cells (countIn counts 0))
+  pub few : countIn counts 0 ≤ cellSumMost
 
 -- the class of vertex v as the array of classes has it
 abbrev pub classIn : List ℕ → ℕ → ℕ
