@@ -1,6 +1,6 @@
 -- The checks depend on the classes of the vertices alone, and the array of a layout has the class of each vertex.
 -- Assumes nothing.
-use mathlib.Core.Path.{_≡_, ap, sym, _∙_}
+use mathlib.Core.Path.{_≡_, ap, ap₂, sym, _∙_}
 use mathlib.Core.Bool.{Bool, false, _&&_, true≢false}
 use mathlib.Core.List.{List}
 use mathlib.Core.Logic.{_≢_}
@@ -13,22 +13,22 @@ use lib.ListN.{replicate, length-replicate}
 use Rattle.finite.specs.Range.{allTo}
 use Rattle.finite.proofs.All.{and-both, allTo-cong}
 use Rattle.finite.proofs.Fold.{fillTo-at}
-use Rattle.graph.specs.Graph.{degree, jdm}
-use Rattle.graph.specs.Tests.{degrees, count, vertices, vertexDegree}
+use Rattle.graph.specs.Graph.{degree, jdm, DegreeTable}
+use Rattle.graph.specs.Tests.{degrees, vertices, vertexDegree, classCount}
 use Rattle.graph.proofs.Matrix.{jdm-classes}
 use Rattle.graph.proofs.Numbering.{classOf-rises}
 use Rattle.graph.proofs.Counts.{vertex-class}
 use Rattle.layout.specs.Layout.{mostVertices}
 use Rattle.layout.specs.Inner.Arrays.{classesOf, classIn}
-use Rattle.adjacency.specs.Adjacency.{edge, degreesWithin, cellsWithin}
+use Rattle.adjacency.specs.Adjacency.{edge, degreesWithin, cellsWithin, adjacencyOk, mirrored, zeroOutside}
 
 module _ (n : ℕ) (cls cls′ : ℕ → ℕ) (same : (v : ℕ) → v < n → cls v ≡ cls′ v) (g : List ℕ) where
-  pub degreesWithin-same : degreesWithin n cls g ≡ degreesWithin n cls′ g
+  degreesWithin-same : degreesWithin n cls g ≡ degreesWithin n cls′ g
   degreesWithin-same =
       allTo-cong (λ v. leb (degree n (edge g) v) (cls v)) (λ v. leb (degree n (edge g) v) (cls′ v)) n
       (λ v l. ap (λ (k : ℕ). leb (degree n (edge g) v) k) (same v l))
 
-  pub cellsWithin-same : (T : ℕ → ℕ → ℕ) → cellsWithin n cls T g ≡ cellsWithin n cls′ T g
+  cellsWithin-same : (T : ℕ → ℕ → ℕ) → cellsWithin n cls T g ≡ cellsWithin n cls′ T g
   cellsWithin-same T = allTo-cong (row cls) (row cls′) degrees (λ k h. allTo-cong (at cls k) (at cls′ k) degrees (λ l m. cell k l))
     where
       at : (ℕ → ℕ) → ℕ → ℕ → Bool
@@ -40,15 +40,19 @@ module _ (n : ℕ) (cls cls′ : ℕ → ℕ) (same : (v : ℕ) → v < n → cl
       cell : (k l : ℕ) → at cls k l ≡ at cls′ k l
       cell k l = ap (λ (x : ℕ). leb x (T k l)) (jdm-classes n cls cls′ (edge g) same k l)
 
-module _ (T : ℕ → ℕ → ℕ) (small : vertices T ≤ mostVertices) where
-  pub class-at : (v : ℕ) → v < vertices T → classIn (classesOf T) v ≡ vertexDegree T v
-  class-at v h = fillTo-at (vertexDegree T) (replicate mostVertices 0) (vertices T) v (rw length-replicate small) h
+  pub adjacencyOk-same : (T : ℕ → ℕ → ℕ) → adjacencyOk n cls T g ≡ adjacencyOk n cls′ T g
+  adjacencyOk-same T = ap₂ (λ (d c : Bool). mirrored n g && zeroOutside n g && d && c) degreesWithin-same (cellsWithin-same T)
 
-  pub class-below : (v : ℕ) → v < vertices T → classIn (classesOf T) v < degrees
-  class-below v h = rw (class-at v h) (vertex-class T v h)
+-- the classes of a table's vertices, as the array has them
+module _ (t : DegreeTable) (small : vertices t ≤ mostVertices) where
+  pub class-at : (v : ℕ) → v < vertices t → classIn (classesOf t) v ≡ vertexDegree t v
+  class-at v h = fillTo-at (vertexDegree t) (replicate mostVertices 0) (vertices t) v (rw length-replicate small) h
 
-  pub class-rises : (v w : ℕ) → v ≤ w → w < vertices T → classIn (classesOf T) v ≤ classIn (classesOf T) w
-  class-rises v w h l = rw (class-at v (omega arith), class-at w l) (classOf-rises degrees (count T) v w h)
+  pub class-below : (v : ℕ) → v < vertices t → classIn (classesOf t) v < degrees
+  class-below v h = rw (class-at v h) (vertex-class t v h)
+
+  pub class-rises : (v w : ℕ) → v ≤ w → w < vertices t → classIn (classesOf t) v ≤ classIn (classesOf t) w
+  class-rises v w h l = rw (class-at v (omega arith), class-at w l) (classOf-rises degrees (classCount t) v w h)
 
 -- where classes rise and the first vertex not below class k is not of class k, no vertex is
 pub class-absent : (n k start : ℕ) (cls : ℕ → ℕ) → ((v w : ℕ) → v ≤ w → w < n → cls v ≤ cls w)

@@ -6,11 +6,11 @@ ghost use lib.Dec.{eqb, leb, ltb};
 ghost use lib.ListN.{length, getD, take, drop};
 ghost use Rattle.finite.specs.Range.{δ, sumTo, allTo};
 ghost use Rattle.graph.specs.Graph.{degree, edges};
-ghost use Rattle.graph.specs.Tests.{degrees, vertices, vertexDegree};
+ghost use Rattle.graph.specs.Tests.{degrees};
 ghost use Rattle.slices.specs.Slices.{allZero};
-ghost use Rattle.table.specs.Inner.Cells.{matrixOf, AtMost, cellSumMost};
+ghost use Rattle.table.specs.Inner.Cells.{matrixOf};
 ghost use Rattle.layout.specs.Layout.{mostVertices};
-ghost use Rattle.layout.specs.Inner.Arrays.{classesOf, classIn};
+ghost use Rattle.layout.specs.Inner.Arrays.{classIn};
 ghost use Rattle.adjacency.specs.Adjacency.{adjacencySize, side, edge, setEdge, rowMirrored, mirrored, zeroOutside, degreesWithin, cellsWithin, adjacencyOk};
 ghost use Rattle.adjacency.specs.Inner.Sums.{sumsSize, Added, classDegree};
 use layout::MOST_VERTICES;
@@ -260,15 +260,15 @@ pub fn set_edge(adjacency: &mut [u8], v: usize, w: usize, x: u8)
     adjacency[w * SIDE + v] = x;
 }
 
-// The matrix is as document 01 lays it down for a laid state with this table.
+// The matrix is as document 01 lays it down for a laid state with these classes and cells.
 pub fn adjacency_ok(
     adjacency: &[u8],
     n: usize,
     classes: &[u8; MOST_VERTICES],
     cells: &[u32; CELLS],
 ) -> bool
-    requires { ⌜ (length (now adjacency) ≡ adjacencySize) × (n ≡ vertices (matrixOf (now cells))) × (n ≤ mostVertices) × (now classes ≡ classesOf (matrixOf (now cells))) × AtMost cellSumMost (now cells) ⌝ }
-    ensures { λ r. ⌜ r ≡ adjacencyOk (vertices (matrixOf (now (cells .entry)))) (vertexDegree (matrixOf (now (cells .entry)))) (matrixOf (now (cells .entry))) (now (adjacency .entry)) ⌝ }
+    requires { ⌜ (length (now adjacency) ≡ adjacencySize) × (n ≤ mostVertices) × ((v : ℕ) → v < n → classIn (now classes) v < degrees) × ((v w : ℕ) → v ≤ w → w < n → classIn (now classes) v ≤ classIn (now classes) w) ⌝ }
+    ensures { λ r. ⌜ r ≡ adjacencyOk n (classIn (now (classes .entry))) (matrixOf (now (cells .entry))) (now (adjacency .entry)) ⌝ }
 {
     if !is_mirrored(adjacency, n) {
         return false;

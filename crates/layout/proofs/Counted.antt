@@ -1,6 +1,6 @@
 -- The array of counts holds how many vertices each degree has, and none is above a row's most.
 -- Assumes nothing.
-use mathlib.Core.Path.{_≡_, sym, ap, _∙_, subst, fun-ext}
+use mathlib.Core.Path.{_≡_, sym, ap, _∙_, fun-ext}
 use mathlib.Core.List.{List}
 use Prim.Native.Nat.{ℕ, zero, suc, _-_, _*_, _/_, _≤_, _<_}
 use native.Mathlib.Nat.{zero-div, div-le-self, mul-one, mul-sub, le-mul-of-pos-right}
