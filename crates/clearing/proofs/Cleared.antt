@@ -7,10 +7,10 @@ use Prim.Native.Nat.{ℕ}
 use lib.ListN.{length, replicate, length-replicate}
 use Rattle.answer.specs.declared.ClearAnswer.the-variants.{Cleared}
 use Rattle.slices.proofs.Zero.{getD-zeros}
-use Rattle.journal.specs.Journal.{journalSize, phase}
-use Rattle.journal.proofs.Empty.{phase-empty, blocks-empty, jdm-empty, valid-empty}
+use Rattle.journal.specs.Journal.{journalSize}
+use Rattle.journal.proofs.Empty.{phase-empty, blocks-empty, table-empty, valid-empty}
 use Rattle.adjacency.specs.Adjacency.{adjacencySize}
-use Rattle.state.specs.Valid.{lengthsOk, valid}
+use Rattle.state.specs.Valid.{lengthsOk}
 use Rattle.state.proofs.Facts.{lengths-journal, lengths-adjacency, lengths-both, facts-valid-0}
 use Rattle.clearing.specs.Clear.{clearAnswer, clearBytes, ClearedState, ClearingClears}
 
@@ -24,7 +24,7 @@ zeros-cleared m n a b =
       sound = facts-valid-0 j g (phase-empty j (getD-zeros m)) (valid-empty j (getD-zeros m)) (getD-zeros n);
       taking = phase-empty j (getD-zeros m);
       no-blocks = blocks-empty j (getD-zeros m);
-      no-cells = jdm-empty j (getD-zeros m);
+      no-table = table-empty j (getD-zeros m);
     }
 
 pub cleared-state : ClearedState (replicate journalSize 0) (replicate adjacencySize 0)

@@ -5,11 +5,12 @@ use mathlib.Core.Bool.{true}
 use mathlib.Core.List.{List}
 use Prim.Native.Nat.{ℕ}
 use lib.ListN.{length, replicate}
+use Rattle.graph.specs.Graph.{noTable}
 use Rattle.answer.specs.Refusals.{refusal, unless}
 use Rattle.answer.specs.declared.Cause.the-variants.{Length}
 use Rattle.answer.specs.declared.ClearAnswer.{ClearAnswer}
 use Rattle.answer.specs.declared.ClearAnswer.the-variants.{Cleared, Refused}
-use Rattle.journal.specs.Journal.{journalSize, phase, blocks, jdmOf}
+use Rattle.journal.specs.Journal.{journalSize, phase, blocks, tableOf}
 use Rattle.adjacency.specs.Adjacency.{adjacencySize}
 use Rattle.state.specs.Valid.{lengthsOk, valid}
 
@@ -27,7 +28,7 @@ pub record ClearedState (j g : List ℕ) : Type 0 where
   pub sound : valid j g ≡ true
   pub taking : phase j ≡ 0
   pub no-blocks : blocks j ≡ 0
-  pub no-cells : jdmOf j ≡ (λ k l. 0)
+  pub no-table : tableOf j ≡ noTable
 
 -- What is proved of clearing (proofs/Cleared.antt): any two lists of the right lengths become the same valid state, with no blocks.
 abbrev pub ClearingClears : Type 0

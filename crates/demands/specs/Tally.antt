@@ -11,9 +11,9 @@ use Rattle.answer.specs.declared.RemoveAnswer.{RemoveAnswer}
 use Rattle.answer.specs.declared.RemoveAnswer.the-variants as Remove
 use Rattle.answer.specs.declared.CompleteAnswer.{CompleteAnswer}
 use Rattle.answer.specs.declared.CompleteAnswer.the-variants as Complete
-use Rattle.graph.specs.Graph.{DegreeTable}
+use Rattle.graph.specs.Graph.{DegreeTable, noTable}
 use Rattle.graph.specs.Tests.{passes, vertices}
-use Rattle.table.specs.Block.{wellFormed, blockCell, blockIsolated}
+use Rattle.table.specs.Block.{wellFormed, plus}
 use Rattle.layout.specs.Layout.{mostVertices}
 use Rattle.journal.specs.Journal.{mostBlocks}
 use Rattle.adding.specs.Add.{addAnswer}
@@ -50,17 +50,13 @@ pub record Tally : Type 0 where
 
 -- at first 0, all 0, not laid, 0
 abbrev pub noTally : Tally
-noTally = record { blocks = 0; table = record { cells = λ k l. 0; isolated = 0 }; laid = false; edges = 0 }
+noTally = record { blocks = 0; table = noTable; laid = false; edges = 0 }
 
 -- A block that 4 and 5 let pass, numbered as the block count, while not laid and with that count below the most.
 abbrev pub counts : Tally → ℕ → List ℕ → Bool
 counts t number b = wellFormed b && eqb number (t .blocks) && not (t .laid) && ltb (t .blocks) mostBlocks
 
--- what block b adds to a table: to T, and to the isolated vertices
-abbrev pub plus : DegreeTable → List ℕ → DegreeTable
-plus t b = record { cells = λ k l. t .cells k l + blockCell b k l; isolated = t .isolated + blockIsolated b }
-
--- one block more, its records are added to the table
+-- one block more, its records are added to T and to the isolated vertices
 abbrev pub withBlock : Tally → List ℕ → Tally
 withBlock t b =
     record { blocks = t .blocks + 1; table = plus (t .table) b; laid = t .laid; edges = t .edges }

@@ -1,6 +1,6 @@
 -- N and the numbering of a table's vertices: the classes are the degrees, and the isolated vertices are class 0.
 -- Assumes nothing.
-use mathlib.Core.Path.{_≡_, sym, ap, _∙_}
+use mathlib.Core.Path.{_≡_, sym, ap, ap₂, _∙_, fun-ext}
 use Prim.Native.Nat.{ℕ, _+_, _≤_, _<_}
 use native.Mathlib.Omega.{arith}
 use borrow.Author.Tests.{le-ltb}
@@ -9,6 +9,13 @@ use Rattle.graph.specs.Graph.{size, DegreeTable}
 use Rattle.graph.specs.Numbering.{total}
 use Rattle.graph.specs.Tests.{leastDegree, mostDegree, degrees, count, classCount, vertices, vertexDegree}
 use Rattle.graph.proofs.Numbering.{classOf-below, classOf-size}
+
+-- tables with the same cells and the same isolated vertices are the same
+pub same-table : {t u : DegreeTable} → ((k l : ℕ) → t .cells k l ≡ u .cells k l) → t .isolated ≡ u .isolated → t ≡ u
+same-table c i = ap₂ made (fun-ext (λ k. fun-ext (λ l. c k l))) i
+  where
+    made : (ℕ → ℕ → ℕ) → ℕ → DegreeTable
+    made T n = record { cells = T; isolated = n }
 
 module _ (t : DegreeTable) where
   -- a degree of the table has D(k) vertices

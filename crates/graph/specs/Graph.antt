@@ -45,6 +45,10 @@ pub record DegreeTable : Type 0 where
   pub cells : ℕ → ℕ → ℕ
   pub isolated : ℕ
 
+-- that of no vertices
+abbrev pub noTable : DegreeTable
+noTable = record { cells = λ k l. 0; isolated = 0 }
+
 -- that of a graph
 abbrev pub ownTable : ℕ → Graph → DegreeTable
 ownTable n E = record { cells = ownJdm n E; isolated = isolated n E }

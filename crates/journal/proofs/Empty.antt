@@ -1,14 +1,17 @@
 -- The journal of zeros is valid, in phase 0, with no block.
 -- Assumes nothing.
-use mathlib.Core.Path.{_≡_, fun-ext}
+use mathlib.Core.Path.{_≡_}
 use mathlib.Core.Bool.{true}
 use mathlib.Core.List.{List}
 use Prim.Native.Nat.{ℕ, _+_}
 use native.Mathlib.Omega.{arith}
 use lib.ListN.{getD}
+use Rattle.finite.specs.Range.{sumTo}
 use Rattle.finite.proofs.Sum.{sumTo-none}
-use Rattle.table.specs.Block.{blockCell}
-use Rattle.journal.specs.Journal.{phase, blocks, slotAt, blockAt, journalOk, jdmOf}
+use Rattle.graph.specs.Graph.{noTable}
+use Rattle.graph.proofs.Counts.{same-table}
+use Rattle.table.specs.Block.{blockCell, blockIsolated}
+use Rattle.journal.specs.Journal.{phase, blocks, slotAt, blockAt, journalOk, tableOf}
 use Rattle.journal.proofs.Facts.{facts-journal}
 use Rattle.journal.proofs.Slot.{zero-rest}
 
@@ -19,8 +22,11 @@ module _ (j : List ℕ) (zeros : (p : ℕ) → getD j p 0 ≡ 0) where
   pub blocks-empty : blocks j ≡ 0
   blocks-empty = zeros 1
 
-  pub jdm-empty : jdmOf j ≡ (λ k l. 0)
-  jdm-empty = fun-ext (λ k. fun-ext (λ l. rw blocks-empty (sumTo-none (λ i. blockCell (blockAt j i) k l))))
+  sum-empty : (adds : List ℕ → ℕ) → sumTo (blocks j) (λ i. adds (blockAt j i)) ≡ 0
+  sum-empty adds = rw blocks-empty (sumTo-none (λ i. adds (blockAt j i)))
+
+  pub table-empty : tableOf j ≡ noTable
+  table-empty = same-table (λ k l. sum-empty (λ b. blockCell b k l)) (sum-empty blockIsolated)
 
   pub valid-empty : journalOk j ≡ true
   valid-empty =

@@ -1,6 +1,6 @@
 -- The journal in phase 1: its blocks, matrix and validity are those that it had.
 -- Assumes nothing.
-use mathlib.Core.Path.{_≡_, ap, fun-ext}
+use mathlib.Core.Path.{_≡_, ap}
 use mathlib.Core.List.{List}
 use Prim.Native.Nat.{ℕ, _+_, _≤_}
 use native.Mathlib.Omega.{arith}
@@ -9,8 +9,10 @@ use lib.Seq.{getD-set-same, getD-set-other, drop-set-lt}
 use borrow.Author.Tests.{le-leb}
 use Rattle.finite.proofs.All.{allTo-cong}
 use Rattle.finite.proofs.Sum.{sumTo-cong}
-use Rattle.table.specs.Block.{blockCell}
-use Rattle.journal.specs.Journal.{journalSize, mostBlocks, phase, blocks, slotAt, slotLength, blockAt, slotRest, slotOk, journalOk, jdmOf, laid}
+use Rattle.finite.specs.Range.{sumTo}
+use Rattle.graph.proofs.Counts.{same-table}
+use Rattle.table.specs.Block.{blockCell, blockIsolated}
+use Rattle.journal.specs.Journal.{journalSize, mostBlocks, phase, blocks, slotAt, slotLength, blockAt, slotRest, slotOk, journalOk, tableOf, laid}
 
 module _ (j : List ℕ) where
   pub length-laid : length (laid j) ≡ length j
@@ -31,10 +33,13 @@ module _ (j : List ℕ) where
   slotOk-laid : (i : ℕ) → slotOk (laid j) i ≡ slotOk j i
   slotOk-laid i = rw (blocks-laid, blockAt-laid i, slotRest-laid i, slotLength-laid i)
 
-  pub jdm-laid : jdmOf (laid j) ≡ jdmOf j
-  jdm-laid =
-      fun-ext (λ k. fun-ext (λ l. rw blocks-laid (sumTo-cong (blocks j) (λ i. blockCell (blockAt (laid j) i) k l) (λ i. blockCell (blockAt j i) k l)
-      (λ i h. ap (λ (b : List ℕ). blockCell b k l) (blockAt-laid i)))))
+  -- whatever its blocks add up to stays
+  sum-laid : (adds : List ℕ → ℕ) → sumTo (blocks (laid j)) (λ i. adds (blockAt (laid j) i)) ≡ sumTo (blocks j) (λ i. adds (blockAt j i))
+  sum-laid adds =
+      rw blocks-laid (sumTo-cong (blocks j) (λ i. adds (blockAt (laid j) i)) (λ i. adds (blockAt j i)) (λ i h. ap adds (blockAt-laid i)))
+
+  pub table-laid : tableOf (laid j) ≡ tableOf j
+  table-laid = same-table (λ k l. sum-laid (λ b. blockCell b k l)) (sum-laid blockIsolated)
 
   pub phase-laid : length j ≡ journalSize → phase (laid j) ≡ 1
   phase-laid e = getD-set-same j 0 1 0 (omega arith)

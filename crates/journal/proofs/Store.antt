@@ -1,6 +1,6 @@
--- Storing a block: the journal's bytes, its blocks, that it stays valid, and the matrix that its blocks add up to.
+-- Storing a block: the journal's bytes, its blocks, that it stays valid, and the table that its blocks add up to.
 -- Assumes nothing.
-use mathlib.Core.Path.{_≡_, sym, ap, _∙_, fun-ext}
+use mathlib.Core.Path.{_≡_, sym, ap, _∙_}
 use mathlib.Core.Bool.{true}
 use mathlib.Core.List.{List, _∷_}
 use Prim.Native.Nat.{ℕ, suc, _+_, _≤_, _<_}
@@ -10,10 +10,12 @@ use native.Mathlib.Omega.{arith}
 use lib.ListN.{length, getD, take, drop, length-set}
 use lib.Seq.{sets, length-sets, getD-set-same, getD-set-other, ext-getD}
 use Rattle.finite.proofs.Sum.{sumTo-more, sumTo-cong}
+use Rattle.finite.specs.Range.{sumTo}
+use Rattle.graph.proofs.Counts.{same-table}
 use Rattle.slices.specs.Slices.{allZero}
 use Rattle.slices.proofs.Part.{length-part, getD-part, getD-sets-before, getD-sets-after, getD-sets-in}
-use Rattle.table.specs.Block.{blockMost, blockLength, records, firstBad, wellFormed, blockCell}
-use Rattle.journal.specs.Journal.{journalSize, mostBlocks, slotSize, phase, blocks, slotAt, slotLength, blockAt, slotRest, journalOk, jdmOf, stored}
+use Rattle.table.specs.Block.{blockMost, blockLength, records, firstBad, wellFormed, blockCell, blockIsolated, plus}
+use Rattle.journal.specs.Journal.{journalSize, mostBlocks, slotSize, phase, blocks, slotAt, slotLength, blockAt, slotRest, journalOk, tableOf, stored}
 use Rattle.journal.proofs.Facts.{Facts, journal-facts, facts-journal, length-most, slot-most, well-formed-length, well-formed-good}
 use Rattle.journal.proofs.Slot.{rest-zero, zero-rest, slotLength-kept, blockAt-kept, slotRest-kept}
 
@@ -141,15 +143,16 @@ module _ (j b : List ℕ) (size : length j ≡ journalSize) (ok : journalOk j �
       rest-at i l (no e) =
           rw (slotRest-kept j (stored j b) (same-size j b size room most) i (kept j b size room most i e)) (f .rest i l)
 
-  pub jdm-stored : jdmOf (stored j b) ≡ (λ k l. jdmOf j k l + blockCell b k l)
-  jdm-stored = fun-ext (λ k. fun-ext (λ l. cell k l))
-    where
-      cell : (k l : ℕ) → jdmOf (stored j b) k l ≡ jdmOf j k l + blockCell b k l
-      cell k l =
-          rw (
-            blocks-stored,
-            sumTo-more,
-            blockAt-new,
-            sumTo-cong (blocks j) (λ i. blockCell (blockAt (stored j b) i) k l)
-                (λ i. blockCell (blockAt j i) k l) (λ i h. ap (λ (c : List ℕ). blockCell c k l) (blockAt-stored i h)),
-          )
+  -- whatever the blocks add up to, the new one adds to it
+  sum-stored : (adds : List ℕ → ℕ) →
+      sumTo (blocks (stored j b)) (λ i. adds (blockAt (stored j b) i)) ≡ sumTo (blocks j) (λ i. adds (blockAt j i)) + adds b
+  sum-stored adds =
+      rw (
+        blocks-stored,
+        sumTo-more,
+        blockAt-new,
+        sumTo-cong (blocks j) (λ i. adds (blockAt (stored j b) i)) (λ i. adds (blockAt j i)) (λ i h. ap adds (blockAt-stored i h)),
+      )
+
+  pub table-stored : tableOf (stored j b) ≡ plus (tableOf j) b
+  table-stored = same-table (λ k l. sum-stored (λ b. blockCell b k l)) (sum-stored blockIsolated)

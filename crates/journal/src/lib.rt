@@ -5,10 +5,10 @@ ghost use lib.Dec.{eqb};
 ghost use Rattle.finite.specs.Range.{allTo};
 ghost use Rattle.slices.specs.Slices.{allZero, further};
 ghost use Prim.Native.Nat.{_+_, _*_, _≤_, _<_};
-ghost use lib.ListN.{length};
+ghost use lib.ListN.{length, replicate};
 ghost use Rattle.table.specs.Block.{blockMost, blockLength, records, firstBad};
-ghost use Rattle.table.specs.Inner.Cells.{matrixOf, AtMost, cellSumMost};
-ghost use Rattle.journal.specs.Journal.{journalSize, mostBlocks, slotLength, blockFrom, blockAt, slotRest, slotOk, journalOk, jdmOf, sameBlock, stored, laid, phase, blocks};
+ghost use Rattle.table.specs.Inner.Cells.{cellsSize, matrixOf, AtMost, cellSumMost};
+ghost use Rattle.journal.specs.Journal.{journalSize, mostBlocks, slotLength, blockFrom, blockAt, slotRest, slotOk, journalOk, jdmOf, isolatedOf, sameBlock, stored, laid, phase, blocks};
 use slices::all_zero;
 use slices::same_bytes;
 use slices::wide;
@@ -113,16 +113,16 @@ pub fn journal_ok(journal: &[u8]) -> bool
     (phase_of(journal) <= 1) & (block_count(journal) <= MOST_BLOCKS) & slots_ok(journal)
 }
 
-// The joint degree matrix of all blocks.
-pub fn cells_of(journal: &[u8]) -> [u32; CELLS]
-    requires { ⌜ (length (now journal) ≡ journalSize) × (journalOk (now journal) ≡ true) ⌝ }
-    ensures { λ r. ⌜ (matrixOf r ≡ jdmOf (now (journal .entry))) × AtMost cellSumMost r ⌝ }
+// The sum of all blocks, in an array of zeros: the joint degree matrix, and beside it the number of isolated vertices.
+pub fn sum_blocks(journal: &[u8], cells: &mut [u32; CELLS]) -> usize
+    requires { ⌜ (length (now journal) ≡ journalSize) × (journalOk (now journal) ≡ true) × (now cells ≡ replicate cellsSize 0) ⌝ }
+    ensures { λ r. ⌜ (r ≡ isolatedOf (now (journal .entry))) × (r ≤ cellSumMost) ⌝ }
+    ensures { λ _. ⌜ (matrixOf (now (cells .exit)) ≡ jdmOf (now (journal .entry))) × AtMost cellSumMost (now (cells .exit)) ⌝ }
 {
-    let mut cells = [0u32; CELLS];
     for i in 0..block_count(journal) {
-        table::cells::add_block(&mut cells, block_part(journal, i));
+        table::cells::add_block(cells, block_part(journal, i));
     }
-    cells
+    table::cells::take_isolated(cells)
 }
 
 // Block i of the journal is this block.

@@ -7,6 +7,7 @@ use Prim.Native.Nat.{ℕ, _+_, _*_, _/_, _%_}
 use lib.Dec.{eqb, ltb, leb}
 use lib.ListN.{length, getD}
 use Rattle.finite.specs.Range.{sumTo, lowest}
+use Rattle.graph.specs.Graph.{DegreeTable}
 use Rattle.graph.specs.Tests.{leastDegree, mostDegree}
 use Rattle.table.specs.declared.degree.MadeDegree.{MadeDegree}
 use Rattle.table.specs.declared.degree.MadeDegree.the-variants.{Made, OutOfRange}
@@ -83,3 +84,7 @@ blockCell b k l = sumTo (records b) (λ i. recordCell b i k l)
 -- how many isolated vertices the block adds
 abbrev pub blockIsolated : List ℕ → ℕ
 blockIsolated b = sumTo (records b) (recordIsolated b)
+
+-- the table t with the block added
+abbrev pub plus : DegreeTable → List ℕ → DegreeTable
+plus t b = record { cells = λ k l. t .cells k l + blockCell b k l; isolated = t .isolated + blockIsolated b }
