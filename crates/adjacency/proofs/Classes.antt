@@ -40,19 +40,23 @@ module _ (n : ℕ) (cls cls′ : ℕ → ℕ) (same : (v : ℕ) → v < n → cl
       cell : (k l : ℕ) → at cls k l ≡ at cls′ k l
       cell k l = ap (λ (x : ℕ). leb x (T k l)) (jdm-classes n cls cls′ (edge g) same k l)
 
-  pub adjacencyOk-same : (T : ℕ → ℕ → ℕ) → adjacencyOk n cls T g ≡ adjacencyOk n cls′ T g
+  adjacencyOk-same : (T : ℕ → ℕ → ℕ) → adjacencyOk n cls T g ≡ adjacencyOk n cls′ T g
   adjacencyOk-same T = ap₂ (λ (d c : Bool). mirrored n g && zeroOutside n g && d && c) degreesWithin-same (cellsWithin-same T)
 
 -- the classes of a table's vertices, as the array has them
-module _ (t : DegreeTable) (small : vertices t ≤ mostVertices) where
-  pub class-at : (v : ℕ) → v < vertices t → classIn (classesOf t) v ≡ vertexDegree t v
-  class-at v h = fillTo-at (vertexDegree t) (replicate mostVertices 0) (vertices t) v (rw length-replicate small) h
+module _ (t : DegreeTable) (small : vertices t ≤ mostVertices) {n : ℕ} {classes : List ℕ} (en : n ≡ vertices t) (ec : classes ≡ classesOf t) where
+  class-at : (v : ℕ) → v < n → classIn classes v ≡ vertexDegree t v
+  class-at v h = rw ec (fillTo-at (vertexDegree t) (replicate mostVertices 0) (vertices t) v (rw length-replicate small) (rw en at h))
 
-  pub class-below : (v : ℕ) → v < vertices t → classIn (classesOf t) v < degrees
-  class-below v h = rw (class-at v h) (vertex-class t v h)
+  pub class-below : (v : ℕ) → v < n → classIn classes v < degrees
+  class-below v h = rw (class-at v h) (vertex-class t v (rw en at h))
 
-  pub class-rises : (v w : ℕ) → v ≤ w → w < vertices t → classIn (classesOf t) v ≤ classIn (classesOf t) w
+  pub class-rises : (v w : ℕ) → v ≤ w → w < n → classIn classes v ≤ classIn classes w
   class-rises v w h l = rw (class-at v (omega arith), class-at w l) (classOf-rises degrees (classCount t) v w h)
+
+  pub adjacencyOk-table : (T : ℕ → ℕ → ℕ) (g : List ℕ) → adjacencyOk n (classIn classes) T g ≡ adjacencyOk (vertices t) (vertexDegree t) T g
+  adjacencyOk-table T g =
+      adjacencyOk-same n (classIn classes) (vertexDegree t) class-at g T ∙ ap (λ (m : ℕ). adjacencyOk m (vertexDegree t) T g) en
 
 -- where classes rise and the first vertex not below class k is not of class k, no vertex is
 pub class-absent : (n k start : ℕ) (cls : ℕ → ℕ) → ((v w : ℕ) → v ≤ w → w < n → cls v ≤ cls w)

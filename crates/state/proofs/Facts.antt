@@ -16,7 +16,7 @@ use Rattle.graph.proofs.Realizability.{table-target}
 use Rattle.slices.specs.Slices.{allZero}
 use Rattle.slices.proofs.Zero.{all-zero-at, zeros-all-zero}
 use Rattle.layout.specs.Layout.{mostVertices}
-use Rattle.journal.specs.Journal.{journalSize, phase, journalOk, jdmOf}
+use Rattle.journal.specs.Journal.{journalSize, phase, journalOk, jdmOf, tableOf}
 use Rattle.journal.proofs.Table.{jdm-table}
 use Rattle.adjacency.specs.Adjacency.{adjacencySize, adjacencyOk, edge}
 use Rattle.adjacency.proofs.Facts.{ZeroOutside, adjacency-facts}
@@ -56,7 +56,7 @@ module _ (j g : List ℕ) where
 
   -- the check of the matrix, in either phase
   matrixOk : Bool
-  matrixOk = cond (eqb (phase j) 0) (allZero g) (laidOk (jdmOf j) g)
+  matrixOk = cond (eqb (phase j) 0) (allZero g) (laidOk (tableOf j) g)
 
   pub valid-journal : valid j g ≡ true → journalOk j ≡ true
   unfolding matrixOk
@@ -66,7 +66,7 @@ module _ (j g : List ℕ) where
   unfolding matrixOk
   matrix-ok h = and-right (journalOk j) matrixOk h
 
-  laid-tests : laidOk (jdmOf j) g ≡ true → (passes (jdmOf j) ≡ true) × (vertexCount j ≤ mostVertices)
+  laid-tests : laidOk (tableOf j) g ≡ true → (passes (jdmOf j) ≡ true) × (vertexCount j ≤ mostVertices)
       × (adjacencyOk (vertexCount j) (degreeAt j) (jdmOf j) g ≡ true)
   laid-tests h =
       let two = and-left (passes (jdmOf j) && leb (vertexCount j) mostVertices) (adjacencyOk (vertexCount j) (degreeAt j) (jdmOf j) g) h in (
@@ -75,7 +75,7 @@ module _ (j g : List ℕ) where
         and-right (passes (jdmOf j) && leb (vertexCount j) mostVertices) (adjacencyOk (vertexCount j) (degreeAt j) (jdmOf j) g) h,
       )
 
-  laid-facts : journalOk j ≡ true → laidOk (jdmOf j) g ≡ true → Laid j g
+  laid-facts : journalOk j ≡ true → laidOk (tableOf j) g ≡ true → Laid j g
   laid-facts ok h =
       let t = laid-tests h in
       let a = adjacency-facts (vertexCount j) (degreeAt j) (jdmOf j) g (t .2) in
@@ -83,7 +83,7 @@ module _ (j g : List ℕ) where
         passed = t .0;
         vertices-le = t .1;
         adjacency-ok = t .2;
-        target = table-target (jdmOf j) (jdm-table j ok) (passes-passed (jdmOf j) .0 (t .0));
+        target = table-target (tableOf j) (jdm-table j ok) (passes-passed (jdmOf j) .0 (t .0));
         partial = record { simple = a .simple; within = a .within; room = a .room };
         outside = a .outside;
       }

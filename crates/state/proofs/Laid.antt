@@ -6,6 +6,7 @@ use mathlib.Core.List.{List}
 use Prim.Native.Nat.{ℕ}
 use lib.Dec.{leb}
 use borrow.Author.Tests.{leb-true, le-leb}
+use Rattle.graph.specs.Graph.{DegreeTable}
 use Rattle.graph.specs.Tests.{passes, vertices, vertexDegree}
 use Rattle.answer.specs.declared.Refusal.{Refusal}
 use Rattle.answer.specs.declared.Verdict.{Verdict}
@@ -19,15 +20,15 @@ abbrev IsGo : Verdict → Type 0
 IsGo Go = Unit {0}
 IsGo (Stop r) = ⊥
 
-module _ (T : ℕ → ℕ → ℕ) (g : List ℕ) where
-  pub laid-go : layoutVerdict T ≡ Go → laidOk T g ≡ adjacencyOk (vertices T) (vertexDegree T) T g
-  laid-go e = rw (layout-go T e .0, le-leb (vertices T) mostVertices (layout-go T e .1))
+module _ (t : DegreeTable) (g : List ℕ) where
+  pub laid-go : layoutVerdict t ≡ Go → laidOk t g ≡ adjacencyOk (vertices t) (vertexDegree t) (t .cells) g
+  laid-go e = rw (layout-go t e .0, le-leb (vertices t) mostVertices (layout-go t e .1))
 
   -- a table that is turned down is not laid
-  pub laid-stop : (r : Refusal) → layoutVerdict T ≡ Stop r → laidOk T g ≡ false
-  laid-stop r e = go (passes T) refl (leb (vertices T) mostVertices) refl
+  pub laid-stop : (r : Refusal) → layoutVerdict t ≡ Stop r → laidOk t g ≡ false
+  laid-stop r e = go (passes (t .cells)) refl (leb (vertices t) mostVertices) refl
     where
-      go : (p : Bool) → passes T ≡ p → (q : Bool) → leb (vertices T) mostVertices ≡ q → laidOk T g ≡ false
-      go true a true b = absurd (subst IsGo (sym (go-layout T a (leb-true (vertices T) mostVertices b)) ∙ e) tt)
+      go : (p : Bool) → passes (t .cells) ≡ p → (q : Bool) → leb (vertices t) mostVertices ≡ q → laidOk t g ≡ false
+      go true a true b = absurd (subst IsGo (sym (go-layout t a (leb-true (vertices t) mostVertices b)) ∙ e) tt)
       go true a false b = rw (a, b)
       go false a q b = rw a

@@ -1,8 +1,10 @@
 // The state: journal and adjacency together, and the checks of both with which every entry but clear and survey begins.
 ghost use mathlib.Core.Path.{_≡_};
 ghost use mathlib.Core.Bool.{true};
-ghost use lib.ListN.{length};
-ghost use Rattle.journal.specs.Journal.{journalSize, journalOk, jdmOf};
+ghost use lib.ListN.{length, replicate};
+ghost use Rattle.table.specs.Inner.Cells.{cellsSize, AtMost, cellSumMost};
+ghost use Rattle.layout.specs.Inner.Arrays.{countIn, tableIn, Counts};
+ghost use Rattle.journal.specs.Journal.{journalSize, journalOk, tableOf};
 ghost use Rattle.adjacency.specs.Adjacency.{adjacencySize};
 ghost use Rattle.state.specs.Valid.{lengthsOk, laidOk, valid};
 ghost use Rattle.state.specs.Checks.{stateVerdict, phaseVerdict};
@@ -13,13 +15,15 @@ use answer::Cause;
 use answer::Verdict;
 use answer::stopped;
 use journal::JOURNAL_SIZE;
-use journal::cells_of;
 use journal::journal_ok;
 use journal::phase_of;
+use journal::sum_blocks;
 use layout::classes;
 use layout::counts;
 use layout::layout_check;
 use layout::vertex_count;
+use table::cells::CELLS;
+use table::degree::DEGREES;
 
 // Both have their lengths.
 pub fn lengths_ok(journal: &[u8], adjacency: &[u8]) -> bool
@@ -28,13 +32,22 @@ pub fn lengths_ok(journal: &[u8], adjacency: &[u8]) -> bool
     (journal.len() == JOURNAL_SIZE) & (adjacency.len() == ADJACENCY_SIZE)
 }
 
+// What the journal says: the cells of its table, in an array of zeros, and how many vertices each degree has.
+pub fn sum_table(journal: &[u8], cells: &mut [u32; CELLS]) -> [usize; DEGREES]
+    requires { ⌜ (length (now journal) ≡ journalSize) × (journalOk (now journal) ≡ true) × (now cells ≡ replicate cellsSize 0) ⌝ }
+    ensures { λ r. ⌜ (tableIn (now (cells .exit)) (countIn r 0) ≡ tableOf (now (journal .entry))) × AtMost cellSumMost (now (cells .exit)) × Counts (now (cells .exit)) r ⌝ }
+{
+    let isolated = sum_blocks(journal, cells);
+    counts(cells, isolated)
+}
+
 // Phase 1: the table passes its tests, and the matrix is one of its partial graphs.
 fn is_laid_ok(journal: &[u8], adjacency: &[u8]) -> bool
     requires { ⌜ (length (now journal) ≡ journalSize) × (length (now adjacency) ≡ adjacencySize) × (journalOk (now journal) ≡ true) ⌝ }
-    ensures { λ r. ⌜ r ≡ laidOk (jdmOf (now (journal .entry))) (now (adjacency .entry)) ⌝ }
+    ensures { λ r. ⌜ r ≡ laidOk (tableOf (now (journal .entry))) (now (adjacency .entry)) ⌝ }
 {
-    let cells = cells_of(journal);
-    let d = counts(&cells);
+    let mut cells = [0u32; CELLS];
+    let d = sum_table(journal, &mut cells);
     let verdict = layout_check(&cells, &d);
     match verdict {
         Verdict::Stop(_) => false,
@@ -93,7 +106,7 @@ pub fn laid_vertices(journal: &[u8]) -> usize
     requires { ⌜ (length (now journal) ≡ journalSize) × (journalOk (now journal) ≡ true) ⌝ }
     ensures { λ r. ⌜ r ≡ vertexCount (now (journal .entry)) ⌝ }
 {
-    let cells = cells_of(journal);
-    let d = counts(&cells);
+    let mut cells = [0u32; CELLS];
+    let d = sum_table(journal, &mut cells);
     vertex_count(&cells, &d)
 }

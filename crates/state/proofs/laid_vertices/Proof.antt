@@ -1,5 +1,6 @@
 -- `state::laid_vertices` meets its contract.
-use mathlib.Core.Path.{ap, _∙_}
+-- Assumes nothing.
+use mathlib.Core.Path.{refl, ap, _∙_}
 use Rattle.graph.specs.Tests.{vertices}
 use Rattle.state.proofs.laid_vertices.Statement.{statement}
 use Rattle.state.proofs.laid_vertices.Tie as tie
@@ -7,7 +8,6 @@ use Rattle.state.proofs.laid_vertices.Tie as tie
 pub laid-vertices-spec : {M : Type 1} → statement M
 laid-vertices-spec =
     tie.close (tie.spec
-    (λ c κs. c .before .pre)  -- cells-of-requires
-    (λ c κs. c .before .cells-of .ensures .1)  -- counts-requires
-    (λ c κs. (c .before .before .before .before .cells-of .ensures .1, c .before .before .counts .ensures))  -- vertex-count-requires
-    (λ c. c .vertex-count .ensures ∙ ap vertices (c .before .before .before .before .before .cells-of .ensures .0)))  -- returns
+    (λ c κs. let s = c .before .before in (s .pre .0, s .pre .1, refl))  -- sum-table-requires
+    (λ c κs. let t = c .before .before .sum-table .ensures in (t .1, t .2))  -- vertex-count-requires
+    (λ c. c .vertex-count .ensures ∙ ap vertices (c .before .before .before .sum-table .ensures .0)))  -- returns
