@@ -5,10 +5,10 @@ ghost use lib.Dec.{ltb};
 ghost use lib.ListN.{length, getD};
 ghost use Rattle.answer.specs.Refusals.{refusal};
 ghost use Rattle.answer.specs.declared.Cause.the-variants.{CellFull};
-ghost use Rattle.graph.specs.Tests.{degrees, vertices};
+ghost use Rattle.graph.specs.Tests.{degrees};
 ghost use Rattle.table.specs.Inner.Cells.{matrixOf, AtMost, cellSumMost};
 ghost use Rattle.answer.specs.declared.Verdict.the-variants.{Go};
-ghost use Rattle.layout.specs.Inner.Arrays.{countsOf};
+ghost use Rattle.layout.specs.Inner.Arrays.{countIn, tableIn, Counts};
 ghost use Rattle.adjacency.specs.Adjacency.{adjacencySize, edge};
 ghost use Rattle.state.specs.Checks.{phaseVerdict};
 ghost use Rattle.classes.specs.Inner.Block.{blockSum, BlockOf};
@@ -26,10 +26,9 @@ use classes::class_at;
 use classes::starts;
 use joining::End;
 use joining::once::join_once;
-use journal::cells_of;
-use layout::counts;
 use layout::vertex_count;
 use state::phase_check;
+use state::sum_table;
 use table::cells::CELLS;
 use table::cells::cell;
 use table::degree::DEGREES;
@@ -70,9 +69,9 @@ fn add_unlinked(
     v: usize,
     w: usize,
 ) -> AddAnswer
-    requires { ⌜ Unlinked (matrixOf (now cells)) (now adjacency) v w × AtMost cellSumMost (now cells) × (now counts ≡ countsOf (matrixOf (now cells))) ⌝ }
-    ensures { λ r. ⌜ r ≡ addUnlinked (matrixOf (now (cells .entry))) (now (adjacency .entry)) v w ⌝ }
-    ensures { λ _. ⌜ now (adjacency .exit) ≡ addedAdjacency (addUnlinked (matrixOf (now (cells .entry))) (now (adjacency .entry)) v w) (matrixOf (now (cells .entry))) (now (adjacency .entry)) v w ⌝ }
+    requires { ⌜ Unlinked (tableIn (now cells) (countIn (now counts) 0)) (now adjacency) v w × AtMost cellSumMost (now cells) × Counts (now cells) (now counts) ⌝ }
+    ensures { λ r. ⌜ r ≡ addUnlinked (tableIn (now (cells .entry)) (countIn (now (counts .entry)) 0)) (now (adjacency .entry)) v w ⌝ }
+    ensures { λ _. ⌜ now (adjacency .exit) ≡ (let t = tableIn (now (cells .entry)) (countIn (now (counts .entry)) 0) in addedAdjacency (addUnlinked t (now (adjacency .entry)) v w) t (now (adjacency .entry)) v w) ⌝ }
 {
     let s = starts(counts);
     let k = class_at(&s, v);
@@ -100,8 +99,8 @@ fn add_laid(journal: &[u8], adjacency: &mut [u8], v: usize, w: usize) -> AddAnsw
     ensures { λ r. ⌜ r ≡ addLaid (now (journal .entry)) (now (adjacency .entry)) v w ⌝ }
     ensures { λ _. ⌜ now (adjacency .exit) ≡ addAdjacency (addLaid (now (journal .entry)) (now (adjacency .entry)) v w) (now (journal .entry)) (now (adjacency .entry)) v w ⌝ }
 {
-    let cells = cells_of(journal);
-    let d = counts(&cells);
+    let mut cells = [0u32; CELLS];
+    let d = sum_table(journal, &mut cells);
     let n = vertex_count(&cells, &d);
     if n <= v {
         return AddAnswer::Refused(refuse(Cause::VertexNumber, 0, 0));

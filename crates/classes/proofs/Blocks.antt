@@ -16,8 +16,7 @@ use Rattle.graph.specs.Numbering.{total, classOf}
 use Rattle.graph.specs.Tests.{degrees, vertices, vertexDegree}
 use Rattle.graph.proofs.Numbering.{classOf-range}
 use Rattle.graph.proofs.Ranges.{jdm-block}
-use Rattle.layout.specs.Inner.Arrays.{countIn, countsOf}
-use Rattle.table.specs.Inner.Cells.{matrixOf}
+use Rattle.layout.specs.Inner.Arrays.{countIn, tableIn, Counts}
 use Rattle.layout.proofs.Counted.{counted, counted-total}
 use Rattle.adjacency.specs.Adjacency.{edge}
 use Rattle.classes.specs.Inner.Block.{startsOf, Numbered, classFrom, blockSum, triangleSum, BlockOf}
@@ -83,11 +82,11 @@ module _ {n : ℕ} {starts : List ℕ} (m : Numbered n starts) where
       ∙ ap₂ (λ (i : ℕ) (cls : ℕ → ℕ). jdm i cls E k l) (m .all) (sym (class-counted (m .counts)) ∙ sym (ap classFrom (m .started)))
 
 -- the starts of a table's classes
-module _ (cells : List ℕ) {counts starts : List ℕ} (ed : counts ≡ countsOf (matrixOf cells)) (es : starts ≡ startsOf counts) where
-  pub table-numbered : Numbered (vertices (matrixOf cells)) starts
+module _ (cells : List ℕ) {counts starts : List ℕ} (ed : Counts cells counts) (es : starts ≡ startsOf counts) where
+  pub table-numbered : Numbered (vertices (tableIn cells (countIn counts 0))) starts
   table-numbered = record { counts = counts; started = es; all = counted-total cells counts ed }
 
-  pub table-classes : classFrom starts ≡ vertexDegree (matrixOf cells)
+  pub table-classes : classFrom starts ≡ vertexDegree (tableIn cells (countIn counts 0))
   table-classes = ap classFrom es ∙ class-counted counts ∙ ap (classOf degrees) (counted cells counts ed)
 
 -- a block on the diagonal of a simple graph

@@ -1,14 +1,15 @@
 -- `adding::add_laid` meets its contract.
-use mathlib.Core.Path.{refl, sym, ap, _∙_}
-use Prim.Native.Nat.{ℕ}
+-- Assumes nothing.
+use mathlib.Core.Path.{refl, sym, ap, subst, _∙_}
 use native.Mathlib.Omega.{arith}
 use borrow.Author.Needs.{needs}
 use borrow.Author.Tests.{lt-ltb, le-ltb, eq-eqb, ne-eqb}
 use Rattle.answer.specs.declared.AddAnswer.the-variants.{Refused}
+use Rattle.graph.specs.Graph.{DegreeTable}
 use Rattle.graph.specs.Tests.{vertices}
-use Rattle.journal.specs.Journal.{jdmOf}
+use Rattle.journal.specs.Journal.{tableOf}
 use Rattle.state.proofs.Checks.{phase-facts}
-use Rattle.adding.specs.Inner.Work.{addUnlinked, addedAdjacency}
+use Rattle.adding.specs.Inner.Work.{Unlinked, addUnlinked, addedAdjacency}
 use Rattle.adding.proofs.Unlinked.{adjacency-of}
 use Rattle.adding.proofs.add_laid.Statement.{statement}
 use Rattle.adding.proofs.add_laid.Tie as tie
@@ -17,23 +18,22 @@ pub add-laid-spec : {M : Type 1} → statement M
 add-laid-spec =
     tie.close (tie.spec
     (λ c κs.
-    let s = c .before .before in
+    let s = c .before .before .before in
     let f = phase-facts 1 (s .args .journal .now) (s .args .adjacency .now) (s .pre) in
-    (f .0 .journal-length, f .0 .journal-ok))  -- cells-of-requires
-    (λ c κs. c .before .cells-of .ensures .1)  -- counts-requires
-    (λ c κs. (c .before .before .before .before .cells-of .ensures .1, c .before .before .counts .ensures))  -- vertex-count-requires
+    (f .0 .journal-length, f .0 .journal-ok, refl))  -- sum-table-requires
+    (λ c κs. let t = c .before .before .sum-table .ensures in (t .1, t .2))  -- vertex-count-requires
     (λ c κs. tt)  -- refuse-requires
     (λ c.
     let i = c .before in
     let m = i .before in
-    let n = m .vertex-count .ensures ∙ ap vertices (m .before .before .before .before .before .cells-of .ensures .0) in
+    let n = m .vertex-count .ensures ∙ ap vertices (m .before .before .before .sum-table .ensures .0) in
     rw (le-ltb _ _ (rw n at (i .if1 .taken))) (ap Refused (c .refuse .ensures), refl))  -- returns
     (λ c κs. tt)  -- refuse-requires-2
     (λ c.
     let k = c .before in
     let i = k .before in
     let m = i .before in
-    let n = m .vertex-count .ensures ∙ ap vertices (m .before .before .before .before .before .cells-of .ensures .0) in
+    let n = m .vertex-count .ensures ∙ ap vertices (m .before .before .before .sum-table .ensures .0) in
     rw (lt-ltb _ _ (rw n at (i .if1 .left)), le-ltb _ _ (rw n at (k .if2 .taken))) (ap Refused (c .refuse2 .ensures), refl))  -- returns-2
     (λ c κs. tt)  -- refuse-requires-3
     (λ c.
@@ -41,18 +41,18 @@ add-laid-spec =
     let k = e .before in
     let i = k .before in
     let m = i .before in
-    let n = m .vertex-count .ensures ∙ ap vertices (m .before .before .before .before .before .cells-of .ensures .0) in
+    let n = m .vertex-count .ensures ∙ ap vertices (m .before .before .before .sum-table .ensures .0) in
     rw (lt-ltb _ _ (rw n at (i .if1 .left)), lt-ltb _ _ (rw n at (k .if2 .left)), eq-eqb _ _ (e .if3 .taken))
     (ap Refused (c .refuse3 .ensures), refl))  -- returns-3
     (λ c κs.
     let k = c .before .before in
     let i = k .before in
     let m = i .before in
-    let o = m .before .before .before .before .before in
-    let s = o .before .before .before in
+    let o = m .before .before .before in
+    let s = o .before .before .before .before in
     let f = phase-facts 1 (s .args .journal .now) (s .args .adjacency .now) (s .pre) in
     let d = f .0 .laid (f .1) in
-    let n = m .vertex-count .ensures ∙ ap vertices (o .cells-of .ensures .0) in
+    let n = m .vertex-count .ensures ∙ ap vertices (o .sum-table .ensures .0) in
     (f .0 .adjacency-length, omega (arith, n, d .vertices-le), omega (arith, n, d .vertices-le)))  -- edge-at-requires
     (λ c κs. tt)  -- refuse-requires-4
     (λ c. search needs)  -- same-length
@@ -62,7 +62,7 @@ add-laid-spec =
     let k = e .before in
     let i = k .before in
     let m = i .before in
-    let n = m .vertex-count .ensures ∙ ap vertices (m .before .before .before .before .before .cells-of .ensures .0) in
+    let n = m .vertex-count .ensures ∙ ap vertices (m .before .before .before .sum-table .ensures .0) in
     rw (
       lt-ltb _ _ (rw n at (i .if1 .left)),
       lt-ltb _ _ (rw n at (k .if2 .left)),
@@ -76,12 +76,12 @@ add-laid-spec =
     let k = e .before in
     let i = k .before in
     let m = i .before in
-    let o = m .before .before .before .before .before in
-    let s = o .before .before .before in
+    let o = m .before .before .before in
+    let s = o .before .before .before .before in
     let f = phase-facts 1 (s .args .journal .now) (s .args .adjacency .now) (s .pre) in
     let d = f .0 .laid (f .1) in
-    let n = m .vertex-count .ensures ∙ ap vertices (o .cells-of .ensures .0) in (
-      rw (o .cells-of .ensures .0)
+    let n = m .vertex-count .ensures ∙ ap vertices (o .sum-table .ensures .0) in (
+      subst (λ (t : DegreeTable). Unlinked t (s .args .adjacency .now) (s .args .v) (s .args .w)) (sym (o .sum-table .ensures .0))
           (record {
             sized = f .0 .adjacency-length;
             few = d .vertices-le;
@@ -92,8 +92,8 @@ add-laid-spec =
             distinct = e .if3 .left;
             unlinked = sym (l .before .edge-at .ensures .0) ∙ l .if4 .left;
           }),
-      o .cells-of .ensures .1,
-      m .before .before .before .counts .ensures,
+      o .sum-table .ensures .1,
+      o .sum-table .ensures .2,
     ))  -- add-unlinked-requires
     (λ c. search needs)  -- same-length-2
     (λ c.
@@ -103,10 +103,10 @@ add-laid-spec =
     let k = e .before in
     let i = k .before in
     let m = i .before in
-    let o = m .before .before .before .before .before in
-    let T = o .cells-of .ensures .0 in
+    let o = m .before .before .before in
+    let T = o .sum-table .ensures .0 in
     let n = m .vertex-count .ensures ∙ ap vertices T in
-    let x = o .before .before .before .args in
+    let x = o .before .before .before .before .args in
     let j = x .journal .now in
     let g = x .adjacency .now in
     rw (
@@ -115,8 +115,8 @@ add-laid-spec =
       ne-eqb _ _ (e .if3 .left),
       eq-eqb _ _ (rw (l .before .edge-at .ensures .0) at (l .if4 .left)),
     ) (
-      a .add-unlinked .ensures .0 ∙ ap (λ (t : ℕ → ℕ → ℕ). addUnlinked t g (x .v) (x .w)) T,
+      a .add-unlinked .ensures .0 ∙ ap (λ (t : DegreeTable). addUnlinked t g (x .v) (x .w)) T,
       a .add-unlinked .ensures .1
-          ∙ ap (λ (t : ℕ → ℕ → ℕ). addedAdjacency (addUnlinked t g (x .v) (x .w)) t g (x .v) (x .w)) T
-          ∙ adjacency-of (addUnlinked (jdmOf j) g (x .v) (x .w)) j g (x .v) (x .w),
+          ∙ ap (λ (t : DegreeTable). addedAdjacency (addUnlinked t g (x .v) (x .w)) t g (x .v) (x .w)) T
+          ∙ adjacency-of (addUnlinked (tableOf j) g (x .v) (x .w)) j g (x .v) (x .w),
     )))  -- returns-5

@@ -1,4 +1,4 @@
--- What the code of adding works with: two unlinked vertices of a graph for a table T.
+-- What the code of adding works with: two unlinked vertices of a graph for a table t.
 -- Assumes nothing.
 use mathlib.Core.Path.{_≡_}
 use mathlib.Core.List.{List}
@@ -9,32 +9,32 @@ use Rattle.answer.specs.Refusals.{refusal, unless}
 use Rattle.answer.specs.declared.Cause.the-variants.{CellFull}
 use Rattle.answer.specs.declared.AddAnswer.{AddAnswer}
 use Rattle.answer.specs.declared.AddAnswer.the-variants.{Added, Refused}
-use Rattle.graph.specs.Graph.{jdm}
+use Rattle.graph.specs.Graph.{jdm, DegreeTable}
 use Rattle.graph.specs.Target.{Target, Partial}
 use Rattle.graph.specs.Tests.{degrees, vertices, vertexDegree}
 use Rattle.layout.specs.Layout.{mostVertices}
 use Rattle.adjacency.specs.Adjacency.{adjacencySize, edge}
 use Rattle.joining.specs.Join.{own, joinBytes, joinCount}
 
--- g is a partial graph of T, and v and w are two vertices that it does not link
-pub record Unlinked (T : ℕ → ℕ → ℕ) (g : List ℕ) (v w : ℕ) : Type 0 where
+-- g is a partial graph of the table t, and v and w are two vertices that it does not link
+pub record Unlinked (t : DegreeTable) (g : List ℕ) (v w : ℕ) : Type 0 where
   pub sized : length g ≡ adjacencySize
-  pub few : vertices T ≤ mostVertices
-  pub target : Target (vertices T) degrees (vertexDegree T) own T
-  pub partial : Partial (vertices T) degrees (vertexDegree T) own T (edge g)
-  pub first : v < vertices T
-  pub second : w < vertices T
+  pub few : vertices t ≤ mostVertices
+  pub target : Target (vertices t) degrees (vertexDegree t) own (t .cells)
+  pub partial : Partial (vertices t) degrees (vertexDegree t) own (t .cells) (edge g)
+  pub first : v < vertices t
+  pub second : w < vertices t
   pub distinct : v ≡ w → ⊥
   pub unlinked : edge g v w ≡ 0
 
 -- the check 16, and the join
-abbrev pub addUnlinked : (ℕ → ℕ → ℕ) → List ℕ → ℕ → ℕ → AddAnswer
-addUnlinked T g v w =
-    unless (ltb (jdm (vertices T) (vertexDegree T) (edge g) (vertexDegree T v) (vertexDegree T w)) (T (vertexDegree T v) (vertexDegree T w)))
-    (Refused (refusal CellFull (min (vertexDegree T v) (vertexDegree T w)) (max (vertexDegree T v) (vertexDegree T w))))
-    (Added (joinCount (vertices T) (vertexDegree T) g v w))
+abbrev pub addUnlinked : DegreeTable → List ℕ → ℕ → ℕ → AddAnswer
+addUnlinked t g v w =
+    unless (ltb (jdm (vertices t) (vertexDegree t) (edge g) (vertexDegree t v) (vertexDegree t w)) (t .cells (vertexDegree t v) (vertexDegree t w)))
+    (Refused (refusal CellFull (min (vertexDegree t v) (vertexDegree t w)) (max (vertexDegree t v) (vertexDegree t w))))
+    (Added (joinCount (vertices t) (vertexDegree t) g v w))
 
 -- the matrix afterwards
-abbrev pub addedAdjacency : AddAnswer → (ℕ → ℕ → ℕ) → List ℕ → ℕ → ℕ → List ℕ
-addedAdjacency (Added s) T g v w = joinBytes (vertices T) (vertexDegree T) g v w
-addedAdjacency (Refused r) T g v w = g
+abbrev pub addedAdjacency : AddAnswer → DegreeTable → List ℕ → ℕ → ℕ → List ℕ
+addedAdjacency (Added s) t g v w = joinBytes (vertices t) (vertexDegree t) g v w
+addedAdjacency (Refused r) t g v w = g
