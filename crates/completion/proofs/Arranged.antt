@@ -18,12 +18,12 @@ use Rattle.finite.proofs.Sum.{sumTo-zero, sumTo-term}
 use Rattle.adjacency.specs.Adjacency.{edge}
 use Rattle.joining.specs.Inner.Work.{degreesOf}
 use Rattle.classes.specs.Inner.Block.{Numbered, classFrom, blockSum}
-use Rattle.classes.proofs.Blocks.{start-rises, start-most, class-inside, class-only, block-cell, table-numbered}
+use Rattle.classes.proofs.Blocks.{start-rises, start-most, class-inside, class-only, block-cell}
 use Rattle.completion.specs.Complete.{Ran}
 use Rattle.completion.specs.Inner.Cellwise.{cellStep, cellMissing, fillCell, fillRow}
 use Rattle.completion.specs.Inner.Cursor.{ClassRange}
 use Rattle.completion.specs.Inner.Search.{Ranged}
-use Rattle.completion.specs.Inner.Work.{Sound, Fillable, Arranged, Working, Countable, CellOf, cellIn}
+use Rattle.completion.specs.Inner.Work.{Sound, Fillable, Working, Countable, CellOf, cellIn}
 use Rattle.completion.proofs.Sound.{row-sound, rows-sound}
 
 -- a cell that the table has nothing in misses nothing
@@ -31,10 +31,7 @@ pub none-missing : (want have : ℕ) (t : Bool) → want ≡ 0 → 0 ≡ (want -
 none-missing want have true e = omega arith
 none-missing want have false e = omega arith
 
-module _ (n : ℕ) (cells starts : List ℕ) (a : Arranged n cells starts) where
-  pub numbered : Numbered n starts
-  numbered = rw (a .count) (table-numbered cells refl (a .started))
-
+module _ (n : ℕ) (starts : List ℕ) (numbered : Numbered n starts) where
   -- the vertices of class k
   range : (k : ℕ) → k < degrees → ClassRange n (classFrom starts) k (getD starts k 0) (getD starts (k + 1) 0)
   range k h =
@@ -53,7 +50,7 @@ module _ {n : ℕ} {cells starts held : List ℕ} {s : Ran} (p : Working n cells
     (k l : ℕ) (kC : k < degrees) (lC : l < degrees) where
   pub countable : Countable (s .adjacency) cells (cellIn starts k l)
   countable =
-      let r = ranged n cells starts (p .arranged) k l kC lC in
+      let r = ranged n starts (p .arranged .numbered) k l kC lC in
       record {
         first = kC;
         second = lC;
@@ -66,18 +63,18 @@ module _ {n : ℕ} {cells starts held : List ℕ} {s : Ran} (p : Working n cells
               columns = (r .columns .ordered, r .columns .within);
             };
         within =
-            rw (block-cell (numbered n cells starts (p .arranged)) (edge (s .adjacency)) k l kC lC) (p .sound .filling .partial .within k l kC lC);
+            rw (block-cell (p .arranged .numbered) (edge (s .adjacency)) k l kC lC) (p .sound .filling .partial .within k l kC lC);
       }
 
   pub cell-of : CellOf n starts (cellIn starts k l)
-  cell-of = record { numbered = numbered n cells starts (p .arranged); between = refl }
+  cell-of = record { numbered = p .arranged .numbered; between = refl }
 
   -- m: what the cell misses, by the sum of its block
   module _ (m : ℕ)
       (e : m ≡ (matrixOf cells k l - blockSum (edge (s .adjacency)) (getD starts k 0) (getD starts (k + 1) 0) (getD starts l 0) (getD starts (l + 1) 0))
       / cond (eqb k l) 2 1) where
     missing-count : m ≡ cellMissing n (classFrom starts) (matrixOf cells) (s .adjacency) k l
-    missing-count = rw (← (block-cell (numbered n cells starts (p .arranged)) (edge (s .adjacency)) k l kC lC)) e
+    missing-count = rw (← (block-cell (p .arranged .numbered) (edge (s .adjacency)) k l kC lC)) e
 
     pub fillable : Fillable n (classFrom starts) (cellIn starts k l) m s held
     fillable =
@@ -85,7 +82,7 @@ module _ {n : ℕ} {cells starts held : List ℕ} {s : Ran} (p : Working n cells
           table = matrixOf cells;
           sound = p .sound;
           missing = omega (arith, missing-count);
-          ranged = ranged n cells starts (p .arranged) k l kC lC;
+          ranged = ranged n starts (p .arranged .numbered) k l kC lC;
           degrees-held = p .degrees-held;
         }
 
@@ -116,7 +113,7 @@ module _ {n : ℕ} {cells starts held : List ℕ} {s : Ran} (p : Working n cells
     no-vertices : size n (classFrom starts) k ≡ 0
     no-vertices =
         sumTo-zero n (λ v. δ (classFrom starts v) k)
-        (λ v vn. δ-other (classFrom starts v) k (λ e. omega (arith, class-only (numbered n cells starts (p .arranged)) k v kC vn e)))
+        (λ v vn. δ-other (classFrom starts v) k (λ e. omega (arith, class-only (p .arranged .numbered) k v kC vn e)))
 
     no-cell : (l : ℕ) → l < degrees → matrixOf cells k l ≡ 0
     no-cell l lC =

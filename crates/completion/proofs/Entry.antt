@@ -11,11 +11,11 @@ use Rattle.answer.specs.declared.CompleteAnswer.{CompleteAnswer}
 use Rattle.answer.specs.declared.CompleteAnswer.the-variants.{Completed, Refused}
 use Rattle.answer.proofs.Checks.{unless-stopped-passed}
 use Rattle.finite.specs.Range.{sumTo}
-use Rattle.graph.specs.Graph.{Simple, ownJdm}
-use Rattle.graph.specs.Tests.{degrees, rowSum}
-use Rattle.graph.proofs.Passes.{passes-passed}
-use Rattle.graph.proofs.Realizability.{has-table}
-use Rattle.journal.specs.Journal.{phase, jdmOf}
+use Rattle.graph.specs.Graph.{Simple, ownJdm, isolated}
+use Rattle.graph.specs.Tests.{degrees, rowSum, Table}
+use Rattle.graph.proofs.Passes.{Passed, passes-passed}
+use Rattle.graph.proofs.Realizability.{has-table, has-isolated}
+use Rattle.journal.specs.Journal.{phase, jdmOf, tableOf, isolatedOf}
 use Rattle.journal.proofs.Table.{jdm-table}
 use Rattle.adjacency.specs.Adjacency.{edge}
 use Rattle.state.specs.Checks.{phaseVerdict}
@@ -74,6 +74,7 @@ module _ (j g : List ℕ) where
     pub all : sumTo degrees (rowSum (jdmOf j)) ≡ 2 * edgeTotal j (completed j g .adjacency)
     pub simple : Simple (vertexCount j) (edge (completed j g .adjacency))
     pub table : (k l : ℕ) → ownJdm (vertexCount j) (edge (completed j g .adjacency)) k l ≡ jdmOf j k l
+    pub no-edge : isolated (vertexCount j) (edge (completed j g .adjacency)) ≡ isolatedOf j
 
   pub complete-works : CompleteFacts j g → CompleteWorks
   complete-works f =
@@ -83,8 +84,8 @@ module _ (j g : List ℕ) where
         more = omega (arith, r .counted);
         all = r .missing;
         simple = r .filling .partial .simple;
-        table =
-            has-table (jdmOf j) (jdm-table j (facts .journal-ok)) (passes-passed (jdmOf j) .0 (laid .passed)) (edge g′) (r .filling .partial) (r .full);
+        table = has-table (tableOf j) summed passed (edge g′) (r .filling .partial) (r .full);
+        no-edge = has-isolated (tableOf j) summed passed (edge g′) (r .filling .partial) (r .full);
       }
     where
       facts : StateFacts j g
@@ -92,6 +93,12 @@ module _ (j g : List ℕ) where
 
       laid : Laid j g
       laid = facts .laid (f .phased)
+
+      summed : Table (jdmOf j)
+      summed = jdm-table j (facts .journal-ok)
+
+      passed : Passed (jdmOf j)
+      passed = passes-passed (jdmOf j) .0 (laid .passed)
 
       g′ : List ℕ
       g′ = completed j g .adjacency

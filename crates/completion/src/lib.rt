@@ -13,18 +13,18 @@ use crate::cell::Totals;
 use crate::fill::complete_rows;
 use answer::CompleteAnswer;
 use answer::Verdict;
-use journal::cells_of;
-use layout::counts;
 use layout::vertex_count;
 use state::phase_check;
+use state::sum_table;
+use table::cells::CELLS;
 
 // On a valid laid state: the joins that are missing.
 fn complete_laid(journal: &[u8], adjacency: &mut [u8]) -> Totals
     requires { ⌜ phaseVerdict 1 (now journal) (now adjacency) ≡ Go ⌝ }
     ensures { λ r. ⌜ ran (now (adjacency .exit)) r ≡ completed (now (journal .entry)) (now (adjacency .entry)) ⌝ }
 {
-    let cells = cells_of(journal);
-    let d = counts(&cells);
+    let mut cells = [0u32; CELLS];
+    let d = sum_table(journal, &mut cells);
     let n = vertex_count(&cells, &d);
     let s = classes::starts(&d);
     let mut held = joining::degrees(adjacency, n);

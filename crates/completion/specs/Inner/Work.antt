@@ -7,14 +7,13 @@ use Prim.Native.Nat.{ℕ, _+_, _*_, _≤_, _<_}
 use lib.ListN.{getD}
 use Rattle.graph.specs.Graph.{jdm, edges}
 use Rattle.graph.specs.Switch.{unsaturated}
-use Rattle.graph.specs.Tests.{degrees, vertices}
+use Rattle.graph.specs.Tests.{degrees}
 use Rattle.adjacency.specs.Adjacency.{edge}
 use Rattle.table.specs.Inner.Cells.{matrixOf}
 use Rattle.layout.specs.Layout.{mostVertices}
-use Rattle.layout.specs.Inner.Arrays.{countsOf}
 use Rattle.joining.specs.Join.{own}
 use Rattle.joining.specs.Inner.Work.{degreesOf}
-use Rattle.classes.specs.Inner.Block.{startsOf, Numbered, classFrom, blockSum, BlockOf}
+use Rattle.classes.specs.Inner.Block.{Numbered, classFrom, blockSum, BlockOf}
 use Rattle.completion.specs.Complete.{Ran}
 use Rattle.completion.specs.Inner.Cellwise.{cellMissing, Filling}
 use Rattle.completion.specs.Inner.Cursor.{RowsDone, ColumnsDone}
@@ -82,15 +81,14 @@ pub record CellOf (n : ℕ) (starts : List ℕ) (c : Cell) : Type 0 where
   pub numbered : Numbered n starts
   pub between : c ≡ cellIn starts (c .k) (c .l)
 
--- the starts of a layout's classes, from the table's cells
-pub record Arranged (n : ℕ) (cells starts : List ℕ) : Type 0 where
-  pub count : n ≡ vertices (matrixOf cells)
+-- the starts of a layout's classes
+pub record Arranged (n : ℕ) (starts : List ℕ) : Type 0 where
   pub few : n ≤ mostVertices
-  pub started : starts ≡ startsOf (countsOf (matrixOf cells))
+  pub numbered : Numbered n starts
 
 -- these, and beside them a partial graph of the table with its degrees
 pub record Working (n : ℕ) (cells starts held : List ℕ) (s : Ran) : Type 0 where
-  pub arranged : Arranged n cells starts
+  pub arranged : Arranged n starts
   pub sound : Sound n (classFrom starts) (matrixOf cells) s
   pub degrees-held : held ≡ degreesOf n (s .adjacency)
 
