@@ -17,36 +17,35 @@ use Rattle.finite.proofs.Sum.{sumTo-none, sumTo-more, sumTo-zero}
 use Rattle.graph.specs.Graph.{Graph, Simple, edges, atEdge, AddsEdge}
 use Rattle.graph.proofs.Edge.{Place, forth, back, elsewhere, place}
 use Rattle.graph.proofs.Update.{simple-adds, edges-adds}
-use Rattle.layout.specs.Layout.{mostVertices}
 use Rattle.edgelist.specs.EdgeList.{listed, endV, endW, rises, goodEdge, firstBadEdge, graphOf}
 
 -- what the test of an edge says
-pub record Good (e : List ℕ) (i : ℕ) : Type 0 where
+pub record Good (e : List ℕ) (total i : ℕ) : Type 0 where
   pub ordered : endV e i < endW e i
-  pub vertex : endW e i < mostVertices
+  pub vertex : endW e i < total
   pub above : rises e i ≡ true
 
-pub good-edge : (e : List ℕ) (i : ℕ) → goodEdge e i ≡ true → Good e i
-good-edge e i h =
+pub good-edge : (e : List ℕ) (total i : ℕ) → goodEdge e total i ≡ true → Good e total i
+good-edge e total i h =
     let v = endV e i in
     let w = endW e i in
-    let ends = and-left (ltb v w && ltb w mostVertices) (rises e i) h in
+    let ends = and-left (ltb v w && ltb w total) (rises e i) h in
     record {
-      ordered = ltb-true v w (and-left (ltb v w) (ltb w mostVertices) ends);
-      vertex = ltb-true w mostVertices (and-right (ltb v w) (ltb w mostVertices) ends);
-      above = and-right (ltb v w && ltb w mostVertices) (rises e i) h;
+      ordered = ltb-true v w (and-left (ltb v w) (ltb w total) ends);
+      vertex = ltb-true w total (and-right (ltb v w) (ltb w total) ends);
+      above = and-right (ltb v w && ltb w total) (rises e i) h;
     }
-
--- v and w as one number, by which edges rise
-abbrev key : List ℕ → ℕ → ℕ
-key e i = mostVertices * endV e i + endW e i
 
 or-cases : (a b : Bool) → a || b ≡ true → (a ≡ true) ⊎ (b ≡ true)
 or-cases true b h = inl refl
 or-cases false b h = inr h
 
-key-above : (e : List ℕ) (i : ℕ) → 0 < i → Good e (i - 1) → Good e i → key e (i - 1) < key e i
-key-above e i h a b = ⊎-elim (λ p. ⊎-elim first higher (or-cases _ _ p)) same (or-cases _ _ (b .above))
+-- edge i is before edge j, by v and then w
+abbrev Before : List ℕ → ℕ → ℕ → Type 0
+Before e i j = (endV e i < endV e j) ⊎ ((endV e i ≡ endV e j) × (endW e i < endW e j))
+
+rises-before : (e : List ℕ) (i : ℕ) → 0 < i → rises e i ≡ true → Before e (i - 1) i
+rises-before e i h r = ⊎-elim (λ p. ⊎-elim first higher (or-cases _ _ p)) same (or-cases _ _ r)
   where
     x : ℕ
     x = endV e (i - 1)
@@ -54,19 +53,24 @@ key-above e i h a b = ⊎-elim (λ p. ⊎-elim first higher (or-cases _ _ p)) sa
     y : ℕ
     y = endW e (i - 1)
 
-    first : eqb i 0 ≡ true → key e (i - 1) < key e i
+    first : eqb i 0 ≡ true → Before e (i - 1) i
     first p = absurd (omega (arith, eqb-true i 0 p))
 
-    higher : ltb x (endV e i) ≡ true → key e (i - 1) < key e i
-    higher p = omega (arith, ltb-true x (endV e i) p)
+    higher : ltb x (endV e i) ≡ true → Before e (i - 1) i
+    higher p = inl (ltb-true x (endV e i) p)
 
-    same : eqb x (endV e i) && ltb y (endW e i) ≡ true → key e (i - 1) < key e i
+    same : eqb x (endV e i) && ltb y (endW e i) ≡ true → Before e (i - 1) i
     same p =
-        omega (
-          arith,
+        inr (
           eqb-true x (endV e i) (and-left (eqb x (endV e i)) (ltb y (endW e i)) p),
           ltb-true y (endW e i) (and-right (eqb x (endV e i)) (ltb y (endW e i)) p),
         )
+
+before-both : (e : List ℕ) (i j k : ℕ) → Before e i j → Before e j k → Before e i k
+before-both e i j k (inl p) (inl q) = inl (omega arith)
+before-both e i j k (inl p) (inr q) = inl (omega arith)
+before-both e i j k (inr p) (inl q) = inl (omega arith)
+before-both e i j k (inr p) (inr q) = inr (omega arith, omega arith)
 
 no-edges : (n : ℕ) (E : Graph) → ((v w : ℕ) → E v w ≡ 0) → edges n E ≡ 0
 unfolding edges
@@ -77,55 +81,55 @@ abbrev pub graphTo : List ℕ → ℕ → Graph
 graphTo e n v w = sumTo n (λ i. atEdge (endV e i) (endW e i) v w)
 
 -- the graph of one edge more
-pub graphTo-adds : (e : List ℕ) (n : ℕ) → AddsEdge mostVertices (graphTo e n) (endV e n) (endW e n) (graphTo e (n + 1))
-graphTo-adds e n v w l m = sumTo-more (λ i. atEdge (endV e i) (endW e i) v w) n
+pub graphTo-adds : (e : List ℕ) (total n : ℕ) → AddsEdge total (graphTo e n) (endV e n) (endW e n) (graphTo e (n + 1))
+graphTo-adds e total n v w l m = sumTo-more (λ i. atEdge (endV e i) (endW e i) v w) n
 
-module _ (e : List ℕ) (well : firstBadEdge e ≡ listed e) where
-  pub all-good : (i : ℕ) → i < listed e → goodEdge e i ≡ true
+module _ (e : List ℕ) (total : ℕ) (well : firstBadEdge e total ≡ listed e) where
+  pub all-good : (i : ℕ) → i < listed e → goodEdge e total i ≡ true
   all-good i l =
-      not-false (goodEdge e i) (lowest-before 0 (listed e) (λ i. not (goodEdge e i)) (omega arith) i (omega arith) (rw well l))
+      not-false (goodEdge e total i) (lowest-before 0 (listed e) (λ i. not (goodEdge e total i)) (omega arith) i (omega arith) (rw well l))
 
-  pub good : (i : ℕ) → i < listed e → Good e i
-  good i l = good-edge e i (all-good i l)
+  pub good : (i : ℕ) → i < listed e → Good e total i
+  good i l = good-edge e total i (all-good i l)
 
-  -- the edges rise strictly
-  key-rises : (i j : ℕ) → i < j → j < listed e → key e i < key e j
-  key-rises i zero h l = absurd (omega arith)
-  key-rises i (suc j) h l = ⊎-elim (λ q. rw q step) (λ m. omega (arith, key-rises i j m (omega arith), step)) (eq-or-lt-of-le (le-of-suc-le-suc h))
+  -- each edge is before all later ones
+  all-before : (i j : ℕ) → i < j → j < listed e → Before e i j
+  all-before i zero h l = absurd (omega arith)
+  all-before i (suc j) h l = ⊎-elim (λ q. rw q step) (λ m. before-both e i j (suc j) (all-before i j m (omega arith)) step) (eq-or-lt-of-le (le-of-suc-le-suc h))
     where
       before : suc j - 1 ≡ j
       before = omega arith
 
-      step : key e j < key e (suc j)
-      step = rw before at (key-above e (suc j) (omega arith) (good (suc j - 1) (omega arith)) (good (suc j) l))
+      step : Before e j (suc j)
+      step = rw before at (rises-before e (suc j) (omega arith) (good (suc j) l .above))
 
   -- so an edge is not linked by those before it
   unlinked : (n : ℕ) → n < listed e → graphTo e n (endV e n) (endW e n) ≡ 0
   unlinked n l = sumTo-zero n (λ i. atEdge (endV e i) (endW e i) (endV e n) (endW e n)) (λ i h. off i h (place _ _ _ _))
     where
       off : (i : ℕ) → i < n → Place (endV e i) (endW e i) (endV e n) (endW e n) → atEdge (endV e i) (endW e i) (endV e n) (endW e n) ≡ 0
-      off i h (forth p q) = absurd (omega (arith, key-rises i n h l))
+      off i h (forth p q) = ⊎-elim (λ m. absurd (omega arith)) (λ m. absurd (omega arith)) (all-before i n h l)
       off i h (back p q) = absurd (omega (arith, good i (omega arith) .ordered, good n l .ordered))
       off i h (elsewhere z) = z
 
-  pub simple-to : (n : ℕ) → n ≤ listed e → Simple mostVertices (graphTo e n)
+  pub simple-to : (n : ℕ) → n ≤ listed e → Simple total (graphTo e n)
   unfolding sumTo
   simple-to zero h = record { binary = λ v w l m. omega arith; symmetric = λ v w l m. refl; loopless = λ v l. refl }
   simple-to (suc n) h =
       let g = good n (omega arith) in
-      simple-adds mostVertices (graphTo e n) (graphTo e (suc n)) (endV e n) (endW e n) (λ v w l m. refl) (omega arith) (omega arith) (omega arith)
+      simple-adds total (graphTo e n) (graphTo e (suc n)) (endV e n) (endW e n) (λ v w l m. refl) (omega arith) (omega arith) (omega arith)
       (simple-to n (omega arith)) (unlinked n (omega arith))
 
   -- a well-formed list is a simple graph
-  pub list-simple : Simple mostVertices (graphOf e)
+  pub list-simple : Simple total (graphOf e)
   list-simple = simple-to (listed e) (omega arith)
 
   -- with as many edges as it lists
-  pub edges-to : (n : ℕ) → n ≤ listed e → edges mostVertices (graphTo e n) ≡ n
-  edges-to zero h = no-edges mostVertices (graphTo e 0) (λ v w. sumTo-none _)
+  pub edges-to : (n : ℕ) → n ≤ listed e → edges total (graphTo e n) ≡ n
+  edges-to zero h = no-edges total (graphTo e 0) (λ v w. sumTo-none _)
   edges-to (suc n) h =
       let g = good n (omega arith) in
       rw (← (add-one n))
-      (edges-adds mostVertices (graphTo e n) (graphTo e (n + 1)) (endV e n) (endW e n) (graphTo-adds e n) (omega arith) (omega arith)
+      (edges-adds total (graphTo e n) (graphTo e (n + 1)) (endV e n) (endW e n) (graphTo-adds e total n) (omega arith) (omega arith)
       (simple-to n (omega arith)) (simple-to (n + 1) (omega arith))
       ∙ ap (λ (m : ℕ). m + 1) (edges-to n (omega arith)))

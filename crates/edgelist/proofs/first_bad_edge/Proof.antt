@@ -11,10 +11,10 @@ use Rattle.edgelist.proofs.first_bad_edge.Statement.{statement}
 use Rattle.edgelist.proofs.first_bad_edge.Tie as tie
 
 abbrev Inv-loop : tie.InvT-loop
-Inv-loop edges n i₀ i = (i ≤ listed edges) × (firstBadEdge edges ≡ lowest i (listed edges) (λ i. not (goodEdge edges i)))
+Inv-loop edges total n i₀ i = (i ≤ listed edges) × (firstBadEdge edges total ≡ lowest i (listed edges) (λ i. not (goodEdge edges total i)))
 
 abbrev μ-loop : tie.MeasureT-loop
-μ-loop edges n i₀ i = listed edges - i
+μ-loop edges total n i₀ i = listed edges - i
 
 pub first-bad-edge-spec : {M : Type 1} → statement M
 first-bad-edge-spec =
