@@ -15,8 +15,8 @@ use Rattle.finite.specs.Range.{δ}
 use Rattle.finite.proofs.All.{and-false}
 use Rattle.finite.proofs.Delta.{δ-self, δ-same, δ-other, δ-le}
 use Rattle.finite.proofs.Lowest.{lowest-before, lowest-cong}
-use Rattle.finite.proofs.Sum.{sumTo-none, sumTo-mono, sumTo-const, sumTo-zero}
-use Rattle.graph.specs.Graph.{degree, jdm, atEdge}
+use Rattle.finite.proofs.Sum.{sumTo-none, sumTo-mono, sumTo-const, sumTo-cong, sumTo-zero}
+use Rattle.graph.specs.Graph.{degree, size, isolated, jdm, atEdge}
 use Rattle.graph.specs.Tests.{mostDegree, degrees}
 use Rattle.graph.proofs.Edge.{Place, forth, back, elsewhere, place as placed, atEdge-here, atEdge-back}
 use Rattle.graph.proofs.Matrix.{jdm-cong, jdm-empty}
@@ -28,7 +28,7 @@ use Rattle.layout.specs.Layout.{mostVertices}
 use Rattle.edgelist.specs.EdgeList.{listed, endV, endW, firstBadEdge, graphOf}
 use Rattle.survey.specs.Survey.{firstAbove}
 use Rattle.edgelist.proofs.List.{graphTo, Good, good, graphTo-adds, simple-to, edges-to}
-use Rattle.survey.specs.Inner.Counting.{addAt, countEdge, degreeIn, timesCounted, countCell, HasDegrees, HasCells, firstAboveIn, cellMostOwn, CellsSmall}
+use Rattle.survey.specs.Inner.Counting.{addAt, countEdge, degreeIn, timesCounted, countCell, HasDegrees, HasCells, firstAboveIn, isolatedIn, cellMostOwn, CellsSmall}
 
 -- 1. Degrees.
 
@@ -50,16 +50,16 @@ degree-countEdge x y d xl yl v =
     ∙ add-assoc (degreeIn d v) (δ v x) (δ v y)
 
 -- no edges, no degrees
-pub degrees-none : (e : List ℕ) → HasDegrees (replicate mostVertices 0) (graphTo e 0)
-degrees-none e v l = getD-zeros mostVertices v ∙ sym (sumTo-zero mostVertices (graphTo e 0 v) (λ w m. sumTo-none _))
+pub degrees-none : (e : List ℕ) (total : ℕ) → HasDegrees (replicate mostVertices 0) total (graphTo e 0)
+degrees-none e total v l = getD-zeros mostVertices v ∙ sym (sumTo-zero total (graphTo e 0 v) (λ w m. sumTo-none _))
 
 -- one edge more
-pub degrees-more : (e : List ℕ) (i : ℕ) (d : List ℕ) → Good e i → length d ≡ mostVertices → HasDegrees d (graphTo e i)
-    → HasDegrees (countEdge (endV e i) (endW e i) d) (graphTo e (i + 1))
-degrees-more e i d g s h v l =
+pub degrees-more : (e : List ℕ) (total i : ℕ) (d : List ℕ) → total ≤ mostVertices → Good e total i → length d ≡ mostVertices
+    → HasDegrees d total (graphTo e i) → HasDegrees (countEdge (endV e i) (endW e i) d) total (graphTo e (i + 1))
+degrees-more e total i d few g s h v l =
     degree-countEdge (endV e i) (endW e i) d (omega (arith, g .ordered, g .vertex)) (omega (arith, g .vertex)) v
     ∙ ap (λ (m : ℕ). m + (δ v (endV e i) + δ v (endW e i))) (h v l)
-    ∙ sym (degree-adds mostVertices (graphTo e i) (graphTo e (i + 1)) (endV e i) (endW e i) (graphTo-adds e i)
+    ∙ sym (degree-adds total (graphTo e i) (graphTo e (i + 1)) (endV e i) (endW e i) (graphTo-adds e total i)
     (omega (arith, g .ordered, g .vertex)) (g .vertex) v l)
 
 -- 2. Cells.
@@ -102,17 +102,18 @@ module _ (a b k l : ℕ) (ha : a < degrees) (hb : b < degrees) (hk : k < degrees
 pub length-countCell : (a b : ℕ) (c : List ℕ) → length (countCell a b c) ≡ length c
 length-countCell a b c = length-set c (place a b) _
 
-pub cells-none : (cls : ℕ → ℕ) (e : List ℕ) → HasCells noCells cls (graphTo e 0)
-cells-none cls e k l hk hl =
+pub cells-none : (cls : ℕ → ℕ) (e : List ℕ) (total : ℕ) → HasCells noCells total cls (graphTo e 0)
+cells-none cls e total k l hk hl =
     ap (λ (T : ℕ → ℕ → ℕ). T k l) matrix-none
-    ∙ sym (jdm-cong mostVertices cls (graphTo e 0) (λ v w. 0) (λ v w p q. sumTo-none _) k l ∙ jdm-empty mostVertices cls k l)
+    ∙ sym (jdm-cong total cls (graphTo e 0) (λ v w. 0) (λ v w p q. sumTo-none _) k l ∙ jdm-empty total cls k l)
 
-pub cells-more : (cls : ℕ → ℕ) (e : List ℕ) (i : ℕ) (c : List ℕ) → Good e i → cls (endV e i) < degrees → cls (endW e i) < degrees
-    → length c ≡ cellsSize → HasCells c cls (graphTo e i) → HasCells (countCell (cls (endV e i)) (cls (endW e i)) c) cls (graphTo e (i + 1))
-cells-more cls e i c g ha hb s h k l hk hl =
+pub cells-more : (cls : ℕ → ℕ) (e : List ℕ) (total i : ℕ) (c : List ℕ) → Good e total i → cls (endV e i) < degrees → cls (endW e i) < degrees
+    → length c ≡ cellsSize → HasCells c total cls (graphTo e i)
+    → HasCells (countCell (cls (endV e i)) (cls (endW e i)) c) total cls (graphTo e (i + 1))
+cells-more cls e total i c g ha hb s h k l hk hl =
     matrix-countCell (cls (endV e i)) (cls (endW e i)) k l ha hb hk hl c s
     ∙ ap (λ (m : ℕ). m + atEdge (cls (endV e i)) (cls (endW e i)) k l) (h k l hk hl)
-    ∙ sym (jdm-adds mostVertices (graphTo e i) (graphTo e (i + 1)) (endV e i) (endW e i) (graphTo-adds e i)
+    ∙ sym (jdm-adds total (graphTo e i) (graphTo e (i + 1)) (endV e i) (endW e i) (graphTo-adds e total i)
     (omega (arith, g .ordered, g .vertex)) (g .vertex) cls k l)
 
 -- 3. Bounds.
@@ -123,63 +124,71 @@ atEdge-le a b k l = omega (arith, one k a l b, one k b l a)
     one : (p q r s : ℕ) → δ p q * δ r s ≤ 1
     one p q r s = omega (arith, mul-le-mul-left (δ p q) (δ-le r s), mul-one (δ p q), δ-le p q)
 
-module _ (e : List ℕ) (well : firstBadEdge e ≡ listed e) where
-  pub degree-most : (v n : ℕ) → v < mostVertices → n ≤ listed e → degree mostVertices (graphTo e n) v ≤ 2 * n
-  degree-most v zero l h = omega (arith, sumTo-zero mostVertices (graphTo e 0 v) (λ w m. sumTo-none _))
+-- no class has more vertices than there are
+pub isolated-most : (n : ℕ) (cls : ℕ → ℕ) → size n cls 0 ≤ n
+isolated-most n cls = omega (arith, sumTo-mono n (λ v. δ (cls v) 0) (λ v. 1) (λ v h. δ-le (cls v) 0), sumTo-const 1 n)
+
+module _ (e : List ℕ) (total : ℕ) (well : firstBadEdge e total ≡ listed e) where
+  pub degree-most : (v n : ℕ) → v < total → n ≤ listed e → degree total (graphTo e n) v ≤ 2 * n
+  degree-most v zero l h = omega (arith, sumTo-zero total (graphTo e 0 v) (λ w m. sumTo-none _))
   degree-most v (suc n) l h =
-      let g = good e well n (omega arith) in
+      let g = good e total well n (omega arith) in
       rw (← (add-one n))
       (omega (
         arith,
-        degree-adds mostVertices (graphTo e n) (graphTo e (n + 1)) (endV e n) (endW e n) (graphTo-adds e n) (omega arith) (omega arith) v l,
+        degree-adds total (graphTo e n) (graphTo e (n + 1)) (endV e n) (endW e n) (graphTo-adds e total n) (omega arith) (omega arith) v l,
         δ-le v (endV e n),
         δ-le v (endW e n),
         degree-most v n l (omega arith),
       ))
 
-  pub jdm-most : (cls : ℕ → ℕ) (k l n : ℕ) → n ≤ listed e → jdm mostVertices cls (graphTo e n) k l ≤ 2 * n
+  pub jdm-most : (cls : ℕ → ℕ) (k l n : ℕ) → n ≤ listed e → jdm total cls (graphTo e n) k l ≤ 2 * n
   jdm-most cls k l zero h =
-      omega (arith, jdm-cong mostVertices cls (graphTo e 0) (λ v w. 0) (λ v w p q. sumTo-none _) k l, jdm-empty mostVertices cls k l)
+      omega (arith, jdm-cong total cls (graphTo e 0) (λ v w. 0) (λ v w p q. sumTo-none _) k l, jdm-empty total cls k l)
   jdm-most cls k l (suc n) h =
-      let g = good e well n (omega arith) in
+      let g = good e total well n (omega arith) in
       rw (← (add-one n))
       (omega (
         arith,
-        jdm-adds mostVertices (graphTo e n) (graphTo e (n + 1)) (endV e n) (endW e n) (graphTo-adds e n) (omega arith) (omega arith) cls k l,
+        jdm-adds total (graphTo e n) (graphTo e (n + 1)) (endV e n) (endW e n) (graphTo-adds e total n) (omega arith) (omega arith) cls k l,
         atEdge-le (cls (endV e n)) (cls (endW e n)) k l,
         jdm-most cls k l n (omega arith),
       ))
 
-  module _ (low : firstAbove e ≡ mostVertices) where
-    pub degree-low : (v : ℕ) → v < mostVertices → degree mostVertices (graphOf e) v ≤ mostDegree
+  module _ (low : firstAbove e total ≡ total) where
+    pub degree-low : (v : ℕ) → v < total → degree total (graphOf e) v ≤ mostDegree
     degree-low v l =
-        ltb-false mostDegree (degree mostVertices (graphOf e) v)
-        (lowest-before 0 mostVertices (λ v. ltb mostDegree (degree mostVertices (graphOf e) v)) (omega arith) v (omega arith) (rw low l))
+        ltb-false mostDegree (degree total (graphOf e) v)
+        (lowest-before 0 total (λ v. ltb mostDegree (degree total (graphOf e) v)) (omega arith) v (omega arith) (rw low l))
 
     -- 200 vertices of degree 40 have 4,000 edges
-    pub few-edges : 2 * listed e ≤ cellMostOwn
-    few-edges =
+    pub few-edges : total ≤ mostVertices → 2 * listed e ≤ cellMostOwn
+    few-edges few =
         omega (
           arith,
-          handshake mostVertices (graphOf e) (simple-to e well (listed e) (omega arith)),
-          edges-to e well (listed e) (omega arith),
-          sumTo-mono mostVertices (degree mostVertices (graphOf e)) (λ v. mostDegree) degree-low,
-          sumTo-const mostDegree mostVertices,
+          handshake total (graphOf e) (simple-to e total well (listed e) (omega arith)),
+          edges-to e total well (listed e) (omega arith),
+          sumTo-mono total (degree total (graphOf e)) (λ v. mostDegree) degree-low,
+          sumTo-const mostDegree total,
         )
 
-    pub cells-small : (cls : ℕ → ℕ) (c : List ℕ) (n : ℕ) → n ≤ listed e → HasCells c cls (graphTo e n) → CellsSmall c
-    cells-small cls c n h has k l = go (decLt k degrees) (decLt l degrees)
+    pub cells-small : total ≤ mostVertices → (cls : ℕ → ℕ) (c : List ℕ) (n : ℕ) → n ≤ listed e → HasCells c total cls (graphTo e n) → CellsSmall c
+    cells-small few cls c n h has k l = go (decLt k degrees) (decLt l degrees)
       where
         go : Dec (k < degrees) → Dec (l < degrees) → matrixOf c k l ≤ cellMostOwn
-        go (yes p) (yes q) = rw (has k l p q) (omega (arith, jdm-most cls k l n h, few-edges))
+        go (yes p) (yes q) = rw (has k l p q) (omega (arith, jdm-most cls k l n h, few-edges few))
         go (yes p) (no q) = rw (le-ltb l degrees (omega arith), and-false (ltb k degrees)) (omega arith)
         go (no p) q = rw (le-ltb k degrees (omega arith)) (omega arith)
 
--- the search in the array is the search in the graph
-pub above-same : (e d : List ℕ) → HasDegrees d (graphOf e) → firstAboveIn d ≡ firstAbove e
-above-same e d h =
-    lowest-cong 0 mostVertices (λ v. ltb mostDegree (degreeIn d v)) (λ v. ltb mostDegree (degree mostVertices (graphOf e) v))
-    (λ v m l. ap (ltb mostDegree) (h v l))
+-- what the array says of the vertices is what the graph says
+module _ (e d : List ℕ) (total : ℕ) (has : HasDegrees d total (graphOf e)) where
+  pub above-same : firstAboveIn d total ≡ firstAbove e total
+  above-same =
+      lowest-cong 0 total (λ v. ltb mostDegree (degreeIn d v)) (λ v. ltb mostDegree (degree total (graphOf e) v))
+      (λ v m l. ap (ltb mostDegree) (has v l))
+
+  pub isolated-same : isolatedIn d total ≡ isolated total (graphOf e)
+  isolated-same = sumTo-cong total (λ v. δ (degreeIn d v) 0) (λ v. δ (degree total (graphOf e) v) 0) (λ v l. ap (λ (m : ℕ). δ m 0) (has v l))
 
 -- a small cell as it stands in the array
 pub cell-room : (c : List ℕ) (k l : ℕ) → CellsSmall c → k < degrees → l < degrees → getD c (place k l) 0 ≤ cellMostOwn

@@ -1,10 +1,11 @@
--- Read back, the records of a matrix give the matrix; they are good, and where each cell fits 16 bits they are bytes.
+-- Read back, the records of a table give the table; they are good, and where each count fits 16 bits they are bytes.
 -- Assumes nothing.
 use mathlib.Core.Path.{_≡_, refl, sym, ap, _∙_}
 use mathlib.Core.Bool.{Bool, true, false, _&&_, not, cond}
 use mathlib.Core.List.{List, [], _∷_, _++_}
+use mathlib.Core.Logic.{_≢_, _⊎_, inl, inr}
 use Prim.Native.Nat.{ℕ, zero, suc, _+_, _-_, _*_, _/_, _%_, _≤_, _<_, min, max}
-use native.Mathlib.Nat.{mul-zero, zero-mul, one-mul}
+use native.Mathlib.Nat.{add-zero, zero-add, mul-zero, zero-mul, one-mul}
 use native.Mathlib.Decide.{ℕ-discrete, decLt}
 use native.Mathlib.Omega.{arith}
 use lib.Dec.{eqb, leb}
@@ -14,12 +15,13 @@ use borrow.Author.Tests.{le-leb, lt-leb, eq-eqb, ne-eqb}
 use Rattle.finite.specs.Range.{δ, sumTo, catTo}
 use Rattle.finite.proofs.Delta.{δ-same, δ-other}
 use Rattle.finite.proofs.Lowest.{lowest-none}
-use Rattle.finite.proofs.Sum.{sumTo-cong, sumTo-scale, sumTo-at}
+use Rattle.finite.proofs.Sum.{sumTo-cong, sumTo-scale, sumTo-at, sumTo-zero}
+use Rattle.graph.specs.Graph.{DegreeTable}
 use Rattle.graph.specs.Tests.{leastDegree, mostDegree, degrees, Table}
-use Rattle.table.specs.Block.{records, recordK, recordL, recordCount, goodRecord, firstBad, blockCell, samePair}
+use Rattle.table.specs.Block.{records, recordK, recordL, recordCount, goodRecord, firstBad, blockCell, blockIsolated, samePair}
 use Rattle.table.proofs.Block.{samePair-straight, samePair-crossed, samePair-none, blockCell-sym, blockCell-none-above}
-use Rattle.survey.specs.Survey.{cellRecord, recordsOf}
-use Rattle.survey.proofs.Records.{Whole, whole-append, cell-append, cell-whole, records-shown}
+use Rattle.survey.specs.Survey.{countRecord, cellRecord, cellRecords, recordsOf}
+use Rattle.survey.proofs.Records.{Whole, added, OfTable, whole-append, added-append, first-whole, cell-whole, records-shown}
 
 -- weights that are 1 at (m, n) and 0 elsewhere
 module _ (i j m n x : ℕ) where
@@ -33,122 +35,191 @@ module _ (i j m n x : ℕ) where
       go (yes p) = rw (δ-other j n (h p), zero-mul x) (mul-zero (δ i m))
       go (no p) = rw (δ-other i m p) (zero-mul (δ j n * x))
 
-module _ (T : ℕ → ℕ → ℕ) (k l : ℕ) where
-  -- what the record of cell (i, j) adds to cell (k, l)
-  cell-back : (i j : ℕ) → blockCell (cellRecord T i j) k l ≡ δ i (min k l) * (δ j (max k l) * T i j)
+-- what a record adds to cell (k, l), and to the isolated vertices
+abbrev toCell : ℕ → ℕ → ℕ → ℕ → ℕ → ℕ
+toCell k l x y n = cond (not (eqb x 0 && eqb y 0) && samePair k l x y) n 0
+
+abbrev toIsolated : ℕ → ℕ → ℕ → ℕ
+toIsolated x y n = cond (eqb x 0 && eqb y 0) n 0
+
+none : (t : Bool) → _≡_ {A = ℕ} (cond t 0 0) 0
+none true = refl
+none false = refl
+
+module _ (f : ℕ → ℕ → ℕ → ℕ) where
+  -- what one record adds, where a count of 0 adds nothing
+  count-back : (x y n : ℕ) → f x y 0 ≡ 0 → added f (countRecord x y n) ≡ f x y n
   unfolding sumTo
-  cell-back i j = go (decLt j i) (ℕ-discrete (T i j) 0)
+  count-back x y n z = go (ℕ-discrete n 0)
     where
-      -- as a number, the record's two bytes are the cell
-      count : 0 + (T i j % 256 + 256 * (T i j / 256)) ≡ T i j
+      -- as a number, the record's two bytes are the count
+      count : n % 256 + 256 * (n / 256) ≡ n
       count = omega arith
+
+      go : Dec (n ≡ 0) → added f (countRecord x y n) ≡ f x y n
+      go (yes q) = rw (eq-eqb n 0 q, q, z)
+      go (no q) = rw (ne-eqb n 0 q, count) (zero-add (f x y n))
+
+  -- lists of records one after the other add up
+  cat-back : (g : ℕ → List ℕ) (n : ℕ) → ((i : ℕ) → i < n → Whole (g i)) → Whole (catTo n g) × (added f (catTo n g) ≡ sumTo n (λ i. added f (g i)))
+  unfolding catTo sumTo
+  cat-back g zero h = (refl, refl)
+  cat-back g (suc n) h =
+      let r = cat-back g n (λ i m. h i (omega arith)) in (
+        whole-append (catTo n g) (g n) (r .0) (h n (omega arith)),
+        added-append (catTo n g) (g n) (r .0) f ∙ ap (λ (s : ℕ). s + added f (g n)) (r .1),
+      )
+
+-- The records of a table, which is 0 at degree 0 and above 40.
+module _ (t : DegreeTable) (table : Table (t .cells)) where
+  -- row by row
+  cells-back : (f : ℕ → ℕ → ℕ → ℕ) → added f (cellRecords (t .cells)) ≡ sumTo degrees (λ i. sumTo degrees (λ j. added f (cellRecord (t .cells) i j)))
+  cells-back f =
+      cat-back f (λ i. catTo degrees (cellRecord (t .cells) i)) degrees (λ i h. row i .0) .1
+      ∙ sumTo-cong degrees (λ i. added f (catTo degrees (cellRecord (t .cells) i))) (λ i. sumTo degrees (λ j. added f (cellRecord (t .cells) i j)))
+      (λ i h. row i .1)
+    where
+      row : (i : ℕ) → Whole (catTo degrees (cellRecord (t .cells) i))
+          × (added f (catTo degrees (cellRecord (t .cells) i)) ≡ sumTo degrees (λ j. added f (cellRecord (t .cells) i j)))
+      row i = cat-back f (cellRecord (t .cells) i) degrees (cell-whole t table i)
+
+  -- a cell of degree 0 is 0
+  least : (i j : ℕ) → t .cells i j ≢ 0 → i ≢ 0
+  least i j h z = h (rw z (table .none-of-0 j))
+
+  -- what the record of cell (i, j) adds to cell (k, l)
+  cell-back : (k l i j : ℕ) → added (toCell k l) (cellRecord (t .cells) i j) ≡ δ i (min k l) * (δ j (max k l) * t .cells i j)
+  unfolding sumTo
+  cell-back k l i j = go (decLt j i)
+    where
+      x : ℕ
+      x = t .cells i j
 
       pair : i ≡ min k l → j ≡ max k l → Dec (l < k) → samePair k l i j ≡ true
       pair p q (yes r) = samePair-crossed k l i j (omega arith) (omega arith)
       pair p q (no r) = samePair-straight k l i j (omega arith) (omega arith)
 
-      apart : i ≤ j → (i ≡ min k l → j ≡ max k l → ⊥)
-          → 0 + cond (samePair k l i j) (T i j % 256 + 256 * (T i j / 256)) 0 ≡ δ i (min k l) * (δ j (max k l) * T i j)
+      apart : i ≤ j → (i ≡ min k l → j ≡ max k l → ⊥) → cond (samePair k l i j) x 0 ≡ δ i (min k l) * (δ j (max k l) * x)
       apart h f =
           rw (
             samePair-none k l i j (λ p q. f (omega arith) (omega arith)) (λ p q. f (omega arith) (omega arith)),
-            weighed-apart i j (min k l) (max k l) (T i j) f,
+            weighed-apart i j (min k l) (max k l) x f,
           )
 
-      one : i ≤ j → Dec (i ≡ min k l) → Dec (j ≡ max k l)
-          → 0 + cond (samePair k l i j) (T i j % 256 + 256 * (T i j / 256)) 0 ≡ δ i (min k l) * (δ j (max k l) * T i j)
-      one h (yes p) (yes q) = rw (pair p q (decLt l k), weighed-here i j (min k l) (max k l) (T i j) p q) count
+      one : i ≤ j → Dec (i ≡ min k l) → Dec (j ≡ max k l) → cond (samePair k l i j) x 0 ≡ δ i (min k l) * (δ j (max k l) * x)
+      one h (yes p) (yes q) = rw (pair p q (decLt l k), weighed-here i j (min k l) (max k l) x p q)
       one h (yes p) (no q) = apart h (λ _ r. q r)
       one h (no p) q = apart h (λ r _. p r)
 
-      go : Dec (j < i) → Dec (T i j ≡ 0) → blockCell (cellRecord T i j) k l ≡ δ i (min k l) * (δ j (max k l) * T i j)
-      go (yes p) q = rw (lt-leb i j p, weighed-apart i j (min k l) (max k l) (T i j) (λ r s. omega arith))
-      go (no p) (yes q) = rw (le-leb i j (omega arith), eq-eqb (T i j) 0 q, q, mul-zero (δ j (max k l)), mul-zero (δ i (min k l)))
-      go (no p) (no q) = rw (le-leb i j (omega arith), ne-eqb (T i j) 0 q) (one (omega arith) (ℕ-discrete i (min k l)) (ℕ-discrete j (max k l)))
+      adds : i ≤ j → Dec (x ≡ 0) → toCell k l i j x ≡ δ i (min k l) * (δ j (max k l) * x)
+      adds h (yes q) = rw (q, mul-zero (δ j (max k l)), mul-zero (δ i (min k l))) (none (not (eqb i 0 && eqb j 0) && samePair k l i j))
+      adds h (no q) = rw (ne-eqb i 0 (least i j q)) (one h (ℕ-discrete i (min k l)) (ℕ-discrete j (max k l)))
 
-  -- lists of records one after the other add up
-  cat-back : (f : ℕ → List ℕ) (n : ℕ) → ((i : ℕ) → i < n → Whole (f i))
-      → Whole (catTo n f) × (blockCell (catTo n f) k l ≡ sumTo n (λ i. blockCell (f i) k l))
-  unfolding catTo sumTo
-  cat-back f zero h = (refl, refl)
-  cat-back f (suc n) h =
-      let r = cat-back f n (λ i m. h i (omega arith)) in (
-        whole-append (catTo n f) (f n) (r .0) (h n (omega arith)),
-        cell-append (catTo n f) (f n) (r .0) k l ∙ ap (λ (s : ℕ). s + blockCell (f n) k l) (r .1),
-      )
+      go : Dec (j < i) → added (toCell k l) (cellRecord (t .cells) i j) ≡ δ i (min k l) * (δ j (max k l) * x)
+      go (yes p) = rw (lt-leb i j p, weighed-apart i j (min k l) (max k l) x (λ r s. omega arith))
+      go (no p) =
+          rw (le-leb i j (omega arith))
+          (count-back (toCell k l) i j x (none (not (eqb i 0 && eqb j 0) && samePair k l i j)) ∙ adds (omega arith) (ℕ-discrete x 0))
 
-  row-back : (i : ℕ) → Whole (catTo degrees (cellRecord T i))
-      × (blockCell (catTo degrees (cellRecord T i)) k l ≡ δ i (min k l) * sumTo degrees (λ j. δ j (max k l) * T i j))
-  row-back i =
-      let r = cat-back (cellRecord T i) degrees (cell-whole T i) in (
-        r .0,
-        r .1
-            ∙ sumTo-cong degrees (λ j. blockCell (cellRecord T i j) k l) (λ j. δ i (min k l) * (δ j (max k l) * T i j)) (λ j h. cell-back i j)
-            ∙ sumTo-scale (δ i (min k l)) degrees (λ j. δ j (max k l) * T i j),
-      )
+  -- and to the isolated vertices: nothing
+  cell-none : (i j : ℕ) → added toIsolated (cellRecord (t .cells) i j) ≡ 0
+  unfolding sumTo
+  cell-none i j = go (decLt j i)
+    where
+      x : ℕ
+      x = t .cells i j
 
-  -- the records of a symmetric matrix, read back, are the matrix
-  pub records-back : ((i j : ℕ) → T i j ≡ T j i) → k < degrees → l < degrees → blockCell (recordsOf T) k l ≡ T k l
-  records-back symmetric hk hl =
-      cat-back (λ i. catTo degrees (cellRecord T i)) degrees (λ i h. row-back i .0) .1
-      ∙ sumTo-cong degrees (λ i. blockCell (catTo degrees (cellRecord T i)) k l)
-      (λ i. δ i (min k l) * sumTo degrees (λ j. δ j (max k l) * T i j)) (λ i h. row-back i .1)
-      ∙ sumTo-at degrees (min k l) (λ i. sumTo degrees (λ j. δ j (max k l) * T i j)) (omega arith)
-      ∙ sumTo-at degrees (max k l) (T (min k l)) (omega arith)
+      adds : Dec (x ≡ 0) → toIsolated i j x ≡ 0
+      adds (yes q) = rw q (none (eqb i 0 && eqb j 0))
+      adds (no q) = rw (ne-eqb i 0 (least i j q))
+
+      go : Dec (j < i) → added toIsolated (cellRecord (t .cells) i j) ≡ 0
+      go (yes p) = rw (lt-leb i j p)
+      go (no p) = rw (le-leb i j (omega arith)) (count-back toIsolated i j x (none (eqb i 0 && eqb j 0)) ∙ adds (ℕ-discrete x 0))
+
+  -- the first record adds no cell
+  first-back : (f : ℕ → ℕ → ℕ → ℕ) → f 0 0 0 ≡ 0 → added f (recordsOf t) ≡ f 0 0 (t .isolated) + added f (cellRecords (t .cells))
+  first-back f z =
+      added-append (countRecord 0 0 (t .isolated)) (cellRecords (t .cells)) (first-whole (t .isolated)) f
+      ∙ ap (λ (s : ℕ). s + added f (cellRecords (t .cells))) (count-back f 0 0 (t .isolated) z)
+
+  -- read back, the records are the matrix
+  records-back : (k l : ℕ) → k < degrees → l < degrees → blockCell (recordsOf t) k l ≡ t .cells k l
+  records-back k l hk hl =
+      first-back (toCell k l) refl
+      ∙ zero-add (added (toCell k l) (cellRecords (t .cells)))
+      ∙ cells-back (toCell k l)
+      ∙ sumTo-cong degrees (λ i. sumTo degrees (λ j. added (toCell k l) (cellRecord (t .cells) i j)))
+      (λ i. δ i (min k l) * sumTo degrees (λ j. δ j (max k l) * t .cells i j))
+      (λ i h. sumTo-cong degrees (λ j. added (toCell k l) (cellRecord (t .cells) i j)) (λ j. δ i (min k l) * (δ j (max k l) * t .cells i j))
+      (λ j m. cell-back k l i j)
+      ∙ sumTo-scale (δ i (min k l)) degrees (λ j. δ j (max k l) * t .cells i j))
+      ∙ sumTo-at degrees (min k l) (λ i. sumTo degrees (λ j. δ j (max k l) * t .cells i j)) (omega arith)
+      ∙ sumTo-at degrees (max k l) (t .cells (min k l)) (omega arith)
       ∙ turn (decLt l k)
     where
-      turn : Dec (l < k) → T (min k l) (max k l) ≡ T k l
+      turn : Dec (l < k) → t .cells (min k l) (max k l) ≡ t .cells k l
       turn (yes h) =
           let a : min k l ≡ l = omega arith in
           let b : max k l ≡ k = omega arith in
-          rw (a, b) (symmetric l k)
+          rw (a, b) (table .symmetric l k)
       turn (no h) =
           let a : min k l ≡ k = omega arith in
           let b : max k l ≡ l = omega arith in
           rw (a, b)
 
--- The records of a table, which is 0 at degree 0 and above 40.
-module _ (T : ℕ → ℕ → ℕ) (table : Table T) where
-  pub records-good : (i : ℕ) → i < records (recordsOf T) → goodRecord (recordsOf T) i ≡ true
-  records-good i h =
-      let s = records-shown T i h in
-      rw (
-        le-leb leastDegree (recordK (recordsOf T) i) (least s (ℕ-discrete (recordK (recordsOf T) i) 0)),
-        le-leb (recordK (recordsOf T) i) mostDegree (omega arith),
-        le-leb leastDegree (recordL (recordsOf T) i) (omega (arith, least s (ℕ-discrete (recordK (recordsOf T) i) 0))),
-        le-leb (recordL (recordsOf T) i) mostDegree (s .1),
-        le-leb (recordK (recordsOf T) i) (recordL (recordsOf T) i) (s .0),
-      )
+  -- and the isolated vertices
+  pub records-isolated : blockIsolated (recordsOf t) ≡ t .isolated
+  records-isolated =
+      first-back toIsolated refl
+      ∙ ap (λ (s : ℕ). t .isolated + s)
+      (cells-back toIsolated
+      ∙ sumTo-zero degrees (λ i. sumTo degrees (λ j. added toIsolated (cellRecord (t .cells) i j)))
+      (λ i h. sumTo-zero degrees (λ j. added toIsolated (cellRecord (t .cells) i j)) (λ j m. cell-none i j)))
+      ∙ add-zero (t .isolated)
+
+  pub records-good : (i : ℕ) → i < records (recordsOf t) → goodRecord (recordsOf t) i ≡ true
+  records-good i h = go (s .least)
     where
       k : ℕ
-      k = recordK (recordsOf T) i
+      k = recordK (recordsOf t) i
 
       l : ℕ
-      l = recordL (recordsOf T) i
+      l = recordL (recordsOf t) i
 
-      least : (k ≤ l) × (l ≤ mostDegree) × (recordCount (recordsOf T) i ≡ T k l) × (0 < recordCount (recordsOf T) i) → Dec (k ≡ 0) → leastDegree ≤ k
-      least s (yes z) = absurd (omega (arith, ap (λ (v : ℕ). T v l) z, table .none-of-0 l))
-      least s (no z) = omega arith
+      s : OfTable k l (recordCount (recordsOf t) i)
+      s = records-shown t table i h
 
-  pub records-all-good : firstBad (recordsOf T) ≡ records (recordsOf T)
+      go : (leastDegree ≤ k) ⊎ (l ≡ 0) → goodRecord (recordsOf t) i ≡ true
+      go (inl p) =
+          rw (
+            le-leb leastDegree k p,
+            le-leb k mostDegree (omega (arith, s .ordered, s .most)),
+            le-leb leastDegree l (omega (arith, s .ordered)),
+            le-leb l mostDegree (s .most),
+            le-leb k l (s .ordered),
+          )
+      go (inr p) = let z : k ≡ 0 = omega (arith, s .ordered) in rw (z, p)
+
+  records-all-good : firstBad (recordsOf t) ≡ records (recordsOf t)
   records-all-good =
-      lowest-none 0 (records (recordsOf T)) (λ i. not (goodRecord (recordsOf T) i)) (omega arith)
+      lowest-none 0 (records (recordsOf t)) (λ i. not (goodRecord (recordsOf t) i)) (omega arith)
       (λ i g h. ap not (records-good i h))
 
   -- in every cell
-  pub records-exact : (k l : ℕ) → blockCell (recordsOf T) k l ≡ T k l
+  pub records-exact : (k l : ℕ) → blockCell (recordsOf t) k l ≡ t .cells k l
   records-exact k l = go (decLt k degrees) (decLt l degrees)
     where
-      go : Dec (k < degrees) → Dec (l < degrees) → blockCell (recordsOf T) k l ≡ T k l
-      go (yes p) (yes q) = records-back T k l (table .symmetric) p q
+      go : Dec (k < degrees) → Dec (l < degrees) → blockCell (recordsOf t) k l ≡ t .cells k l
+      go (yes p) (yes q) = records-back k l p q
       go (yes p) (no q) =
-          blockCell-sym (recordsOf T) k l
-          ∙ blockCell-none-above (recordsOf T) records-all-good l k (omega arith)
+          blockCell-sym (recordsOf t) k l
+          ∙ blockCell-none-above (recordsOf t) records-all-good l k (omega arith)
           ∙ sym (table .none-above l k (omega arith))
           ∙ table .symmetric l k
-      go (no p) q = blockCell-none-above (recordsOf T) records-all-good k l (omega arith) ∙ sym (table .none-above k l (omega arith))
+      go (no p) q = blockCell-none-above (recordsOf t) records-all-good k l (omega arith) ∙ sym (table .none-above k l (omega arith))
 
--- Where each cell fits 16 bits they are bytes.
+-- Where each count fits 16 bits they are bytes.
 
 abbrev Bytes : List ℕ → Type 0
 Bytes b = (p : ℕ) → getD b p 0 < 256
@@ -167,10 +238,8 @@ unfolding catTo
 bytes-cat f zero h = λ p. omega arith
 bytes-cat f (suc n) h = bytes-append (catTo n f) (f n) (bytes-cat f n (λ i l. h i (omega arith))) (h n (omega arith))
 
-pub records-bytes : (T : ℕ → ℕ → ℕ) → ((k l : ℕ) → T k l < 65536) → (p : ℕ) → getD (recordsOf T) p 0 < 256
-records-bytes T small =
-    bytes-cat (λ k. catTo degrees (cellRecord T k)) degrees
-    (λ k p. bytes-cat (cellRecord T k) degrees (λ l q. cell k l p q (leb k l && not (eqb (T k l) 0))))
+bytes-count : (k l n : ℕ) → k < degrees → l < degrees → n < 65536 → Bytes (countRecord k l n)
+bytes-count k l n p q small = go (eqb n 0)
   where
     four : (a b c d : ℕ) → a < 256 → b < 256 → c < 256 → d < 256 → Bytes (a ∷ b ∷ c ∷ d ∷ [])
     four a b c d p q r s zero = p
@@ -179,6 +248,16 @@ records-bytes T small =
     four a b c d p q r s (suc (suc (suc zero))) = s
     four a b c d p q r s (suc (suc (suc (suc n)))) = omega arith
 
-    cell : (k l : ℕ) → k < degrees → l < degrees → (t : Bool) → Bytes (cond t (k ∷ l ∷ T k l % 256 ∷ T k l / 256 ∷ []) [])
-    cell k l p q true = four k l (T k l % 256) (T k l / 256) (omega arith) (omega arith) (omega arith) (omega (arith, small k l))
+    go : (t : Bool) → Bytes (cond t [] (k ∷ l ∷ n % 256 ∷ n / 256 ∷ []))
+    go true = λ i. omega arith
+    go false = four k l (n % 256) (n / 256) (omega arith) (omega arith) (omega arith) (omega arith)
+
+pub records-bytes : (t : DegreeTable) → t .isolated < 65536 → ((k l : ℕ) → t .cells k l < 65536) → (p : ℕ) → getD (recordsOf t) p 0 < 256
+records-bytes t few small =
+    bytes-append (countRecord 0 0 (t .isolated)) (cellRecords (t .cells)) (bytes-count 0 0 (t .isolated) (omega arith) (omega arith) few)
+    (bytes-cat (λ k. catTo degrees (cellRecord (t .cells) k)) degrees
+    (λ k p. bytes-cat (cellRecord (t .cells) k) degrees (λ l q. cell k l p q (leb k l))))
+  where
+    cell : (k l : ℕ) → k < degrees → l < degrees → (b : Bool) → Bytes (cond b (countRecord k l (t .cells k l)) [])
+    cell k l p q true = bytes-count k l (t .cells k l) p q (small k l)
     cell k l p q false = λ i. omega arith

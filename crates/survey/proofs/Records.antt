@@ -1,4 +1,4 @@
--- What the records of a matrix are: whole records, ascending, none with count 0.
+-- What the records of a table are: whole records, ascending, none with count 0.
 -- Assumes nothing.
 use mathlib.Core.Path.{_≡_, refl, ap, ap₂, _∙_}
 use mathlib.Core.List.{List, [], _∷_, _++_}
@@ -11,27 +11,34 @@ use native.Mathlib.Omega.{arith}
 use lib.ListN.{length, getD, length-append, List·getD-append}
 use lib.Seq.{getD-append-add}
 use borrow.Author.Tests.{le-leb, lt-leb, eq-eqb, ne-eqb}
-use Rattle.finite.specs.Range.{catTo}
+use Rattle.finite.specs.Range.{sumTo, catTo}
 use Rattle.finite.proofs.Fold.{catTo-cong, catTo-empty}
 use Rattle.finite.proofs.Sum.{sumTo-cong, sumTo-split}
-use Rattle.graph.specs.Tests.{mostDegree, degrees}
-use Rattle.table.specs.Block.{recordSize, records, recordK, recordL, recordCount, recordCell, blockCell}
-use Rattle.survey.specs.Survey.{cellRecord, recordsOf}
+use Rattle.graph.specs.Graph.{DegreeTable}
+use Rattle.graph.specs.Tests.{leastDegree, mostDegree, degrees, Table}
+use Rattle.table.specs.Block.{recordSize, records, recordK, recordL, recordCount}
+use Rattle.survey.specs.Survey.{countRecord, cellRecord, cellRecords, recordsOf}
 
 -- row k has no record before its diagonal
 pub row-starts : (T : ℕ → ℕ → ℕ) (k : ℕ) → catTo k (cellRecord T k) ≡ []
 row-starts T k = catTo-empty (cellRecord T k) k (λ l h. rw (lt-leb k l h))
 
--- they depend on the cells alone
-pub records-cong : (T U : ℕ → ℕ → ℕ) → ((k l : ℕ) → k < degrees → l < degrees → T k l ≡ U k l) → recordsOf T ≡ recordsOf U
-records-cong T U h =
-    catTo-cong (λ k. catTo degrees (cellRecord T k)) (λ k. catTo degrees (cellRecord U k)) degrees
-    (λ k p. catTo-cong (cellRecord T k) (cellRecord U k) degrees (λ l q. rw (h k l p q)))
+-- they depend on the isolated vertices and the cells alone
+pub records-cong : (t u : DegreeTable) → t .isolated ≡ u .isolated → ((k l : ℕ) → k < degrees → l < degrees → t .cells k l ≡ u .cells k l)
+    → recordsOf t ≡ recordsOf u
+records-cong t u i h =
+    ap₂ _++_ (ap (countRecord 0 0) i)
+    (catTo-cong (λ k. catTo degrees (cellRecord (t .cells) k)) (λ k. catTo degrees (cellRecord (u .cells) k)) degrees
+    (λ k p. catTo-cong (cellRecord (t .cells) k) (cellRecord (u .cells) k) degrees (λ l q. rw (h k l p q))))
 
 -- 1. One list of records behind another.
 
 abbrev pub Whole : List ℕ → Type 0
 Whole b = length b ≡ recordSize * records b
+
+-- the sum over the records, where f says what a record k, l, count adds
+abbrev pub added : (ℕ → ℕ → ℕ → ℕ) → List ℕ → ℕ
+added f b = sumTo (records b) (λ i. f (recordK b i) (recordL b i) (recordCount b i))
 
 module _ (a b : List ℕ) (whole : Whole a) where
   records-append : records (a ++ b) ≡ records a + records b
@@ -81,34 +88,33 @@ module _ (a b : List ℕ) (whole : Whole a) where
           let r = record-second (i - records a) in
           rw (e, r .0, r .1, r .2) (g (i - records a) (omega (arith, records-append)))
 
-  -- what the whole adds to a cell
-  pub cell-append : (k l : ℕ) → blockCell (a ++ b) k l ≡ blockCell a k l + blockCell b k l
-  cell-append k l =
+  -- what the whole adds
+  pub added-append : (f : ℕ → ℕ → ℕ → ℕ) → added f (a ++ b) ≡ added f a + added f b
+  added-append f =
       rw records-append
-      (sumTo-split (records a) (records b) (λ i. recordCell (a ++ b) i k l)
+      (sumTo-split (records a) (records b) (of (a ++ b))
       ∙ ap₂ _+_
-      (sumTo-cong (records a) (λ i. recordCell (a ++ b) i k l) (λ i. recordCell a i k l)
-      (λ i h. let r = record-first i h in rw (r .0, r .1, r .2)))
-      (sumTo-cong (records b) (λ i. recordCell (a ++ b) (records a + i) k l) (λ i. recordCell b i k l)
-      (λ i h. let r = record-second i in rw (r .0, r .1, r .2))))
+      (sumTo-cong (records a) (of (a ++ b)) (of a) (λ i h. let r = record-first i h in rw (r .0, r .1, r .2)))
+      (sumTo-cong (records b) (λ i. of (a ++ b) (records a + i)) (of b) (λ i h. let r = record-second i in rw (r .0, r .1, r .2))))
+    where
+      of : List ℕ → ℕ → ℕ
+      of c i = f (recordK c i) (recordL c i) (recordCount c i)
 
--- 2. The records of a matrix T, in their order.
+-- 2. Records in their order.
 
 -- k and l as one number, by which records rise
 abbrev key : ℕ → ℕ → ℕ
 key k l = degrees * k + l
 
-module _ (T : ℕ → ℕ → ℕ) where
-  -- a record of T: cell (k, l), which is not 0, with lo ≤ key < hi
+-- P is what holds of each record
+module _ (P : ℕ → ℕ → ℕ → Type 0) where
+  -- a record with lo ≤ key < hi
   record Shown (lo hi k l n : ℕ) : Type 0 where
-    ordered : k ≤ l
-    most : l ≤ mostDegree
-    exact : n ≡ T k l
-    counted : 0 < n
+    holds : P k l n
     from : lo ≤ key k l
     below : key k l < hi
 
-  -- whole records of T that rise strictly, from lo on and below hi
+  -- whole records that rise strictly, from lo on and below hi
   record Run (lo hi : ℕ) (b : List ℕ) : Type 0 where
     whole : Whole b
     each : (i : ℕ) → i < records b → Shown lo hi (recordK b i) (recordL b i) (recordCount b i)
@@ -117,42 +123,25 @@ module _ (T : ℕ → ℕ → ℕ) where
   run-none : (lo hi : ℕ) → Run lo hi []
   run-none lo hi = record { whole = refl; each = λ i h. absurd (omega arith); rising = λ i j h l. absurd (omega arith) }
 
-  -- the record of one cell, or none
-  run-cell : (k l : ℕ) → l < degrees → Run (key k l) (key k l + 1) (cellRecord T k l)
-  run-cell k l h = go (decLt l k) (ℕ-discrete (T k l) 0)
+  -- one record, or none where its count is 0
+  run-count : (k l n : ℕ) → (n ≢ 0 → P k l n) → Run (key k l) (key k l + 1) (countRecord k l n)
+  run-count k l n p = go (ℕ-discrete n 0)
     where
-      one : k ≤ l → T k l ≢ 0 → Run (key k l) (key k l + 1) (k ∷ l ∷ T k l % 256 ∷ T k l / 256 ∷ [])
-      one p q =
-          record {
-            whole = refl;
-            each = λ i m. let z : i ≡ 0 = omega arith in
-                rw z
-                (record {
-                  ordered = p;
-                  most = omega arith;
-                  exact = omega arith;
-                  counted = omega arith;
-                  from = omega arith;
-                  below = omega arith;
-                });
-            rising = λ i j m n. absurd (omega arith);
-          }
+      -- as a number, the record's two bytes are the count
+      count : n % 256 + 256 * (n / 256) ≡ n
+      count = omega arith
 
-      go : Dec (l < k) → Dec (T k l ≡ 0) → Run (key k l) (key k l + 1) (cellRecord T k l)
-      go (yes p) q = rw (lt-leb k l p) (run-none (key k l) (key k l + 1))
-      go (no p) (yes q) = rw (le-leb k l (omega arith), eq-eqb (T k l) 0 q) (run-none (key k l) (key k l + 1))
-      go (no p) (no q) = rw (le-leb k l (omega arith), ne-eqb (T k l) 0 q) (one (omega arith) q)
+      one : n ≢ 0 → Shown (key k l) (key k l + 1) k l (n % 256 + 256 * (n / 256))
+      one q = rw count (record { holds = p q; from = omega arith; below = omega arith })
+
+      go : Dec (n ≡ 0) → Run (key k l) (key k l + 1) (countRecord k l n)
+      go (yes q) = rw (eq-eqb n 0 q) (run-none (key k l) (key k l + 1))
+      go (no q) =
+          rw (ne-eqb n 0 q)
+          (record { whole = refl; each = λ i m. let z : i ≡ 0 = omega arith in rw z (one q); rising = λ i j m n. absurd (omega arith) })
 
   shown-wider : (lo hi lo′ hi′ k l n : ℕ) → lo′ ≤ lo → hi ≤ hi′ → Shown lo hi k l n → Shown lo′ hi′ k l n
-  shown-wider lo hi lo′ hi′ k l n p q s =
-      record {
-        ordered = s .ordered;
-        most = s .most;
-        exact = s .exact;
-        counted = s .counted;
-        from = omega (arith, s .from);
-        below = omega (arith, s .below);
-      }
+  shown-wider lo hi lo′ hi′ k l n p q s = record { holds = s .holds; from = omega (arith, s .from); below = omega (arith, s .below) }
 
   run-append : (lo mid hi : ℕ) (a b : List ℕ) → lo ≤ mid → mid ≤ hi → Run lo mid a → Run mid hi b → Run lo hi (a ++ b)
   run-append lo mid hi a b p q r s =
@@ -196,43 +185,89 @@ module _ (T : ℕ → ℕ → ℕ) where
       let u = up n (omega arith) in
       rw (← (add-one n)) (omega (arith, r .0), run-append (g 0) (g n) (g (n + 1)) (catTo n f) (f n) (r .0) u (r .1) (h n (omega arith)))
 
-  pub cell-whole : (k l : ℕ) → l < degrees → Whole (cellRecord T k l)
+-- 3. The records of a table.
+
+-- of a cell: two degrees, and a count that is not 0
+record OfCell (k l n : ℕ) : Type 0 where
+  least : leastDegree ≤ k
+  ordered : k ≤ l
+  most : l ≤ mostDegree
+  counted : 0 < n
+
+-- of a cell, or 0, 0 for isolated vertices
+pub record OfTable (k l n : ℕ) : Type 0 where
+  pub least : (leastDegree ≤ k) ⊎ (l ≡ 0)
+  pub ordered : k ≤ l
+  pub most : l ≤ mostDegree
+  pub counted : 0 < n
+
+pub first-whole : (n : ℕ) → Whole (countRecord 0 0 n)
+first-whole n = run-count (λ k l n. 0 < n) 0 0 n (λ q. omega arith) .whole
+
+module _ (t : DegreeTable) (table : Table (t .cells)) where
+  run-cell : (k l : ℕ) → l < degrees → Run OfCell (key k l) (key k l + 1) (cellRecord (t .cells) k l)
+  run-cell k l h = go (decLt l k)
+    where
+      least : t .cells k l ≢ 0 → Dec (k ≡ 0) → leastDegree ≤ k
+      least q (yes z) = absurd (q (rw z (table .none-of-0 l)))
+      least q (no z) = omega arith
+
+      go : Dec (l < k) → Run OfCell (key k l) (key k l + 1) (cellRecord (t .cells) k l)
+      go (yes p) = rw (lt-leb k l p) (run-none OfCell (key k l) (key k l + 1))
+      go (no p) =
+          rw (le-leb k l (omega arith))
+          (run-count OfCell k l (t .cells k l)
+          (λ q. record { least = least q (ℕ-discrete k 0); ordered = omega arith; most = omega arith; counted = omega arith }))
+
+  pub cell-whole : (k l : ℕ) → l < degrees → Whole (cellRecord (t .cells) k l)
   cell-whole k l h = run-cell k l h .whole
 
-  run-row : (k : ℕ) → Run (key k 0) (key k degrees) (catTo degrees (cellRecord T k))
+  run-row : (k : ℕ) → Run OfCell (key k 0) (key k degrees) (catTo degrees (cellRecord (t .cells) k))
   run-row k =
-      run-cat (cellRecord T k) (key k) degrees (λ l h. omega arith)
+      run-cat OfCell (cellRecord (t .cells) k) (key k) degrees (λ l h. omega arith)
       (λ l h. let e : key k (l + 1) ≡ key k l + 1 = omega arith in rw e (run-cell k l h)) .1
 
-  run-all : Run (key 0 0) (key degrees 0) (recordsOf T)
-  run-all =
-      run-cat (λ k. catTo degrees (cellRecord T k)) (λ k. key k 0) degrees (λ k h. omega arith)
+  run-cells : Run OfCell (key 0 0) (key degrees 0) (cellRecords (t .cells))
+  run-cells =
+      run-cat OfCell (λ k. catTo degrees (cellRecord (t .cells) k)) (λ k. key k 0) degrees (λ k h. omega arith)
       (λ k h. let e : key (k + 1) 0 ≡ key k degrees = omega arith in rw e (run-row k)) .1
 
-  -- they are whole records
-  pub records-whole : length (recordsOf T) ≡ recordSize * records (recordsOf T)
-  records-whole = run-all .whole
+  -- each cell is past the key of isolated vertices
+  run-table : Run OfTable (key 0 0) (key degrees 0) (recordsOf t)
+  run-table =
+      run-append OfTable (key 0 0) (key 0 0 + 1) (key degrees 0) (countRecord 0 0 (t .isolated)) (cellRecords (t .cells)) (omega arith) (omega arith)
+      (run-count OfTable 0 0 (t .isolated) (λ q. record { least = inr refl; ordered = omega arith; most = omega arith; counted = omega arith }))
+      (record { whole = run-cells .whole; each = λ i h. later _ _ _ (run-cells .each i h); rising = run-cells .rising })
+    where
+      later : (k l n : ℕ) → Shown OfCell (key 0 0) (key degrees 0) k l n → Shown OfTable (key 0 0 + 1) (key degrees 0) k l n
+      later k l n s =
+          let c = s .holds in
+          record {
+            holds = record { least = inl (c .least); ordered = c .ordered; most = c .most; counted = c .counted };
+            from = omega (arith, c .least);
+            below = s .below;
+          }
 
-  -- each shows a cell (k, l), k ≤ l ≤ 40, that is not 0
-  pub records-shown : (i : ℕ) → i < records (recordsOf T)
-      → (recordK (recordsOf T) i ≤ recordL (recordsOf T) i)
-      × (recordL (recordsOf T) i ≤ mostDegree)
-      × (recordCount (recordsOf T) i ≡ T (recordK (recordsOf T) i) (recordL (recordsOf T) i))
-      × (0 < recordCount (recordsOf T) i)
-  records-shown i h = let s = run-all .each i h in (s .ordered, s .most, s .exact, s .counted)
+  -- they are whole records
+  pub records-whole : length (recordsOf t) ≡ recordSize * records (recordsOf t)
+  records-whole = run-table .whole
+
+  -- each is of a cell that is not 0, or of some isolated vertices
+  pub records-shown : (i : ℕ) → i < records (recordsOf t) → OfTable (recordK (recordsOf t) i) (recordL (recordsOf t) i) (recordCount (recordsOf t) i)
+  records-shown i h = run-table .each i h .holds
 
   -- they rise strictly, by k and then l
-  pub records-rise : (i j : ℕ) → i < j → j < records (recordsOf T)
-      → (recordK (recordsOf T) i < recordK (recordsOf T) j)
-      ⊎ ((recordK (recordsOf T) i ≡ recordK (recordsOf T) j) × (recordL (recordsOf T) i < recordL (recordsOf T) j))
-  records-rise i j h l = go (decLt (recordK (recordsOf T) i) (recordK (recordsOf T) j))
+  pub records-rise : (i j : ℕ) → i < j → j < records (recordsOf t)
+      → (recordK (recordsOf t) i < recordK (recordsOf t) j)
+      ⊎ ((recordK (recordsOf t) i ≡ recordK (recordsOf t) j) × (recordL (recordsOf t) i < recordL (recordsOf t) j))
+  records-rise i j h l = go (decLt (recordK (recordsOf t) i) (recordK (recordsOf t) j))
     where
-      go : Dec (recordK (recordsOf T) i < recordK (recordsOf T) j)
-          → (recordK (recordsOf T) i < recordK (recordsOf T) j)
-          ⊎ ((recordK (recordsOf T) i ≡ recordK (recordsOf T) j) × (recordL (recordsOf T) i < recordL (recordsOf T) j))
+      go : Dec (recordK (recordsOf t) i < recordK (recordsOf t) j)
+          → (recordK (recordsOf t) i < recordK (recordsOf t) j)
+          ⊎ ((recordK (recordsOf t) i ≡ recordK (recordsOf t) j) × (recordL (recordsOf t) i < recordL (recordsOf t) j))
       go (yes p) = inl p
       go (no p) =
-          let u = run-all .rising i j h l in
-          let a = run-all .each i (omega arith) in
-          let b = run-all .each j l in
-          inr (omega arith, omega arith)
+          let u = run-table .rising i j h l in
+          let a = records-shown i (omega arith) in
+          let b = records-shown j l in
+          inr (omega (arith, a .most, b .most), omega (arith, a .most, b .most))

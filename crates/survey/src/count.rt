@@ -1,15 +1,15 @@
-// The degrees and the joint degree matrix of a list of good edges, counted edge by edge.
+// The degree table of a list of good edges: degrees and cells counted edge by edge, then the isolated vertices.
 ghost use mathlib.Core.Path.{_≡_};
-ghost use mathlib.Core.Bool.{true};
 ghost use Prim.Native.Nat.{_+_, _*_, _≤_, _<_};
 ghost use lib.ListN.{length, getD};
+ghost use Rattle.finite.specs.Range.{δ};
 ghost use Rattle.graph.specs.Graph.{degree};
 ghost use Rattle.graph.specs.Tests.{degrees};
 ghost use Rattle.table.specs.Inner.Cells.{place};
 ghost use Rattle.layout.specs.Layout.{mostVertices};
-ghost use Rattle.edgelist.specs.EdgeList.{listed, endV, endW, goodEdge, firstBadEdge, graphOf};
+ghost use Rattle.edgelist.specs.EdgeList.{listed, endV, endW, firstBadEdge, graphOf};
 ghost use Rattle.survey.specs.Survey.{firstAbove};
-ghost use Rattle.survey.specs.Inner.Counting.{countEdge, countCell, timesCounted, degreeIn, firstAboveIn, HasRoom, HasDegrees, HasCells, cellMostOwn, CellsSmall};
+ghost use Rattle.survey.specs.Inner.Counting.{countEdge, countCell, timesCounted, degreeIn, firstAboveIn, isolatedIn, HasRoom, HasDegrees, HasCells, cellMostOwn, CellsSmall};
 use layout::MOST_VERTICES;
 use slices::wide;
 use table::cells::CELLS;
@@ -21,7 +21,7 @@ const MOST_DEGREE: usize = DEGREES - 1;
 
 // Edge i is one more for both its ends.
 fn count_edge(counts: &mut [usize; MOST_VERTICES], edges: &[u8], i: usize)
-    requires { ⌜ (2 * i + 2 ≤ length (now edges)) × (goodEdge (now edges) i ≡ true) × HasRoom (now edges) i (now counts) ⌝ }
+    requires { ⌜ (2 * i + 2 ≤ length (now edges)) × (endV (now edges) i < endW (now edges) i) × (endW (now edges) i < mostVertices) × HasRoom (now edges) i (now counts) ⌝ }
     ensures { λ _. ⌜ now (counts .exit) ≡ countEdge (endV (now (edges .entry)) i) (endW (now (edges .entry)) i) (now (counts .entry)) ⌝ }
 {
     let v = wide(edges[2 * i]);
@@ -30,10 +30,10 @@ fn count_edge(counts: &mut [usize; MOST_VERTICES], edges: &[u8], i: usize)
     counts[w] = counts[w] + 1;
 }
 
-// The degree of each vertex.
-pub fn degrees_of(edges: &[u8]) -> [usize; MOST_VERTICES]
-    requires { ⌜ firstBadEdge (now edges) ≡ listed (now edges) ⌝ }
-    ensures { λ r. ⌜ HasDegrees r (graphOf (now (edges .entry))) ⌝ }
+// The degree of each vertex below the total, which the contract alone uses.
+pub fn degrees_of(edges: &[u8], total: usize) -> [usize; MOST_VERTICES]
+    requires { ⌜ (total ≤ mostVertices) × (firstBadEdge (now edges) total ≡ listed (now edges)) ⌝ }
+    ensures { λ r. ⌜ HasDegrees r total (graphOf (now (edges .entry))) ⌝ }
 {
     let n = edges.len() / 2;
     let mut counts = [0usize; MOST_VERTICES];
@@ -43,18 +43,41 @@ pub fn degrees_of(edges: &[u8]) -> [usize; MOST_VERTICES]
     counts
 }
 
-// The lowest vertex whose degree is over 40, or 200.
-pub fn first_above(counts: &[usize; MOST_VERTICES]) -> usize
-    ensures { λ r. ⌜ r ≡ firstAboveIn (now (counts .entry)) ⌝ }
+// The lowest vertex whose degree is over 40, or the total.
+pub fn first_above(counts: &[usize; MOST_VERTICES], total: usize) -> usize
+    requires { ⌜ total ≤ mostVertices ⌝ }
+    ensures { λ r. ⌜ r ≡ firstAboveIn (now (counts .entry)) total ⌝ }
 {
     let mut v = 0;
-    while v < MOST_VERTICES {
+    while v < total {
         if MOST_DEGREE < counts[v] {
             return v;
         }
         v += 1;
     }
     v
+}
+
+// 1 for a vertex with no edge, else 0.
+fn is_isolated(degree: usize) -> usize
+    ensures { λ r. ⌜ (r ≡ δ degree 0) × (r ≤ 1) ⌝ }
+{
+    if degree == 0 {
+        return 1;
+    }
+    0
+}
+
+// How many vertices below the total have no edge.
+pub fn isolated_in(counts: &[usize; MOST_VERTICES], total: usize) -> usize
+    requires { ⌜ total ≤ mostVertices ⌝ }
+    ensures { λ r. ⌜ (r ≡ isolatedIn (now (counts .entry)) total) × (r ≤ total) ⌝ }
+{
+    let mut n = 0;
+    for v in 0..total {
+        n += is_isolated(counts[v]);
+    }
+    n
 }
 
 // How often an edge between vertices of degrees a and b counts in their cell.
@@ -84,10 +107,10 @@ fn degree_at(counts: &[usize; MOST_VERTICES], v: u8) -> usize
     counts[wide(v)]
 }
 
-// The joint degree matrix at the graph's own degrees.
-pub fn cells_of(edges: &[u8], counts: &[usize; MOST_VERTICES]) -> [u32; CELLS]
-    requires { ⌜ (firstBadEdge (now edges) ≡ listed (now edges)) × HasDegrees (now counts) (graphOf (now edges)) × (firstAbove (now edges) ≡ mostVertices) ⌝ }
-    ensures { λ r. ⌜ HasCells r (degree mostVertices (graphOf (now (edges .entry)))) (graphOf (now (edges .entry))) × CellsSmall r ⌝ }
+// The joint degree matrix at the graph's own degrees. The contract alone uses the total.
+pub fn cells_of(edges: &[u8], total: usize, counts: &[usize; MOST_VERTICES]) -> [u32; CELLS]
+    requires { ⌜ (total ≤ mostVertices) × (firstBadEdge (now edges) total ≡ listed (now edges)) × (firstAbove (now edges) total ≡ total) × HasDegrees (now counts) total (graphOf (now edges)) ⌝ }
+    ensures { λ r. ⌜ HasCells r total (degree total (graphOf (now (edges .entry)))) (graphOf (now (edges .entry))) × CellsSmall r ⌝ }
 {
     let n = edges.len() / 2;
     let mut cells = [0u32; CELLS];

@@ -1,4 +1,4 @@
-// The records of a joint degree matrix, written to an output.
+// The records of a degree table, written to an output.
 ghost use mathlib.Core.Path.{_≡_};
 ghost use Prim.Native.Nat.{_+_, _*_, _≤_, _<_};
 ghost use lib.ListN.{length};
@@ -7,20 +7,20 @@ ghost use Rattle.finite.specs.Range.{catTo};
 ghost use Rattle.graph.specs.Tests.{degrees};
 ghost use Rattle.table.specs.Block.{recordSize};
 ghost use Rattle.table.specs.Inner.Cells.{matrixOf};
-ghost use Rattle.survey.specs.Survey.{cellRecord, recordsOf};
-ghost use Rattle.survey.specs.Inner.Counting.{CellsSmall, recordsMost};
+ghost use Rattle.layout.specs.Layout.{mostVertices};
+ghost use Rattle.survey.specs.Survey.{countRecord, cellRecord, cellRecords, recordsOf};
+ghost use Rattle.survey.specs.Inner.Counting.{tableOf, cellMostOwn, CellsSmall, cellRecordsMost, recordsMost};
 use slices::put;
 use table::cells::CELLS;
-use table::cells::cell;
+use table::cells::upper_cell;
 use table::degree::DEGREES;
 
-// The record of cell (k, l) from place at on, if the cell is not 0. The place behind it.
-fn put_record(cells: &[u32; CELLS], k: usize, l: usize, out: &mut [u8], at: usize) -> usize
-    requires { ⌜ (k ≤ l) × (l < degrees) × CellsSmall (now cells) × (at ≤ recordsMost) ⌝ }
-    ensures { λ r. ⌜ (r ≡ at + length (cellRecord (matrixOf (now (cells .entry))) k l)) × (r ≤ at + recordSize) ⌝ }
-    ensures { λ _. ⌜ now (out .exit) ≡ sets (now (out .entry)) at (cellRecord (matrixOf (now (cells .entry))) k l) ⌝ }
+// The record k, l, count from place at on, if the count is not 0. The place behind it.
+fn put_record(k: usize, l: usize, count: usize, out: &mut [u8], at: usize) -> usize
+    requires { ⌜ (k < degrees) × (l < degrees) × (count ≤ cellMostOwn) × (at ≤ recordsMost) ⌝ }
+    ensures { λ r. ⌜ (r ≡ at + length (countRecord k l count)) × (r ≤ at + recordSize) ⌝ }
+    ensures { λ _. ⌜ now (out .exit) ≡ sets (now (out .entry)) at (countRecord k l count) ⌝ }
 {
-    let count = cell(cells, k, l);
     if count == 0 {
         return at;
     }
@@ -39,20 +39,30 @@ fn put_row(cells: &[u32; CELLS], k: usize, out: &mut [u8], at: usize) -> usize
 {
     let mut a = at;
     for l in k..DEGREES {
-        a = put_record(cells, k, l, out, a);
+        a = put_record(k, l, upper_cell(cells, k, l), out, a);
     }
     a
 }
 
-// All records. How many bytes they are.
-pub fn put_records(cells: &[u32; CELLS], out: &mut [u8]) -> usize
-    requires { ⌜ CellsSmall (now cells) ⌝ }
-    ensures { λ r. ⌜ (r ≡ length (recordsOf (matrixOf (now (cells .entry))))) × (r ≤ recordsMost) ⌝ }
-    ensures { λ _. ⌜ now (out .exit) ≡ sets (now (out .entry)) 0 (recordsOf (matrixOf (now (cells .entry)))) ⌝ }
+// The records of all cells.
+fn put_cells(cells: &[u32; CELLS], out: &mut [u8], at: usize) -> usize
+    requires { ⌜ CellsSmall (now cells) × (at ≤ recordSize) ⌝ }
+    ensures { λ r. ⌜ (r ≡ at + length (cellRecords (matrixOf (now (cells .entry))))) × (r ≤ at + cellRecordsMost) ⌝ }
+    ensures { λ _. ⌜ now (out .exit) ≡ sets (now (out .entry)) at (cellRecords (matrixOf (now (cells .entry)))) ⌝ }
 {
-    let mut a = 0;
+    let mut a = at;
     for k in 0..DEGREES {
         a = put_row(cells, k, out, a);
     }
     a
+}
+
+// All records, that of the isolated vertices first. How many bytes they are.
+pub fn put_records(isolated: usize, cells: &[u32; CELLS], out: &mut [u8]) -> usize
+    requires { ⌜ (isolated ≤ mostVertices) × CellsSmall (now cells) ⌝ }
+    ensures { λ r. ⌜ (r ≡ length (recordsOf (tableOf isolated (now (cells .entry))))) × (r ≤ recordsMost) ⌝ }
+    ensures { λ _. ⌜ now (out .exit) ≡ sets (now (out .entry)) 0 (recordsOf (tableOf isolated (now (cells .entry)))) ⌝ }
+{
+    let first = put_record(0, 0, isolated, out, 0);
+    put_cells(cells, out, first)
 }

@@ -7,10 +7,10 @@ use Prim.Native.Nat.{ℕ, _+_, _*_, _≤_, _<_}
 use lib.Dec.{eqb, ltb}
 use lib.ListN.{getD, set}
 use Rattle.finite.specs.Range.{lowest}
-use Rattle.graph.specs.Graph.{Graph, degree, jdm}
+use Rattle.graph.specs.Graph.{Graph, degree, size, jdm, DegreeTable}
 use Rattle.graph.specs.Tests.{mostDegree, degrees}
 use Rattle.table.specs.Block.{recordSize}
-use Rattle.table.specs.Inner.Cells.{matrixOf, place}
+use Rattle.table.specs.Inner.Cells.{cellsSize, matrixOf, place}
 use Rattle.layout.specs.Layout.{mostVertices}
 use Rattle.edgelist.specs.EdgeList.{endV, endW}
 
@@ -38,17 +38,25 @@ timesCounted a b = cond (eqb a b) 2 1
 abbrev pub countCell : ℕ → ℕ → List ℕ → List ℕ
 countCell a b c = addAt c (place a b) (timesCounted a b)
 
--- the array holds the degrees of E
-abbrev pub HasDegrees : List ℕ → Graph → Type 0
-HasDegrees d E = (v : ℕ) → v < mostVertices → degreeIn d v ≡ degree mostVertices E v
+-- the array holds the degrees of E, a graph on n vertices
+abbrev pub HasDegrees : List ℕ → ℕ → Graph → Type 0
+HasDegrees d n E = (v : ℕ) → v < n → degreeIn d v ≡ degree n E v
 
--- the array holds the matrix of E at the classes cls
-abbrev pub HasCells : List ℕ → (ℕ → ℕ) → Graph → Type 0
-HasCells c cls E = (k l : ℕ) → k < degrees → l < degrees → matrixOf c k l ≡ jdm mostVertices cls E k l
+-- the array holds the matrix of E, a graph on n vertices, at the classes cls
+abbrev pub HasCells : List ℕ → ℕ → (ℕ → ℕ) → Graph → Type 0
+HasCells c n cls E = (k l : ℕ) → k < degrees → l < degrees → matrixOf c k l ≡ jdm n cls E k l
 
--- the lowest vertex whose degree in the array is over 40
-abbrev pub firstAboveIn : List ℕ → ℕ
-firstAboveIn d = lowest 0 mostVertices (λ v. ltb mostDegree (degreeIn d v))
+-- the lowest of n vertices whose degree in the array is over 40
+abbrev pub firstAboveIn : List ℕ → ℕ → ℕ
+firstAboveIn d n = lowest 0 n (λ v. ltb mostDegree (degreeIn d v))
+
+-- how many of n vertices have degree 0 in the array
+abbrev pub isolatedIn : List ℕ → ℕ → ℕ
+isolatedIn d n = size n (degreeIn d) 0
+
+-- the degree table of a number of isolated vertices and an array of cells
+abbrev pub tableOf : ℕ → List ℕ → DegreeTable
+tableOf isolated c = record { cells = matrixOf c; isolated = isolated }
 
 -- the most that a cell reaches: 200 vertices of degree 40
 abbrev pub cellMostOwn : ℕ
@@ -57,6 +65,10 @@ cellMostOwn = mostVertices * mostDegree
 abbrev pub CellsSmall : List ℕ → Type 0
 CellsSmall c = (k l : ℕ) → matrixOf c k l ≤ cellMostOwn
 
--- the most bytes that records take: 4 for each of 41 × 41 cells
+-- the most bytes that the records of cells take: 4 for each of 41 × 41
+abbrev pub cellRecordsMost : ℕ
+cellRecordsMost = recordSize * cellsSize
+
+-- and with the record of isolated vertices
 abbrev pub recordsMost : ℕ
-recordsMost = recordSize * (degrees * degrees)
+recordsMost = recordSize * (cellsSize + 1)

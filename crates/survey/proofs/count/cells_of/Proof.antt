@@ -6,7 +6,6 @@ use lib.ListN.{length, length-replicate}
 use Rattle.graph.specs.Graph.{degree}
 use Rattle.graph.specs.Tests.{degrees}
 use Rattle.table.specs.Inner.Cells.{cellsSize}
-use Rattle.layout.specs.Layout.{mostVertices}
 use Rattle.edgelist.specs.EdgeList.{listed, endV, endW, graphOf}
 use Rattle.edgelist.proofs.List.{graphTo, good}
 use Rattle.survey.specs.Inner.Counting.{HasCells}
@@ -16,22 +15,22 @@ use Rattle.survey.proofs.count.cells_of.Statement.{statement}
 use Rattle.survey.proofs.count.cells_of.Tie as tie
 
 abbrev Inv-loop : tie.InvT-loop
-Inv-loop edges counts n cells₀ i₀ cells i =
-    (i ≤ listed edges) × (length cells ≡ cellsSize) × HasCells cells (degree mostVertices (graphOf edges)) (graphTo edges i)
+Inv-loop edges total counts n cells₀ i₀ cells i =
+    (i ≤ listed edges) × (length cells ≡ cellsSize) × HasCells cells total (degree total (graphOf edges)) (graphTo edges i)
 
 abbrev μ-loop : tie.MeasureT-loop
-μ-loop edges counts n cells₀ i₀ cells i = listed edges - i
+μ-loop edges total counts n cells₀ i₀ cells i = listed edges - i
 
 pub cells-of-spec : {M : Type 1} → statement M
 cells-of-spec =
     tie.close (tie.spec Inv-loop μ-loop
-    (λ c. (omega arith, length-replicate {A = ℕ} cellsSize 0, cells-none _ (c .before .args .edges .now)))  -- loop-holds
+    (λ c. (omega arith, length-replicate {A = ℕ} cellsSize 0, cells-none _ (c .before .args .edges .now) (c .before .args .total)))  -- loop-holds
     (λ c. omega arith)  -- mul-degree-at
     (λ c. omega arith)  -- shared-slice-read-degree-at
     (λ c κs.
     let l = c .before .before in
     let s = l .before .before in
-    let g = good (s .args .edges .now) (s .pre .0) (l .loop .i) (omega arith) in
+    let g = good (s .args .edges .now) (s .args .total) (s .pre .1) (l .loop .i) (omega arith) in
     omega arith)  -- degree-at-requires
     (λ c. omega arith)  -- mul-degree-at-2
     (λ c. omega arith)  -- add-degree-at
@@ -39,7 +38,7 @@ cells-of-spec =
     (λ c κs.
     let l = c .before .before .before .before in
     let s = l .before .before in
-    let g = good (s .args .edges .now) (s .pre .0) (l .loop .i) (omega arith) in
+    let g = good (s .args .edges .now) (s .args .total) (s .pre .1) (l .loop .i) (omega arith) in
     omega arith)  -- degree-at-requires-2
     (λ c κs.
     let b = c .before in
@@ -47,13 +46,14 @@ cells-of-spec =
     let l = a .before .before .before in
     let s = l .before .before in
     let e = s .args .edges .now in
+    let t = s .args .total in
     let i = l .loop .i in
-    let g = good e (s .pre .0) i (omega arith) in
-    let da = degree-low e (s .pre .0) (s .pre .2) (endV e i) (omega arith) in
-    let db = degree-low e (s .pre .0) (s .pre .2) (endW e i) (omega arith) in
-    let ea = a .degree-at .ensures ∙ s .pre .1 (endV e i) (omega arith) in
-    let eb = b .degree-at2 .ensures ∙ s .pre .1 (endW e i) (omega arith) in
-    let low = cells-small e (s .pre .0) (s .pre .2) (degree mostVertices (graphOf e)) (l .loop .cells) i (omega arith) (l .loop .inv .2) in
+    let g = good e t (s .pre .1) i (omega arith) in
+    let da = degree-low e t (s .pre .1) (s .pre .2) (endV e i) (omega arith) in
+    let db = degree-low e t (s .pre .1) (s .pre .2) (endW e i) (omega arith) in
+    let ea = a .degree-at .ensures ∙ s .pre .3 (endV e i) (omega arith) in
+    let eb = b .degree-at2 .ensures ∙ s .pre .3 (endW e i) (omega arith) in
+    let low = cells-small e t (s .pre .1) (s .pre .2) (s .pre .0) (degree t (graphOf e)) (l .loop .cells) i (omega arith) (l .loop .inv .2) in
     let ra : a .degree-at .result < degrees = omega arith in
     let rb : b .degree-at2 .result < degrees = omega arith in
     (ra, rb, cell-room (l .loop .cells) (a .degree-at .result) (b .degree-at2 .result) low ra rb))  -- count-cell-requires
@@ -65,21 +65,23 @@ cells-of-spec =
     let l = a .before .before .before in
     let s = l .before .before in
     let e = s .args .edges .now in
+    let t = s .args .total in
     let i = l .loop .i in
-    let g = good e (s .pre .0) i (omega arith) in
-    let da = degree-low e (s .pre .0) (s .pre .2) (endV e i) (omega arith) in
-    let db = degree-low e (s .pre .0) (s .pre .2) (endW e i) (omega arith) in
-    let ea = a .degree-at .ensures ∙ s .pre .1 (endV e i) (omega arith) in
-    let eb = b .degree-at2 .ensures ∙ s .pre .1 (endW e i) (omega arith) in (
+    let g = good e t (s .pre .1) i (omega arith) in
+    let da = degree-low e t (s .pre .1) (s .pre .2) (endV e i) (omega arith) in
+    let db = degree-low e t (s .pre .1) (s .pre .2) (endW e i) (omega arith) in
+    let ea = a .degree-at .ensures ∙ s .pre .3 (endV e i) (omega arith) in
+    let eb = b .degree-at2 .ensures ∙ s .pre .3 (endW e i) (omega arith) in (
       omega arith,
       rw (c .count-cell .ensures, length-countCell) (l .loop .inv .1),
       rw (c .count-cell .ensures, ea, eb)
-          (cells-more (degree mostVertices (graphOf e)) e i (l .loop .cells) g (omega arith) (omega arith) (l .loop .inv .1) (l .loop .inv .2)),
+          (cells-more (degree t (graphOf e)) e t i (l .loop .cells) g (omega arith) (omega arith) (l .loop .inv .1) (l .loop .inv .2)),
     ))  -- loop-again
     (λ c.
     let l = c .before in
     let s = l .before .before in
     let e = s .args .edges .now in
+    let t = s .args .total in
     let n : l .loop .i ≡ listed e = omega arith in
-    let has : HasCells (l .loop .cells) (degree mostVertices (graphOf e)) (graphOf e) = rw n at (l .loop .inv .2) in
-    (has, cells-small e (s .pre .0) (s .pre .2) (degree mostVertices (graphOf e)) (l .loop .cells) (listed e) (omega arith) has)))  -- returns
+    let has : HasCells (l .loop .cells) t (degree t (graphOf e)) (graphOf e) = rw n at (l .loop .inv .2) in
+    (has, cells-small e t (s .pre .1) (s .pre .2) (s .pre .0) (degree t (graphOf e)) (l .loop .cells) (listed e) (omega arith) has)))  -- returns

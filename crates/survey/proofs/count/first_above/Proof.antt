@@ -7,17 +7,16 @@ use borrow.Author.Tests.{lt-ltb, le-ltb}
 use Rattle.finite.specs.Range.{lowest}
 use Rattle.finite.proofs.Lowest.{lowest-end, lowest-here, lowest-next}
 use Rattle.graph.specs.Tests.{mostDegree}
-use Rattle.layout.specs.Layout.{mostVertices}
 use Rattle.survey.specs.Inner.Counting.{degreeIn, firstAboveIn}
 use native.Mathlib.Omega.{arith}
 use Rattle.survey.proofs.count.first_above.Statement.{statement}
 use Rattle.survey.proofs.count.first_above.Tie as tie
 
 abbrev Inv-loop : tie.InvT-loop
-Inv-loop counts v₀ v = (v ≤ mostVertices) × (firstAboveIn counts ≡ lowest v mostVertices (λ v. ltb mostDegree (degreeIn counts v)))
+Inv-loop counts total v₀ v = (v ≤ total) × (firstAboveIn counts total ≡ lowest v total (λ v. ltb mostDegree (degreeIn counts v)))
 
 abbrev μ-loop : tie.MeasureT-loop
-μ-loop counts v₀ v = mostVertices - v
+μ-loop counts total v₀ v = total - v
 
 pub first-above-spec : {M : Type 1} → statement M
 first-above-spec =
