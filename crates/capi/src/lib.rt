@@ -106,11 +106,15 @@ pub extern "C" fn replica_edge_list(
 }
 
 #[no_mangle]
-pub extern "C" fn replica_jdm_of_edges(edges: &[u8], output: &mut [u8]) -> ReplicaAnswer
-    ensures { λ r. ⌜ r ≡ flat (writtenNumbers (surveyAnswer (now (edges .entry)) (length (now (output .entry))))) ⌝ }
-    ensures { λ _. ⌜ now (output .exit) ≡ surveyOutput (surveyAnswer (now (edges .entry)) (length (now (output .entry)))) (now (edges .entry)) (now (output .entry)) ⌝ }
+pub extern "C" fn replica_jdm_of_edges(
+    edges: &[u8],
+    total: usize,
+    output: &mut [u8],
+) -> ReplicaAnswer
+    ensures { λ r. ⌜ r ≡ flat (writtenNumbers (surveyAnswer (now (edges .entry)) total (length (now (output .entry))))) ⌝ }
+    ensures { λ _. ⌜ now (output .exit) ≡ surveyOutput (surveyAnswer (now (edges .entry)) total (length (now (output .entry)))) (now (edges .entry)) total (now (output .entry)) ⌝ }
 {
-    numbers::of_written(survey::jdm_of_edges(edges, output))
+    numbers::of_written(survey::jdm_of_edges(edges, total, output))
 }
 
 #[no_mangle]
