@@ -16,11 +16,11 @@ use Rattle.answer.specs.declared.TakeAnswer.{TakeAnswer}
 use Rattle.answer.specs.declared.TakeAnswer.the-variants.{Taken, Held, Refused}
 use Rattle.answer.proofs.Checks.{unless-passed, unless-stopped-passed}
 use Rattle.slices.proofs.Same.{same-bytes-eq, eq-same-bytes}
-use Rattle.table.specs.Block.{blockLength, records, firstBad, wellFormed, blockCell}
-use Rattle.journal.specs.Journal.{journalSize, mostBlocks, phase, blocks, blockAt, sameBlock, journalOk, jdmOf, stored, laid}
+use Rattle.table.specs.Block.{blockLength, records, firstBad, wellFormed, plus}
+use Rattle.journal.specs.Journal.{journalSize, mostBlocks, phase, blocks, blockAt, sameBlock, journalOk, tableOf, stored, laid}
 use Rattle.journal.proofs.Facts.{journal-facts, used-well-formed}
 use Rattle.journal.proofs.Laid.{blocks-laid, blockAt-laid}
-use Rattle.journal.proofs.Store.{length-stored, phase-stored, blocks-stored, blockAt-new, valid-stored, jdm-stored}
+use Rattle.journal.proofs.Store.{length-stored, phase-stored, blocks-stored, blockAt-new, valid-stored, table-stored}
 use Rattle.state.specs.Checks.{stateVerdict}
 use Rattle.state.specs.Valid.{lengthsOk, valid}
 use Rattle.state.proofs.Checks.{state-passed, state-go}
@@ -234,8 +234,8 @@ module _ (j g : List ℕ) (number : ℕ) (b : List ℕ) (f : TakenFacts j g numb
   pub stored-same : blockAt (stored j b) number ≡ b
   stored-same = rw (f .next) (blockAt-new j b size ok (f .room) (f .good))
 
-  stored-jdm : jdmOf (stored j b) ≡ (λ k l. jdmOf j k l + blockCell b k l)
-  stored-jdm = jdm-stored j b size ok (f .room) (f .good)
+  stored-table : tableOf (stored j b) ≡ plus (tableOf j) b
+  stored-table = table-stored j b size ok (f .room) (f .good)
 
 module _ (j g : List ℕ) (number : ℕ) (b : List ℕ) where
   pub take-lengths : lengthsOk j g ≡ true → lengthsOk (takeJournal (takeAnswer j g number b) j b) g ≡ true
@@ -266,8 +266,8 @@ module _ (j g : List ℕ) (number : ℕ) (b : List ℕ) where
         next (Refused r) = 0
 
     -- the table afterwards is the table before and the block
-    pub taken-jdm : jdmOf (takeJournal (takeAnswer j g number b) j b) ≡ (λ k l. jdmOf j k l + blockCell b k l)
-    taken-jdm = rw e (stored-jdm j g number b (taken-facts j g number b m e))
+    pub taken-table : tableOf (takeJournal (takeAnswer j g number b) j b) ≡ plus (tableOf j) b
+    taken-table = rw e (stored-table j g number b (taken-facts j g number b m e))
 
     -- the same block again is held ..
     pub take-again : takeAnswer (stored j b) g number b ≡ Held
