@@ -9,6 +9,7 @@ use native.Mathlib.Omega.{arith}
 use lib.Dec.{eqb, leb}
 use borrow.Author.Tests.{eqb-true, eq-eqb, leb-true, le-leb}
 use Rattle.finite.proofs.All.{and-left, and-right, and-both}
+use Rattle.graph.specs.Graph.{DegreeTable}
 use Rattle.graph.specs.Tests.{passes, vertices}
 use Rattle.graph.specs.Theorems.{Realized}
 use Rattle.graph.proofs.Realizability.{realizability}
@@ -23,9 +24,9 @@ use Rattle.answer.specs.declared.LayOutAnswer.the-variants.{LaidOut, Refused}
 use Rattle.answer.proofs.Checks.{unless-stopped-passed}
 use Rattle.layout.specs.Layout.{mostVertices, layoutVerdict}
 use Rattle.layout.proofs.Verdict.{layout-go, go-layout, layout-passed, layout-refused}
-use Rattle.journal.specs.Journal.{phase, jdmOf, laid}
+use Rattle.journal.specs.Journal.{phase, jdmOf, tableOf, laid}
 use Rattle.journal.proofs.Facts.{journal-facts}
-use Rattle.journal.proofs.Laid.{length-laid, jdm-laid, phase-laid, valid-laid}
+use Rattle.journal.proofs.Laid.{length-laid, table-laid, phase-laid, valid-laid}
 use Rattle.journal.proofs.Table.{jdm-table}
 use Rattle.adjacency.proofs.Empty.{empty-ok}
 use Rattle.state.specs.Checks.{phaseVerdict}
@@ -48,11 +49,11 @@ pub record LaidOutFacts (j g : List ℕ) : Type 0 where
   pub sound : valid j g ≡ true
   pub taking : phase j ≡ 0
   pub passed : passes (jdmOf j) ≡ true
-  pub small : vertices (jdmOf j) ≤ mostVertices
+  pub small : vertices (tableOf j) ≤ mostVertices
 
 -- the state is in phase 0, the table passes 9 to 11, and N is at most 200
 abbrev pub laysOut : List ℕ → Bool
-laysOut j = eqb (phase j) 0 && passes (jdmOf j) && leb (vertices (jdmOf j)) mostVertices
+laysOut j = eqb (phase j) 0 && passes (jdmOf j) && leb (vertices (tableOf j)) mostVertices
 
 abbrev pub isLaidOut : LayOutAnswer → Bool
 isLaidOut (LaidOut n) = true
@@ -62,23 +63,23 @@ module _ (j g : List ℕ) where
   pub lay-out-facts : (n : ℕ) → layOutAnswer j g ≡ LaidOut n → LaidOutFacts j g
   lay-out-facts n e =
       let s = unless-stopped-passed (phaseVerdict 0 j g) Refused _ (LaidOut n) (λ r. refused-not-laid-out r n) e in
-      let v = unless-stopped-passed (layoutVerdict (jdmOf j)) Refused _ (LaidOut n) (λ r. refused-not-laid-out r n) (s .1) in
+      let v = unless-stopped-passed (layoutVerdict (tableOf j)) Refused _ (LaidOut n) (λ r. refused-not-laid-out r n) (s .1) in
       let p = phase-passed 0 j g (s .0) in
-      let t = layout-go (jdmOf j) (v .0) in
+      let t = layout-go (tableOf j) (v .0) in
       record { lengths = p .0; sound = p .1; taking = p .2; passed = t .0; small = t .1 }
 
   -- on a valid state in phase 0 the tests 9 to 12 decide
   lay-out-verdict : lengthsOk j g ≡ true → valid j g ≡ true → phase j ≡ 0
-      → layOutAnswer j g ≡ laidOut (layoutVerdict (jdmOf j)) (vertices (jdmOf j))
+      → layOutAnswer j g ≡ laidOut (layoutVerdict (tableOf j)) (vertices (tableOf j))
   lay-out-verdict l v p = rw (phase-go 0 j g l v p)
 
-  pub facts-lay-out : LaidOutFacts j g → layOutAnswer j g ≡ LaidOut (vertices (jdmOf j))
+  pub facts-lay-out : LaidOutFacts j g → layOutAnswer j g ≡ LaidOut (vertices (tableOf j))
   facts-lay-out f =
       lay-out-verdict (f .lengths) (f .sound) (f .taking)
-      ∙ ap (λ (v : Verdict). laidOut v (vertices (jdmOf j))) (go-layout (jdmOf j) (f .passed) (f .small))
+      ∙ ap (λ (v : Verdict). laidOut v (vertices (tableOf j))) (go-layout (tableOf j) (f .passed) (f .small))
 
   -- the answer gives N
-  pub lay-out-vertices : (n : ℕ) → layOutAnswer j g ≡ LaidOut n → n ≡ vertices (jdmOf j)
+  pub lay-out-vertices : (n : ℕ) → layOutAnswer j g ≡ LaidOut n → n ≡ vertices (tableOf j)
   lay-out-vertices n e = ap count (sym e ∙ facts-lay-out (lay-out-facts n e))
     where
       count : LayOutAnswer → ℕ
@@ -87,21 +88,21 @@ module _ (j g : List ℕ) where
 
   lays-out-facts : lengthsOk j g ≡ true → valid j g ≡ true → laysOut j ≡ true → LaidOutFacts j g
   lays-out-facts l v h =
-      let t = leb (vertices (jdmOf j)) mostVertices in
+      let t = leb (vertices (tableOf j)) mostVertices in
       let a = and-left (eqb (phase j) 0 && passes (jdmOf j)) t h in
       record {
         lengths = l;
         sound = v;
         taking = eqb-true (phase j) 0 (and-left (eqb (phase j) 0) (passes (jdmOf j)) a);
         passed = and-right (eqb (phase j) 0) (passes (jdmOf j)) a;
-        small = leb-true (vertices (jdmOf j)) mostVertices (and-right (eqb (phase j) 0 && passes (jdmOf j)) t h);
+        small = leb-true (vertices (tableOf j)) mostVertices (and-right (eqb (phase j) 0 && passes (jdmOf j)) t h);
       }
 
   laid-out-lays : (n : ℕ) → layOutAnswer j g ≡ LaidOut n → laysOut j ≡ true
   laid-out-lays n e =
       let f = lay-out-facts n e in
       and-both (eqb (phase j) 0 && passes (jdmOf j)) _ (and-both _ _ (eq-eqb (phase j) 0 (f .taking)) (f .passed))
-      (le-leb (vertices (jdmOf j)) mostVertices (f .small))
+      (le-leb (vertices (tableOf j)) mostVertices (f .small))
 
   -- On a valid state: laid out exactly where the table passes 9 to 12, and the journal then is in phase 1, else as it was.
   pub lay-out-laid-out : lengthsOk j g ≡ true → valid j g ≡ true
@@ -115,9 +116,9 @@ module _ (j g : List ℕ) where
       go (Refused r) e false h = (refl, refl)
 
   -- the blocks add up to what they did
-  pub lay-out-jdm : (a : LayOutAnswer) → jdmOf (layOutJournal a j) ≡ jdmOf j
-  lay-out-jdm (LaidOut n) = jdm-laid j
-  lay-out-jdm (Refused r) = refl
+  pub lay-out-same-table : (a : LayOutAnswer) → tableOf (layOutJournal a j) ≡ tableOf j
+  lay-out-same-table (LaidOut n) = table-laid j
+  lay-out-same-table (Refused r) = refl
 
   pub lay-out-lengths : (a : LayOutAnswer) → lengthsOk j g ≡ true → lengthsOk (layOutJournal a j) g ≡ true
   lay-out-lengths (LaidOut n) l = lengths-both (laid j) g (length-laid j ∙ lengths-journal j g l) (lengths-adjacency j g l)
@@ -131,10 +132,11 @@ module _ (j g : List ℕ) where
       go (LaidOut n) e =
           let s = valid-facts j g l v in
           let f = lay-out-facts n e in
-          let small : vertexCount (laid j) ≤ mostVertices = rw (jdm-laid j) (f .small) in
+          let said = sym (table-laid j) in
+          let small = subst (λ (t : DegreeTable). vertices t ≤ mostVertices) said (f .small) in
           facts-valid-1 (laid j) g (phase-laid j (s .journal-length))
           (valid-laid j (s .journal-length) (journal-facts j (s .journal-ok) .phase-le) ∙ s .journal-ok)
-          (rw (jdm-laid j) (f .passed)) small
+          (subst (λ (t : DegreeTable). passes (t .cells) ≡ true) said (f .passed)) small
           (empty-ok g (s .empty (f .taking)) (vertexCount (laid j)) (degreeAt (laid j)) (jdmOf (laid j)) (s .adjacency-length) small)
       go (Refused r) e = v
 
@@ -146,20 +148,20 @@ module _ (j g : List ℕ) where
   module _ (l : lengthsOk j g ≡ true) (v : valid j g ≡ true) (p : phase j ≡ 0) where
     fails-want : passes (jdmOf j) ≡ false → IsWant
     fails-want h =
-        let r = layout-refused (jdmOf j) h in
-        rw (lay-out-verdict l v p ∙ ap (λ (w : Verdict). laidOut w (vertices (jdmOf j))) (r .1)) (r .2)
+        let r = layout-refused (tableOf j) h in
+        rw (lay-out-verdict l v p ∙ ap (λ (w : Verdict). laidOut w (vertices (tableOf j))) (r .1)) (r .2)
 
     want-fails : IsWant → passes (jdmOf j) ≡ false
     want-fails w = go (passes (jdmOf j)) refl
       where
-        at : (d : Verdict) → layoutVerdict (jdmOf j) ≡ d → layOutAnswer j g ≡ laidOut d (vertices (jdmOf j))
-        at d e = lay-out-verdict l v p ∙ ap (λ (w : Verdict). laidOut w (vertices (jdmOf j))) e
+        at : (d : Verdict) → layoutVerdict (tableOf j) ≡ d → layOutAnswer j g ≡ laidOut d (vertices (tableOf j))
+        at d e = lay-out-verdict l v p ∙ ap (λ (w : Verdict). laidOut w (vertices (tableOf j))) e
 
-        none : (layoutVerdict (jdmOf j) ≡ Go) ⊎ (layoutVerdict (jdmOf j) ≡ stop TooManyVertices) → ⊥
+        none : (layoutVerdict (tableOf j) ≡ Go) ⊎ (layoutVerdict (tableOf j) ≡ stop TooManyVertices) → ⊥
         none = ⊎-elim (λ e. omega (arith, rw (at Go e) at w)) (λ e. omega (arith, rw (at (stop TooManyVertices) e) at w))
 
         go : (t : Bool) → passes (jdmOf j) ≡ t → t ≡ false
-        go true e = absurd (none (layout-passed (jdmOf j) e))
+        go true e = absurd (none (layout-passed (tableOf j) e))
         go false e = refl
 
     pub lay-out-refused : IsWant ↔ (passes (jdmOf j) ≡ false)

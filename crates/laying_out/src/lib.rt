@@ -4,19 +4,21 @@ ghost use mathlib.Core.Bool.{true};
 ghost use lib.ListN.{length};
 ghost use Rattle.graph.specs.Tests.{vertices};
 ghost use Rattle.layout.specs.Layout.{layoutVerdict};
-ghost use Rattle.journal.specs.Journal.{journalSize, journalOk, jdmOf};
+ghost use Rattle.journal.specs.Journal.{journalSize, journalOk, tableOf};
 ghost use Rattle.laying_out.specs.LayOut.{laidOut, layOutAnswer, layOutJournal};
 use answer::LayOutAnswer;
 use answer::Verdict;
 use state::phase_check;
+use state::sum_table;
+use table::cells::CELLS;
 
 // The tests 9 to 12 on the summed table: N, or the refusal.
 fn lay_out_table(journal: &[u8]) -> LayOutAnswer
     requires { ⌜ (length (now journal) ≡ journalSize) × (journalOk (now journal) ≡ true) ⌝ }
-    ensures { λ r. ⌜ r ≡ laidOut (layoutVerdict (jdmOf (now (journal .entry)))) (vertices (jdmOf (now (journal .entry)))) ⌝ }
+    ensures { λ r. ⌜ r ≡ laidOut (layoutVerdict (tableOf (now (journal .entry)))) (vertices (tableOf (now (journal .entry)))) ⌝ }
 {
-    let cells = journal::cells_of(journal);
-    let counts = layout::counts(&cells);
+    let mut cells = [0u32; CELLS];
+    let counts = sum_table(journal, &mut cells);
     let verdict = layout::layout_check(&cells, &counts);
     match verdict {
         Verdict::Stop(r) => LayOutAnswer::Refused(r),
