@@ -5,7 +5,7 @@ ghost use Prim.Native.Nat.{_≤_};
 ghost use lib.ListN.{length};
 ghost use Rattle.graph.specs.Tests.{vertices};
 ghost use Rattle.layout.specs.Layout.{mostVertices};
-ghost use Rattle.journal.specs.Journal.{journalSize, journalOk, jdmOf};
+ghost use Rattle.journal.specs.Journal.{journalSize, journalOk, tableOf};
 ghost use Rattle.adjacency.specs.Adjacency.{adjacencySize};
 ghost use Rattle.figures.specs.Figures.{figuresAnswer, figuresOf};
 use answer::Figures;
@@ -14,14 +14,16 @@ use answer::Verdict;
 use journal::block_count;
 use journal::phase_of;
 use state::state_check;
+use state::sum_table;
+use table::cells::CELLS;
 
 // The figures of a laid state.
 fn figures_laid(journal: &[u8], adjacency: &[u8]) -> Figures
-    requires { ⌜ (length (now journal) ≡ journalSize) × (length (now adjacency) ≡ adjacencySize) × (journalOk (now journal) ≡ true) × (vertices (jdmOf (now journal)) ≤ mostVertices) ⌝ }
+    requires { ⌜ (length (now journal) ≡ journalSize) × (length (now adjacency) ≡ adjacencySize) × (journalOk (now journal) ≡ true) × (vertices (tableOf (now journal)) ≤ mostVertices) ⌝ }
     ensures { λ r. ⌜ r ≡ figuresOf false (now (journal .entry)) (now (adjacency .entry)) ⌝ }
 {
-    let cells = journal::cells_of(journal);
-    let counts = layout::counts(&cells);
+    let mut cells = [0u32; CELLS];
+    let counts = sum_table(journal, &mut cells);
     let vertices = layout::vertex_count(&cells, &counts);
     let blocks = block_count(journal);
     let wanted = layout::edges_wanted(&cells);
