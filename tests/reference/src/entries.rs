@@ -2,7 +2,7 @@
 //! all of them have passed, so that a refusal leaves every byte as it was.
 
 use crate::{
-    adjacency, journal, refused, refused_at, switching, validity, Matrix, Refused,
+    adjacency, journal, refused, refused_at, switching, validity, Matrix, Refused, Table,
     ADJACENCY_LENGTH, JOURNAL_LENGTH, MOST_BLOCKS, MOST_DEGREE, MOST_VERTICES,
 };
 
@@ -127,7 +127,7 @@ pub fn lay_out(journal: &mut [u8], adjacency: &[u8]) -> Result<u64, Refused> {
     if journal::phase(journal) == journal::LAID {
         return Err(refused(3));
     }
-    let vertices = journal::summed_matrix(journal).check()?;
+    let vertices = journal::summed_table(journal).check()?;
     journal[0] = journal::LAID;
     Ok(vertices)
 }
@@ -135,14 +135,15 @@ pub fn lay_out(journal: &mut [u8], adjacency: &[u8]) -> Result<u64, Refused> {
 /// Joins v and w. Returns the switches made.
 pub fn add_edge(journal: &[u8], adjacency: &mut [u8], v: u64, w: u64) -> Result<u64, Refused> {
     check_laid(journal, adjacency)?;
-    let wanted = journal::summed_matrix(journal);
+    let wanted = journal::summed_table(journal);
     let degrees = wanted.degrees();
     let (v, w) = check_pair(v, w, degrees.len())?;
     if adjacency::joined(adjacency, v, w) {
         return Err(refused(15));
     }
+    // No cell of degree 0 is ever short.
     let (k, l) = (degrees[v].min(degrees[w]), degrees[v].max(degrees[w]));
-    if adjacency::counted_at(adjacency, &degrees).cell(k, l) >= wanted.cell(k, l) {
+    if adjacency::counted_at(adjacency, &degrees).cell(k, l) >= wanted.matrix.cell(k, l) {
         return Err(refused_at(16, k as u64, l as u64));
     }
     Ok(switching::join(adjacency, &degrees, v, w))
@@ -151,7 +152,7 @@ pub fn add_edge(journal: &[u8], adjacency: &mut [u8], v: u64, w: u64) -> Result<
 /// Removes the edge between v and w.
 pub fn remove_edge(journal: &[u8], adjacency: &mut [u8], v: u64, w: u64) -> Result<(), Refused> {
     check_laid(journal, adjacency)?;
-    let vertices = journal::summed_matrix(journal).vertex_count() as usize;
+    let vertices = journal::summed_table(journal).vertex_count() as usize;
     let (v, w) = check_pair(v, w, vertices)?;
     if !adjacency::joined(adjacency, v, w) {
         return Err(refused(17));
@@ -163,7 +164,7 @@ pub fn remove_edge(journal: &[u8], adjacency: &mut [u8], v: u64, w: u64) -> Resu
 /// Joins until no cell is short. Returns joins and switches.
 pub fn complete(journal: &[u8], adjacency: &mut [u8]) -> Result<(u64, u64), Refused> {
     check_laid(journal, adjacency)?;
-    let wanted = journal::summed_matrix(journal);
+    let wanted = journal::summed_table(journal);
     Ok(switching::complete(adjacency, &wanted))
 }
 
@@ -178,8 +179,32 @@ pub fn edge_list(journal: &[u8], adjacency: &[u8], output: &mut [u8]) -> Result<
     write(&bytes, output)
 }
 
-/// Writes the joint degree matrix of a list of edges as records. Returns the written length.
-pub fn jdm_of_edges(edges: &[u8], output: &mut [u8]) -> Result<u64, Refused> {
+/// Writes the degree table of a list of edges among `total` vertices as records. Returns the written
+/// length.
+pub fn jdm_of_edges(edges: &[u8], total: u64, output: &mut [u8]) -> Result<u64, Refused> {
+    if total > MOST_VERTICES as u64 {
+        return Err(refused(19));
+    }
+    let pairs = check_edges(edges, total as usize)?;
+    let degree_of = |vertex: usize| {
+        let at = |&&(v, w): &&(usize, usize)| v == vertex || w == vertex;
+        pairs.iter().filter(at).count()
+    };
+    let degrees: Vec<usize> = (0..total as usize).map(degree_of).collect();
+    if let Some(vertex) = degrees.iter().position(|&degree| degree > MOST_DEGREE) {
+        return Err(refused_at(20, vertex as u64, 0));
+    }
+    let mut matrix = Matrix::new();
+    for &(v, w) in &pairs {
+        matrix.add_edge(degrees[v], degrees[w]);
+    }
+    let isolated = degrees.iter().filter(|&&degree| degree == 0).count();
+    write(&Table::new(matrix, isolated as u64).records(), output)
+}
+
+/// The rest of check 19: a whole number of edges, each with v below w below the total and above the
+/// edge before it.
+fn check_edges(edges: &[u8], total: usize) -> Result<Vec<(usize, usize)>, Refused> {
     if edges.len() % 2 != 0 {
         return Err(refused_at(19, edges.len() as u64 / 2, 0));
     }
@@ -189,23 +214,11 @@ pub fn jdm_of_edges(edges: &[u8], output: &mut [u8]) -> Result<u64, Refused> {
         .collect();
     for (index, &(v, w)) in pairs.iter().enumerate() {
         let not_above = index > 0 && (v, w) <= pairs[index - 1];
-        if v >= w || w >= MOST_VERTICES || not_above {
+        if v >= w || w >= total || not_above {
             return Err(refused_at(19, index as u64, 0));
         }
     }
-    let degree_of = |vertex: usize| {
-        let at = |&&(v, w): &&(usize, usize)| v == vertex || w == vertex;
-        pairs.iter().filter(at).count()
-    };
-    let degrees: Vec<usize> = (0..MOST_VERTICES).map(degree_of).collect();
-    if let Some(vertex) = degrees.iter().position(|&degree| degree > MOST_DEGREE) {
-        return Err(refused_at(20, vertex as u64, 0));
-    }
-    let mut matrix = Matrix::new();
-    for &(v, w) in &pairs {
-        matrix.add_edge(degrees[v], degrees[w]);
-    }
-    write(&matrix.records(), output)
+    Ok(pairs)
 }
 
 /// Phase, blocks, N, edges wanted and edges laid; the last three are 0 while blocks are taken.
@@ -219,9 +232,9 @@ pub fn figures(journal: &[u8], adjacency: &[u8]) -> Result<Figures, Refused> {
         edges_laid: 0,
     };
     if journal::phase(journal) == journal::LAID {
-        let wanted = journal::summed_matrix(journal);
+        let wanted = journal::summed_table(journal);
         figures.vertices = wanted.vertex_count();
-        figures.edges_wanted = wanted.edge_count();
+        figures.edges_wanted = wanted.matrix.edge_count();
         figures.edges_laid = adjacency::edges(adjacency).len() as u64;
     }
     Ok(figures)

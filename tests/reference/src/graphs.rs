@@ -2,7 +2,7 @@
 //! realizable without any of the tests of document 01.
 
 use crate::random::Random;
-use crate::{adjacency, Matrix, ADJACENCY_LENGTH, MOST_DEGREE, MOST_VERTICES};
+use crate::{adjacency, Matrix, Table, ADJACENCY_LENGTH, MOST_DEGREE, MOST_VERTICES};
 use std::collections::BTreeSet;
 
 /// A simple graph: edges (v, w) with v below w.
@@ -39,7 +39,7 @@ impl Graph {
         self.edges.insert((v.min(w), v.max(w)));
     }
 
-    /// The same edges on more vertices.
+    /// The same edges on more vertices, the new ones isolated.
     pub fn widened(mut self, vertices: usize) -> Graph {
         assert!(vertices >= self.vertices);
         self.vertices = vertices;
@@ -66,11 +66,33 @@ impl Graph {
         matrix
     }
 
-    /// The same graph without isolated vertices and numbered by rising degree, as laid out.
+    /// The number of vertices without an edge.
+    pub fn isolated(&self) -> usize {
+        self.degrees().iter().filter(|&&degree| degree == 0).count()
+    }
+
+    /// Its matrix and its isolated vertices.
+    pub fn table(&self) -> Table {
+        Table::new(self.matrix(), self.isolated() as u64)
+    }
+
+    /// The same graph numbered by rising degree, as laid out: isolated vertices come first.
     pub fn by_rising_degree(&self) -> Graph {
         let degrees = self.degrees();
-        let mut order: Vec<usize> = (0..self.vertices).filter(|&v| degrees[v] > 0).collect();
+        let mut order: Vec<usize> = (0..self.vertices).collect();
         order.sort_by_key(|&v| degrees[v]);
+        self.numbered(&order)
+    }
+
+    /// The same graph without its isolated vertices, the others in their order.
+    pub fn without_isolated(&self) -> Graph {
+        let degrees = self.degrees();
+        let linked: Vec<usize> = (0..self.vertices).filter(|&v| degrees[v] > 0).collect();
+        self.numbered(&linked)
+    }
+
+    /// The vertices in this order, which leaves out isolated ones at most.
+    fn numbered(&self, order: &[usize]) -> Graph {
         let mut number = vec![0; self.vertices];
         for (new, &old) in order.iter().enumerate() {
             number[old] = new;
@@ -215,9 +237,20 @@ pub fn cliques(vertices: usize, size: usize) -> Graph {
     graph
 }
 
-/// A random graph of any of the kinds above with at most `most` vertices.
+/// A random graph of any of the kinds above with at most `most` vertices, widened in every second
+/// case by isolated ones.
 pub fn any(most: usize, random: &mut Random) -> Graph {
-    let vertices = random.between(2, most.min(MOST_VERTICES));
+    let most = most.min(MOST_VERTICES);
+    let vertices = random.between(2, most);
+    let graph = any_kind(vertices, random);
+    match random.below(8) {
+        0 => graph.widened(most),
+        1..=3 => graph.widened(random.between(vertices, most)),
+        _ => graph,
+    }
+}
+
+fn any_kind(vertices: usize, random: &mut Random) -> Graph {
     match random.below(6) {
         0 => {
             let edges = random.below(pairs(vertices) + 1).min(4_000);

@@ -1,6 +1,6 @@
 //! The journal (document 01: the book): phase, block count, and the blocks in their slots.
 
-use crate::{refused, refused_at, Matrix, Refused, BLOCK_LENGTH, MOST_BLOCKS, MOST_DEGREE};
+use crate::{refused, refused_at, Refused, Table, BLOCK_LENGTH, MOST_BLOCKS, MOST_DEGREE};
 
 /// Bytes of a record: k, l, and a 16-bit count, low byte first.
 pub const RECORD_LENGTH: usize = 4;
@@ -25,18 +25,33 @@ pub fn check_block(block: &[u8]) -> Result<(), Refused> {
     }
     for (index, record) in block.chunks(RECORD_LENGTH).enumerate() {
         let (k, l) = (record[0] as usize, record[1] as usize);
-        if k < 1 || l > MOST_DEGREE || k > l {
+        if !is_isolated(k, l) && !is_cell(k, l) {
             return Err(refused_at(5, index as u64, 0));
         }
     }
     Ok(())
 }
 
-/// Adds the records of a well-formed block to a matrix.
-pub fn add_block(matrix: &mut Matrix, block: &[u8]) {
+/// A record 0, 0, count adds isolated vertices.
+fn is_isolated(k: usize, l: usize) -> bool {
+    k == 0 && l == 0
+}
+
+/// Any other record adds to a cell: its degrees are 1 to 40, the lower first.
+fn is_cell(k: usize, l: usize) -> bool {
+    1 <= k && k <= l && l <= MOST_DEGREE
+}
+
+/// Adds the records of a well-formed block to a table.
+pub fn add_block(table: &mut Table, block: &[u8]) {
     for record in block.chunks(RECORD_LENGTH) {
+        let (k, l) = (record[0] as usize, record[1] as usize);
         let count = record[2] as u64 + 256 * record[3] as u64;
-        matrix.add(record[0] as usize, record[1] as usize, count);
+        if is_isolated(k, l) {
+            table.isolated += count;
+        } else {
+            table.matrix.add(k, l, count);
+        }
     }
 }
 
@@ -67,15 +82,15 @@ pub fn block(journal: &[u8], i: usize) -> &[u8] {
 }
 
 /// The sum of all blocks of a valid journal.
-pub fn summed_matrix(journal: &[u8]) -> Matrix {
-    let mut matrix = Matrix::new();
+pub fn summed_table(journal: &[u8]) -> Table {
+    let mut table = Table::default();
     for i in 0..block_count(journal) {
-        add_block(&mut matrix, block(journal, i));
+        add_block(&mut table, block(journal, i));
     }
-    matrix
+    table
 }
 
-/// Whether a journal of the right length is as document 01 describes it, whatever its matrix.
+/// Whether a journal of the right length is as document 01 describes it, whatever its table.
 pub fn well_formed(journal: &[u8]) -> bool {
     if phase(journal) != TAKING && phase(journal) != LAID {
         return false;

@@ -1,9 +1,10 @@
-//! A second implementation of document 01, written from the document alone.
+//! A second implementation of document 01 and of document 02's P1, written from the documents alone.
 //!
 //! It is meant to be read and believed, not to be fast: every call recounts everything from the
 //! bytes it is lent. It shares nothing with the library it is compared with.
 //!
-//! * [`matrix`]: the joint degree matrix and tests 9 to 12
+//! * [`matrix`]: the joint degree matrix and tests 9 to 11
+//! * [`table`]: the matrix and the isolated vertices beside it, N, test 12, the numbering
 //! * [`journal`]: blocks, records and slots
 //! * [`adjacency`]: the adjacency matrix and its counts
 //! * [`validity`]: when journal and adjacency together are a valid state
@@ -24,10 +25,12 @@ pub mod random;
 pub mod search;
 pub mod six;
 pub mod switching;
+pub mod table;
 pub mod validity;
 
 pub use entries::*;
 pub use matrix::Matrix;
+pub use table::Table;
 
 /// Bytes of a journal: phase, block count, and 64 slots of one length byte and 64 bytes.
 pub const JOURNAL_LENGTH: usize = 4162;

@@ -1,6 +1,6 @@
 //! The joint degree matrix (document 01: the table).
 
-use crate::{refused, refused_at, Refused, MOST_DEGREE, MOST_VERTICES};
+use crate::{refused_at, Refused, MOST_DEGREE};
 
 /// Cell (k, l) counts the edges between a vertex of degree k and one of degree l; cell (k, k)
 /// counts each of its edges twice. Row and column 0 are unused and stay 0.
@@ -66,11 +66,6 @@ impl Matrix {
         self.row_sum(k) / k as u64
     }
 
-    /// N, the number of vertices.
-    pub fn vertex_count(&self) -> u64 {
-        (1..=MOST_DEGREE).map(|k| self.vertices_of_degree(k)).sum()
-    }
-
     /// The number of edges: half the sum of all cells, (k, l) and (l, k) both counted.
     pub fn edge_count(&self) -> u64 {
         let sum: u64 = (1..=MOST_DEGREE).map(|k| self.row_sum(k)).sum();
@@ -112,28 +107,6 @@ impl Matrix {
         Ok(())
     }
 
-    /// Tests 9 to 12; the number of vertices when they all pass.
-    pub fn check(&self) -> Result<u64, Refused> {
-        self.check_realizable()?;
-        let vertices = self.vertex_count();
-        if vertices > MOST_VERTICES as u64 {
-            return Err(refused(12));
-        }
-        Ok(vertices)
-    }
-
-    /// The degree of each vertex: vertices are numbered by rising degree.
-    /// Meant for a matrix that passes [`Matrix::check`].
-    pub fn degrees(&self) -> Vec<usize> {
-        let mut degrees = Vec::new();
-        for k in 1..=MOST_DEGREE {
-            for _ in 0..self.vertices_of_degree(k) {
-                degrees.push(k);
-            }
-        }
-        degrees
-    }
-
     /// The non-zero cells (k, l, count) with k at most l, ascending.
     pub fn nonzero_cells(&self) -> Vec<(usize, usize, u64)> {
         let mut cells = Vec::new();
@@ -145,14 +118,5 @@ impl Matrix {
             }
         }
         cells
-    }
-
-    /// The non-zero cells as records. Meant for counts of 16 bits.
-    pub fn records(&self) -> Vec<u8> {
-        let mut bytes = Vec::new();
-        for (k, l, count) in self.nonzero_cells() {
-            bytes.extend(crate::journal::record(k, l, count));
-        }
-        bytes
     }
 }

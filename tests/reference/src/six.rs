@@ -51,8 +51,8 @@ pub fn edge_list(journal: &[u8], adjacency: &[u8], output: &mut [u8]) -> Six {
     six(crate::edge_list(journal, adjacency, output).map(|length| [length, 0, 0, 0, 0]))
 }
 
-pub fn jdm_of_edges(edges: &[u8], output: &mut [u8]) -> Six {
-    six(crate::jdm_of_edges(edges, output).map(|length| [length, 0, 0, 0, 0]))
+pub fn jdm_of_edges(edges: &[u8], total: u64, output: &mut [u8]) -> Six {
+    six(crate::jdm_of_edges(edges, total, output).map(|length| [length, 0, 0, 0, 0]))
 }
 
 pub fn figures(journal: &[u8], adjacency: &[u8]) -> Six {

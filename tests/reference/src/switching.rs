@@ -1,6 +1,6 @@
 //! The neighbour switch, adding one edge, and completing, on a valid laid state.
 
-use crate::{adjacency, Matrix, MOST_DEGREE};
+use crate::{adjacency, Matrix, Table, MOST_DEGREE};
 
 /// Whether v has as many edges as its degree (document 01: full).
 fn saturated(adjacency: &[u8], degrees: &[usize], v: usize) -> bool {
@@ -68,13 +68,13 @@ fn lowest_open_pair(
 
 /// Joins the lowest open pair of the lowest short cell until no cell is short.
 /// Returns joins and switches.
-pub fn complete(adjacency: &mut [u8], wanted: &Matrix) -> (u64, u64) {
+pub fn complete(adjacency: &mut [u8], wanted: &Table) -> (u64, u64) {
     let degrees = wanted.degrees();
     let (mut joins, mut switches) = (0, 0);
     loop {
         // Recounted before every join: a switch must not change any cell, so it is not trusted to.
         let counted = adjacency::counted_at(adjacency, &degrees);
-        let Some((k, l)) = lowest_short_cell(&counted, wanted) else {
+        let Some((k, l)) = lowest_short_cell(&counted, &wanted.matrix) else {
             return (joins, switches);
         };
         let (v, w) = lowest_open_pair(adjacency, &degrees, k, l)

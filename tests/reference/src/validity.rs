@@ -1,6 +1,6 @@
 //! When journal and adjacency together are a valid state (document 01: a sound bench).
 
-use crate::{adjacency, journal, Matrix, MOST_DEGREE};
+use crate::{adjacency, journal, Matrix, Table, MOST_DEGREE};
 
 /// For a journal and an adjacency matrix of the right lengths.
 pub fn valid(journal: &[u8], adjacency: &[u8]) -> bool {
@@ -10,15 +10,15 @@ pub fn valid(journal: &[u8], adjacency: &[u8]) -> bool {
     if journal::phase(journal) == journal::TAKING {
         return adjacency.iter().all(|&byte| byte == 0);
     }
-    let wanted = journal::summed_matrix(journal);
+    let wanted = journal::summed_table(journal);
     wanted.check().is_ok() && valid_when_laid(&wanted, adjacency)
 }
 
-fn valid_when_laid(wanted: &Matrix, adjacency: &[u8]) -> bool {
+fn valid_when_laid(wanted: &Table, adjacency: &[u8]) -> bool {
     let degrees = wanted.degrees();
     adjacency::well_formed(adjacency, degrees.len())
         && no_vertex_above_its_degree(&degrees, adjacency)
-        && no_cell_above(&adjacency::counted_at(adjacency, &degrees), wanted)
+        && no_cell_above(&adjacency::counted_at(adjacency, &degrees), &wanted.matrix)
 }
 
 fn no_vertex_above_its_degree(degrees: &[usize], adjacency: &[u8]) -> bool {
@@ -26,5 +26,5 @@ fn no_vertex_above_its_degree(degrees: &[usize], adjacency: &[u8]) -> bool {
 }
 
 fn no_cell_above(counted: &Matrix, wanted: &Matrix) -> bool {
-    (1..=MOST_DEGREE).all(|k| (1..=MOST_DEGREE).all(|l| counted.cell(k, l) <= wanted.cell(k, l)))
+    (0..=MOST_DEGREE).all(|k| (0..=MOST_DEGREE).all(|l| counted.cell(k, l) <= wanted.cell(k, l)))
 }

@@ -4,7 +4,7 @@ use reference::journal::record;
 use reference::program::{lay, output, Laid};
 use reference::{
     add_edge, adjacency, clear, complete, edge_list, figures, held_block, jdm_of_edges, lay_out,
-    refused, refused_at, remove_edge, take_block, Matrix, Refused, Take, ADJACENCY_LENGTH,
+    refused, refused_at, remove_edge, take_block, Refused, Table, Take, ADJACENCY_LENGTH,
     JOURNAL_LENGTH,
 };
 
@@ -133,7 +133,7 @@ fn the_program_with_full_blocks() {
 #[test]
 fn the_diagonal_counts_twice() {
     let mut output = [0; 4];
-    assert_eq!(jdm_of_edges(&[0, 1], &mut output), Ok(4));
+    assert_eq!(jdm_of_edges(&[0, 1], 2, &mut output), Ok(4));
     assert_eq!(output, [1, 1, 2, 0]);
     let state = laid(&[(1, 1, 4)]);
     assert_eq!(adjacency::edges(&state.adjacency).len(), 2);
@@ -211,8 +211,8 @@ fn the_largest_sums_do_not_overflow() {
         let taken = take_block(&mut journal, &adjacency, number, &block);
         assert_eq!(taken, Ok(Take::Taken(number + 1)));
     }
-    let sum = reference::journal::summed_matrix(&journal);
-    assert_eq!(sum.row_sum(1), 67_107_840);
+    let sum = reference::journal::summed_table(&journal);
+    assert_eq!(sum.matrix.row_sum(1), 67_107_840);
     assert_eq!(lay_out(&mut journal, &adjacency), Err(refused(12)));
 }
 
@@ -311,16 +311,16 @@ fn lists_and_their_matrices() {
     let short = edge_list(&state.journal, &state.adjacency, &mut list[..7]);
     assert_eq!(short, Err(refused(18)));
     let mut output = [9; 13];
-    assert_eq!(jdm_of_edges(&list[..8], &mut output), Ok(12));
+    assert_eq!(jdm_of_edges(&list[..8], 4, &mut output), Ok(12));
     assert_eq!(output, [1, 3, 1, 0, 2, 2, 2, 0, 2, 3, 2, 0, 9]);
-    let short = jdm_of_edges(&list[..8], &mut output[..11]);
+    let short = jdm_of_edges(&list[..8], 4, &mut output[..11]);
     assert_eq!(short, Err(refused(18)));
-    assert_eq!(jdm_of_edges(&[], &mut []), Ok(0));
+    assert_eq!(jdm_of_edges(&[], 0, &mut []), Ok(0));
 }
 
 #[test]
 fn refusals_of_edge_lists() {
-    let refusal = |edges: &[u8]| jdm_of_edges(edges, &mut []).unwrap_err();
+    let refusal = |edges: &[u8]| jdm_of_edges(edges, 200, &mut []).unwrap_err();
     assert_eq!(refusal(&[5, 4, 3]), refused_at(19, 1, 0));
     assert_eq!(refusal(&[5]), refused_at(19, 0, 0));
     assert_eq!(refusal(&[0, 1, 1, 1]), refused_at(19, 1, 0));
@@ -388,7 +388,8 @@ fn states_that_are_not_valid() {
     journal_with(1, 0); // the first slot is not zero then
     journal_with(1, 2); // the second slot is zero then
     journal_with(1, 65);
-    journal_with(2, 8);
+    journal_with(2, 5); // a block is whole records
+    journal_with(2, 68);
     journal_with(3, 0);
     journal_with(5, 6); // a triangle has no room for four edges
     journal_with(7, 1); // after the block's length
@@ -411,8 +412,8 @@ fn states_that_are_not_valid() {
 fn cells_are_counted_at_the_degrees_laid_out() {
     // Vertices 4 and 5 are laid out with degree 2. Edge 4-5 alone gives both degree 1 for now, but
     // it counts in cell (2, 2), where none is wanted.
-    let matrix = Matrix::of(&[(1, 2, 4)]);
-    assert_eq!(matrix.degrees(), [1, 1, 1, 1, 2, 2]);
+    let table = Table::of(&[(1, 2, 4)], 0);
+    assert_eq!(table.degrees(), [1, 1, 1, 1, 2, 2]);
     let (journal, mut adjacency) = empty(&[(1, 2, 4)]);
     adjacency::insert(&mut adjacency, 4, 5);
     assert_eq!(figures(&journal, &adjacency), Err(refused(2)));

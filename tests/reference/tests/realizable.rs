@@ -2,10 +2,10 @@
 //! to 6 vertices and against the second builder.
 
 use reference::graphs::{self, from_bits};
-use reference::program::lay;
+use reference::program::{lay, Laid};
 use reference::random::Random;
-use reference::search::{find_graph, matrices_of_all_graphs};
-use reference::{adjacency, Matrix, MOST_DEGREE};
+use reference::search::{find_graph, matrices_of_all_graphs, tables_of_all_graphs};
+use reference::{adjacency, Matrix, Table, MOST_DEGREE};
 use std::collections::BTreeSet;
 
 const VERTICES: usize = 6;
@@ -107,17 +107,19 @@ fn the_search_agrees_on_small_cells() {
             (2, 3, digit(4)),
             (3, 3, digit(5)),
         ]);
-        if matrix.vertex_count() > 8 {
+        // Isolated vertices hinder no graph and help to none.
+        let table = Table::new(matrix, number % 3);
+        if table.vertex_count() - table.isolated > 8 {
             continue;
         }
-        match find_graph(&matrix) {
+        match find_graph(&table) {
             Some(graph) => {
-                assert_eq!(graph.matrix(), matrix);
-                assert_eq!(matrix.check_realizable(), Ok(()));
+                assert_eq!(graph.table(), table);
+                assert_eq!(table.check(), Ok(graph.vertices() as u64));
                 found += 1;
             }
             None => {
-                assert!(matrix.check_realizable().is_err());
+                assert!(table.matrix.check_realizable().is_err());
                 none += 1;
             }
         }
@@ -127,21 +129,24 @@ fn the_search_agrees_on_small_cells() {
 
 #[test]
 fn every_small_graph_is_completed() {
-    for matrix in matrices_of_all_graphs(VERTICES) {
-        let laid = lay(&matrix.records(), &[]).unwrap();
-        assert_eq!(own_matrix(&laid.adjacency), matrix);
-        assert_eq!(laid.joins, matrix.edge_count());
+    for table in tables_of_all_graphs(VERTICES) {
+        let laid = lay(&table.records(), &[]).unwrap();
+        assert_eq!(laid.vertices, VERTICES as u64);
+        assert_eq!(own_table(&laid), table);
+        assert_eq!(laid.joins, table.matrix.edge_count());
     }
 }
 
-/// Equation (1) at the degrees the graph itself has.
-fn own_matrix(bytes: &[u8]) -> Matrix {
-    let degrees: Vec<usize> = (0..200).map(|v| adjacency::edges_at(bytes, v)).collect();
+/// Equation (1) at the degrees the graph itself has, and its vertices without an edge.
+fn own_table(laid: &Laid) -> Table {
+    let edges_at = |v| adjacency::edges_at(&laid.adjacency, v as usize);
+    let degrees: Vec<usize> = (0..laid.vertices).map(edges_at).collect();
     let mut matrix = Matrix::new();
-    for (v, w) in adjacency::edges(bytes) {
+    for (v, w) in adjacency::edges(&laid.adjacency) {
         matrix.add_edge(degrees[v], degrees[w]);
     }
-    matrix
+    let isolated = degrees.iter().filter(|&&degree| degree == 0).count();
+    Table::new(matrix, isolated as u64)
 }
 
 #[test]
@@ -149,11 +154,11 @@ fn random_graphs_pass_and_are_completed() {
     let mut random = Random::new(1);
     for round in 0..60 {
         let graph = graphs::any(if round < 50 { 40 } else { 200 }, &mut random);
-        let matrix = graph.matrix();
+        let table = graph.table();
         assert!(graph.degrees().iter().all(|&degree| degree <= MOST_DEGREE));
-        assert_eq!(matrix.check_realizable(), Ok(()));
-        let laid = lay(&matrix.records(), &[]).unwrap();
-        assert_eq!(own_matrix(&laid.adjacency), matrix);
+        assert_eq!(table.check(), Ok(graph.vertices() as u64));
+        let laid = lay(&table.records(), &[]).unwrap();
+        assert_eq!(own_table(&laid), table);
         assert_eq!(laid.joins, graph.edges().len() as u64);
     }
 }
@@ -164,8 +169,10 @@ fn a_graph_numbered_by_rising_degree_is_a_laid_state() {
     for _ in 0..20 {
         let graph = graphs::any(60, &mut random);
         let laid = graph.by_rising_degree();
-        assert_eq!(laid.matrix(), graph.matrix());
-        assert_eq!(laid.degrees(), graph.matrix().degrees());
+        assert_eq!(laid.table(), graph.table());
+        assert_eq!(laid.degrees(), graph.table().degrees());
+        let linked = graph.without_isolated();
+        assert_eq!(linked.table(), Table::new(graph.matrix(), 0));
     }
 }
 
