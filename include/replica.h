@@ -13,9 +13,12 @@
  *     degree l; cell (l, k) is the same cell;
  *   - cell (k, k) is TWICE the number of edges that join two vertices of degree k.
  *
- * You hand in such a matrix, and the library builds a graph that has it: up to 200 vertices, degrees
- * 1 to 40, up to 4,000 edges. You may add and remove edges by hand in between; the library completes
- * whatever you have left.
+ * A vertex without any edge is isolated. No cell tells of isolated vertices; their number stands
+ * beside the matrix.
+ *
+ * You hand in such a matrix and a number of isolated vertices, which may be 0, and the library
+ * builds a graph that has both: up to 200 vertices in all, degrees up to 40, up to 4,000 edges. You
+ * may add and remove edges by hand in between; the library completes whatever you have left.
  *
  * THE CALLS, IN THEIR USUAL ORDER
  *
@@ -27,14 +30,19 @@
  *   6. replica_edge_list   the graph as a list of edges
  *
  * A block that is sent again under its old number is recognised and not added twice. Vertices are
- * numbered from 0 by rising degree: first all of degree 1, then all of degree 2, and so on. Once
- * laid out, any two vertices that are not joined and whose cell is still short of edges can be
- * joined, in any order; there is no dead end.
+ * numbered from 0 by rising degree: first the isolated ones, then all of degree 1, then all of
+ * degree 2, and so on. Once laid out, any two vertices that are not joined and whose cell is still
+ * short of edges can be joined, in any order; there is no dead end.
  *
  * FORMATS
  *
- * A record is 4 bytes: k, l, then a 16-bit count, low byte first, with 1 <= k <= l <= 40. It adds
- * its count to cell (k, l). The same cell may come in several records; counts add up.
+ * A record is 4 bytes: k, l, then a 16-bit count, low byte first; the count may be 0. There are two
+ * forms:
+ *
+ *   - with 1 <= k <= l <= 40 it adds its count to cell (k, l);
+ *   - with k = l = 0 it adds that many isolated vertices.
+ *
+ * The same pair may come in several records; counts add up.
  * A block is 1 to 16 records, so 4 to 64 bytes.
  * An edge list is 2 bytes an edge, v then w, v < w, ascending by v and then w.
  *
@@ -84,8 +92,9 @@ extern "C" {
 #define REPLICA_MOST_VERTICES 200
 /* An output of this many bytes is never too short for replica_edge_list. */
 #define REPLICA_MOST_EDGE_LIST 8000
-/* An output of this many bytes is never too short for replica_jdm_of_edges. */
-#define REPLICA_MOST_RECORDS 3280
+/* An output of this many bytes is never too short for replica_jdm_of_edges: 820 cells, and the
+ * isolated vertices. */
+#define REPLICA_MOST_RECORDS 3284
 
 /* What every function returns. */
 struct ReplicaAnswer {
@@ -108,7 +117,8 @@ enum {
     REPLICA_REFUSED_PHASE = 3,
     /* The block has 0 bytes, more than 64, or not a multiple of 4. */
     REPLICA_REFUSED_BLOCK_LENGTH = 4,
-    /* A record has a degree outside 1 to 40, or k > l. first: index of the first such record. */
+    /* A record has a degree outside 1 to 40, or k > l; 0, 0 is the only pair with a zero that is
+     * allowed. first: index of the first such record. */
     REPLICA_REFUSED_RECORD = 5,
     /* The block number is too high to come next, or no such block is held. */
     REPLICA_REFUSED_BLOCK_NUMBER = 6,
@@ -122,7 +132,7 @@ enum {
     REPLICA_REFUSED_ROW = 10,
     /* A cell (k, l) is larger than any simple graph allows. first: k, second: l. */
     REPLICA_REFUSED_CELL = 11,
-    /* The matrix needs more than 200 vertices. */
+    /* There are more than 200 vertices, the isolated ones included. */
     REPLICA_REFUSED_VERTICES = 12,
     /* A vertex number is not below the number of vertices. */
     REPLICA_REFUSED_NO_VERTEX = 13,
@@ -130,14 +140,16 @@ enum {
     REPLICA_REFUSED_SAME_VERTEX = 14,
     /* v and w are joined already. */
     REPLICA_REFUSED_EDGE_PRESENT = 15,
-    /* The cell of the two vertices has all its edges. first, second: their degrees, lower first. */
+    /* The cell of the two vertices has all its edges, or one of them is isolated and takes none.
+     * first, second: their degrees, lower first; the degree of an isolated vertex is 0. */
     REPLICA_REFUSED_NOT_SHORT = 16,
     /* v and w are not joined. */
     REPLICA_REFUSED_EDGE_ABSENT = 17,
     /* The output is too short. */
     REPLICA_REFUSED_OUTPUT = 18,
-    /* The edge list has an odd length (first: its number of whole edges), or an edge with v >= w,
-     * w >= 200 or not above the edge before it (first: index of the first such edge). */
+    /* The total is over 200 (no place); or the edge list has an odd length (first: its number of
+     * whole edges); or an edge has v >= w, a w not below the total, or is not above the edge before
+     * it (first: index of the first such edge). */
     REPLICA_REFUSED_EDGE_LIST = 19,
     /* A vertex of the edge list has a degree over 40. first: the lowest such vertex. */
     REPLICA_REFUSED_DEGREE = 20
@@ -184,10 +196,11 @@ struct ReplicaAnswer replica_held_block(const uint8_t *journal, size_t journal_l
  * Tests that a simple graph has the sum of all blocks, and fixes the vertices. No new block is taken
  * afterwards.
  *
- *   first   the number of vertices; 0 if there are no blocks
+ *   first   the number of vertices, the isolated ones included; 0 if there are no blocks
  *
  * Refused: 1, 2, 3 (laid out already), 9, 10, 11 (no simple graph of any size has this matrix), 12
- * (there is one, but it has more than 200 vertices). After 9 to 12 further blocks can be taken.
+ * (there is one, but with the isolated vertices it has more than 200). After 9 to 12 further blocks
+ * can be taken.
  */
 struct ReplicaAnswer replica_lay_out(uint8_t *journal, size_t journal_length,
                                      const uint8_t *adjacency, size_t adjacency_length);
@@ -195,7 +208,8 @@ struct ReplicaAnswer replica_lay_out(uint8_t *journal, size_t journal_length,
 /*
  * Joins v and w. If one of them has as many edges as its degree already, it hands one of them to
  * another vertex of the same degree first; this is a switch. v is looked at before w, so naming the
- * pair the other way round may move other edges. No cell of the matrix changes by a switch.
+ * pair the other way round may move other edges. No cell of the matrix changes by a switch. No edge
+ * can be added at an isolated vertex: that is 16.
  *
  *   first   switches made, 0 to 2
  *
@@ -216,7 +230,8 @@ struct ReplicaAnswer replica_remove_edge(const uint8_t *journal, size_t journal_
 
 /*
  * Adds edges until every cell has its count. It never fails on the way: it adds exactly as many
- * edges as are missing, from any start. The same start always gives the same graph.
+ * edges as are missing, from any start. The same start always gives the same graph. Isolated
+ * vertices get none; all others have their degree at the end.
  *
  *   first   edges added
  *   second  switches made for them
@@ -238,15 +253,21 @@ struct ReplicaAnswer replica_edge_list(const uint8_t *journal, size_t journal_le
                                        uint8_t *output, size_t output_length);
 
 /*
- * Writes the joint degree matrix of an edge list, which may be of any graph on vertices 0 to 199:
- * its non-zero cells with k <= l as records, ascending by k and then l. Output bytes after the
- * written part are untouched. It needs no journal and no adjacency matrix.
+ * Writes the joint degree matrix of an edge list, which may be of any graph on vertices 0 to
+ * total - 1, total being 200 at most, and the number of its isolated vertices. All of it is written
+ * as records: first 0, 0 and how many vertices below the total are in no edge, unless there are none;
+ * then the non-zero cells with k <= l, ascending by k and then l. Output bytes after the written part
+ * are untouched. It needs no journal and no adjacency matrix.
  *
- *   first   bytes written, 4 for each cell
+ * The edge list of a completed state, surveyed with the state's number of vertices, gives the sum of
+ * the blocks that were taken.
  *
- * Refused: 19, 20, 18.
+ *   first   bytes written, 4 for each record
+ *
+ * Refused: 19 (the total, then an odd length, then the edges), 20, 18.
  */
 struct ReplicaAnswer replica_jdm_of_edges(const uint8_t *edges, size_t edges_length,
+                                          uint64_t total,
                                           uint8_t *output, size_t output_length);
 
 /*
@@ -254,7 +275,7 @@ struct ReplicaAnswer replica_jdm_of_edges(const uint8_t *edges, size_t edges_len
  *
  *   first   phase: 0 while blocks are taken, 1 when laid out
  *   second  blocks held
- *   third   number of vertices
+ *   third   number of vertices, the isolated ones included
  *   fourth  edges wanted: those of the complete graph
  *   fifth   edges laid so far
  *

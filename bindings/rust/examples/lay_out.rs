@@ -2,9 +2,9 @@
 //!
 //!     cargo run -p replica --example lay_out -- RECORDS [V-W ...]
 //!
-//! RECORDS is a file of 4-byte records (k, l, 16-bit count, low byte first). Each V-W joins two
-//! vertices before the rest is completed; -V-W removes an edge again. Without a file, the table of
-//! document 004 is laid.
+//! RECORDS is a file of 4-byte records (k, l, 16-bit count, low byte first; 0, 0, count for isolated
+//! vertices). Each V-W joins two vertices before the rest is completed; -V-W removes an edge again.
+//! Without a file, the table of document 004 is laid.
 
 use replica::{State, BLOCK_LENGTH};
 use std::error::Error;
@@ -36,7 +36,9 @@ fn take_all(state: &mut State, records: &[u8]) -> Result<(), Box<dyn Error>> {
     for (number, block) in (0..).zip(records.chunks(BLOCK_LENGTH)) {
         state.take_block(number, block)?;
     }
-    for cell in state.cells()? {
+    let cells = state.cells()?;
+    println!("{} isolated vertices", cells.isolated());
+    for cell in cells {
         println!("cell ({}, {}) = {}", cell.k, cell.l, cell.count);
     }
     Ok(())

@@ -4,7 +4,8 @@ use crate::{MOST_DEGREE, RECORD_LENGTH};
 use std::iter::FusedIterator;
 use std::slice::ChunksExact;
 
-/// One record of a block: `count` is added to cell (k, l), which is also cell (l, k).
+/// One record of a block. With degrees k and l, `count` is added to cell (k, l), which is also cell
+/// (l, k); with 0 and 0 it is a number of isolated vertices, which are in no cell.
 #[derive(Clone, Copy, Debug, PartialEq, Eq, PartialOrd, Ord, Hash)]
 pub struct Record {
     pub k: u8,
@@ -16,6 +17,27 @@ impl Record {
     /// A record. Whether its degrees are good is for the library to say.
     pub fn new(k: u8, l: u8, count: u16) -> Record {
         Record { k, l, count }
+    }
+
+    /// The record that adds `count` isolated vertices: vertices without any edge.
+    ///
+    /// ```
+    /// assert_eq!(replica::Record::isolated(3).to_bytes(), [0, 0, 3, 0]);
+    /// ```
+    pub fn isolated(count: u16) -> Record {
+        Record::new(0, 0, count)
+    }
+
+    /// Whether it adds isolated vertices, and not to a cell.
+    ///
+    /// ```
+    /// use replica::Record;
+    ///
+    /// assert!(Record::isolated(0).is_isolated());
+    /// assert!(!Record::new(0, 3, 1).is_isolated()); // no good record at all
+    /// ```
+    pub fn is_isolated(self) -> bool {
+        self.k == 0 && self.l == 0
     }
 
     /// Its 4 bytes: k, l, and the count, low byte first.
@@ -50,8 +72,9 @@ pub fn block(records: &[Record]) -> Vec<u8> {
 /// ```
 /// use replica::{Record, Records};
 ///
-/// let records: Vec<Record> = Records::new(&[1, 1, 2, 0, 2, 3, 6, 0]).collect();
-/// assert_eq!(records, [Record::new(1, 1, 2), Record::new(2, 3, 6)]);
+/// let records: Vec<Record> = Records::new(&[0, 0, 5, 0, 1, 1, 2, 0, 2, 3, 6, 0]).collect();
+/// let expected = [Record::isolated(5), Record::new(1, 1, 2), Record::new(2, 3, 6)];
+/// assert_eq!(records, expected);
 /// ```
 #[derive(Clone, Debug)]
 pub struct Records<'a> {
@@ -91,25 +114,30 @@ pub struct Cell {
     pub count: u64,
 }
 
-/// The non-zero cells (k, l) with k at most l of a sum of records, ascending.
+/// The non-zero cells (k, l) with k at most l of a sum of records, ascending, and the isolated
+/// vertices beside them.
 ///
 /// ```
 /// use replica::{Cell, Cells, Record};
 ///
-/// let records = [Record::new(2, 3, 4), Record::new(1, 1, 2), Record::new(2, 3, 2)];
-/// let cells: Vec<Cell> = Cells::of(records).collect();
+/// let records = [Record::new(2, 3, 4), Record::isolated(7), Record::new(1, 1, 2), Record::new(2, 3, 2)];
+/// let cells = Cells::of(records);
+/// assert_eq!(cells.isolated(), 7);
 /// let expected = [Cell { k: 1, l: 1, count: 2 }, Cell { k: 2, l: 3, count: 6 }];
-/// assert_eq!(cells, expected);
+/// assert_eq!(cells.collect::<Vec<Cell>>(), expected);
 /// ```
 #[derive(Clone, Debug)]
 pub struct Cells {
     sums: Vec<Cell>,
+    isolated: u64,
     next: usize,
 }
 
 impl Cells {
-    /// Sums the records. Those with a degree outside 1 to 40 or with k above l are left out.
+    /// Sums the records. Those that the library would not take are left out: a degree outside 1 to
+    /// 40, save in the pair 0, 0, or k above l.
     pub fn of(records: impl IntoIterator<Item = Record>) -> Cells {
+        let mut isolated = 0;
         let mut sums = Vec::new();
         for k in 1..=MOST_DEGREE as u8 {
             for l in k..=MOST_DEGREE as u8 {
@@ -118,12 +146,23 @@ impl Cells {
         }
         for record in records {
             let same = |cell: &&mut Cell| (cell.k, cell.l) == (record.k, record.l);
-            if let Some(cell) = sums.iter_mut().find(same) {
+            if record.is_isolated() {
+                isolated += u64::from(record.count);
+            } else if let Some(cell) = sums.iter_mut().find(same) {
                 cell.count += u64::from(record.count);
             }
         }
         sums.retain(|cell| cell.count > 0);
-        Cells { sums, next: 0 }
+        Cells {
+            sums,
+            isolated,
+            next: 0,
+        }
+    }
+
+    /// How many isolated vertices the records add up to. It does not change as cells are taken.
+    pub fn isolated(&self) -> u64 {
+        self.isolated
     }
 }
 

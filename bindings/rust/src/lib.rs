@@ -2,8 +2,9 @@
 //!
 //! The library builds a simple graph with a given joint degree matrix: cell (k, l) says how many
 //! edges join vertices of degree k to vertices of degree l, and cell (k, k) counts each of its
-//! edges twice. The matrix arrives in numbered blocks of records; the same block sent again is
-//! recognised and not added twice.
+//! edges twice. Vertices without any edge are in no cell; records of their own tell how many there
+//! are ([`Record::isolated`]). The matrix arrives in numbered blocks of records; the same block sent
+//! again is recognised and not added twice.
 //!
 //! A [`State`] owns the two buffers the library works on. Its methods do their work or return one
 //! numbered [`Refusal`] and then leave every byte as it was.
@@ -56,5 +57,7 @@ pub const MOST_DEGREE: usize = 40;
 pub const MOST_VERTICES: usize = 200;
 /// Most edges in a state: 200 vertices of degree 40.
 pub const MOST_EDGES: usize = MOST_VERTICES * MOST_DEGREE / 2;
-/// Most cells with k at most l, so most records that [`jdm_of_edges`] writes.
+/// Most cells with k at most l.
 pub const MOST_CELLS: usize = MOST_DEGREE * (MOST_DEGREE + 1) / 2;
+/// Most records that [`jdm_of_edges`] writes: the isolated vertices, and all cells.
+pub const MOST_RECORDS: usize = 1 + MOST_CELLS;

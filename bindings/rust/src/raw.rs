@@ -114,6 +114,7 @@ mod exports {
         pub fn replica_jdm_of_edges(
             edges: *const u8,
             edges_length: usize,
+            total: u64,
             output: *mut u8,
             output_length: usize,
         ) -> ReplicaAnswer;
@@ -177,7 +178,8 @@ pub fn held_block(journal: &[u8], adjacency: &[u8], number: u64) -> ReplicaAnswe
     }
 }
 
-/// Lays out the vertices: `first` is their number. Refused: 1, 2, 3, 9, 10, 11, 12.
+/// Lays out the vertices: `first` is their number, the isolated ones included.
+/// Refused: 1, 2, 3, 9, 10, 11, 12.
 pub fn lay_out(journal: &mut [u8], adjacency: &[u8]) -> ReplicaAnswer {
     unsafe {
         exports::replica_lay_out(
@@ -244,13 +246,14 @@ pub fn edge_list(journal: &[u8], adjacency: &[u8], output: &mut [u8]) -> Replica
     }
 }
 
-/// Writes the records of an edge list's matrix: `first` is the written length.
-/// Refused: 19, 20, 18.
-pub fn jdm_of_edges(edges: &[u8], output: &mut [u8]) -> ReplicaAnswer {
+/// Writes the records of an edge list among `total` vertices, the isolated ones first: `first` is
+/// the written length. Refused: 19, 20, 18.
+pub fn jdm_of_edges(edges: &[u8], total: u64, output: &mut [u8]) -> ReplicaAnswer {
     unsafe {
         exports::replica_jdm_of_edges(
             edges.as_ptr(),
             edges.len(),
+            total,
             output.as_mut_ptr(),
             output.len(),
         )

@@ -23,7 +23,8 @@ pub enum Cause {
     WrongPhase = 3,
     /// A block of 0 or over 64 bytes, or not a multiple of 4.
     BlockLength = 4,
-    /// A record with a degree outside 1 to 40, or with the higher degree first.
+    /// A record with a degree outside 1 to 40, or with the higher degree first. Of the pairs with a
+    /// zero only 0, 0 is good: isolated vertices.
     BadRecord = 5,
     /// A block number too high, or not held.
     BlockNumber = 6,
@@ -37,7 +38,7 @@ pub enum Cause {
     RowNotDivisible = 10,
     /// A cell is larger than its vertices allow.
     CellTooLarge = 11,
-    /// More than 200 vertices.
+    /// More than 200 vertices, the isolated ones included.
     TooManyVertices = 12,
     /// A vertex number that is not laid out.
     NoSuchVertex = 13,
@@ -45,13 +46,13 @@ pub enum Cause {
     SameVertex = 14,
     /// The two vertices are joined already.
     EdgePresent = 15,
-    /// The cell of the two vertices has all its edges.
+    /// The cell of the two vertices has all its edges, or one of them is isolated.
     CellNotShort = 16,
     /// The two vertices are not joined.
     EdgeAbsent = 17,
     /// The output is too short.
     OutputTooShort = 18,
-    /// An edge list of odd length, or an edge out of order or out of range.
+    /// A total over 200, an edge list of odd length, or an edge out of order or out of range.
     BadEdgeList = 19,
     /// A vertex of the edge list has a degree over 40.
     DegreeTooHigh = 20,
@@ -102,21 +103,23 @@ impl fmt::Display for Cause {
             Cause::InvalidState => "journal and adjacency matrix are not a valid state",
             Cause::WrongPhase => "the call does not fit the phase",
             Cause::BlockLength => "a block has 4 to 64 bytes, a multiple of 4",
-            Cause::BadRecord => "a record needs degrees from 1 to 40, the lower first",
+            Cause::BadRecord => "a record needs degrees from 1 to 40, the lower first, or 0 and 0",
             Cause::BlockNumber => "no block with this number is held or can come next",
             Cause::BlockDiffers => "another block is held under this number",
             Cause::JournalFull => "the journal holds 64 blocks already",
             Cause::OddDiagonal => "a cell within one degree is odd",
             Cause::RowNotDivisible => "the sum of a row is not divisible by its degree",
             Cause::CellTooLarge => "a cell is larger than any simple graph allows",
-            Cause::TooManyVertices => "the matrix needs more than 200 vertices",
+            Cause::TooManyVertices => "the table needs more than 200 vertices",
             Cause::NoSuchVertex => "no vertex has this number",
             Cause::SameVertex => "both ends are the same vertex",
             Cause::EdgePresent => "the two vertices are joined already",
-            Cause::CellNotShort => "the cell of the two vertices has all its edges",
+            Cause::CellNotShort => "the cell of the two vertices takes no more edges",
             Cause::EdgeAbsent => "the two vertices are not joined",
             Cause::OutputTooShort => "the output is too short",
-            Cause::BadEdgeList => "the edge list has an odd length or a bad edge",
+            Cause::BadEdgeList => {
+                "the total is over 200, or the edge list has an odd length or a bad edge"
+            }
             Cause::DegreeTooHigh => "a vertex of the edge list has a degree over 40",
         })
     }
@@ -129,8 +132,8 @@ impl fmt::Display for Cause {
 /// | `BadRecord` | index of the first bad record, 0 |
 /// | `OddDiagonal` | the degree, twice |
 /// | `RowNotDivisible` | the degree, 0 |
-/// | `CellTooLarge`, `CellNotShort` | the two degrees, lower first |
-/// | `BadEdgeList` | index of the first bad edge, or the number of whole edges for an odd length, 0 |
+/// | `CellTooLarge`, `CellNotShort` | the two degrees, lower first; an isolated vertex has degree 0 |
+/// | `BadEdgeList` | index of the first bad edge, or the number of whole edges for an odd length, 0; no place for a total over 200 |
 /// | `DegreeTooHigh` | lowest such vertex, 0 |
 ///
 /// ```

@@ -137,8 +137,8 @@ impl State {
         Ok(())
     }
 
-    /// Takes a block of 1 to 16 records. Its number must be that of the next block, or that of a
-    /// held block with the same bytes.
+    /// Takes a block of 1 to 16 records, of cells or of isolated vertices. Its number must be that of
+    /// the next block, or that of a held block with the same bytes.
     ///
     /// ```
     /// # use replica::{Cause, State, Take};
@@ -188,15 +188,16 @@ impl State {
         Ok(Records::new(self.held_block(number)?))
     }
 
-    /// The non-zero cells of the sum of all held blocks.
+    /// The non-zero cells of the sum of all held blocks, and its isolated vertices.
     ///
     /// ```
     /// # use replica::{Cell, State};
     /// let mut state = State::new();
-    /// state.take_block(0, &[2, 2, 3, 0]).unwrap();
-    /// state.take_block(1, &[2, 2, 5, 0]).unwrap();
-    /// let cells: Vec<Cell> = state.cells().unwrap().collect();
-    /// assert_eq!(cells, [Cell { k: 2, l: 2, count: 8 }]);
+    /// state.take_block(0, &[2, 2, 3, 0, 0, 0, 1, 0]).unwrap();
+    /// state.take_block(1, &[2, 2, 5, 0, 0, 0, 1, 0]).unwrap();
+    /// let cells = state.cells().unwrap();
+    /// assert_eq!(cells.isolated(), 2);
+    /// assert_eq!(cells.collect::<Vec<Cell>>(), [Cell { k: 2, l: 2, count: 8 }]);
     /// ```
     pub fn cells(&self) -> Result<Cells, Refusal> {
         let mut records = Vec::new();
@@ -206,8 +207,8 @@ impl State {
         Ok(Cells::of(records))
     }
 
-    /// Lays out the vertices, numbered by rising degree, and ends the taking of blocks. Returns
-    /// the number of vertices.
+    /// Lays out the vertices, numbered by rising degree, the isolated ones first, and ends the taking
+    /// of blocks. Returns the number of vertices.
     ///
     /// ```
     /// # use replica::{Cause, State};
@@ -215,8 +216,9 @@ impl State {
     /// state.take_block(0, &[2, 2, 3, 0]).unwrap();
     /// let refusal = state.lay_out().unwrap_err();
     /// assert_eq!((refusal.cause, refusal.places), (Cause::OddDiagonal, (2, 2)));
-    /// state.take_block(1, &[2, 2, 3, 0]).unwrap();
-    /// assert_eq!(state.lay_out(), Ok(3));
+    /// state.take_block(1, &[2, 2, 3, 0]).unwrap(); // a triangle now
+    /// state.take_block(2, &[0, 0, 2, 0]).unwrap(); // and two isolated vertices: 0 and 1
+    /// assert_eq!(state.lay_out(), Ok(5));
     /// ```
     pub fn lay_out(&mut self) -> Result<u64, Refusal> {
         let answer = raw::lay_out(&mut self.journal, &self.adjacency);
@@ -225,7 +227,7 @@ impl State {
 
     /// Joins v and w. A vertex that has all its edges already gives one to another vertex of its
     /// degree first; returns how many of the two had to, 0 to 2. Naming the pair the other way
-    /// round may move other edges.
+    /// round may move other edges. An isolated vertex takes no edge.
     ///
     /// ```
     /// # use replica::{Cause, State};
@@ -237,6 +239,12 @@ impl State {
     /// let edges: Vec<_> = state.edges().unwrap().collect();
     /// assert_eq!(edges, [(0, 2), (1, 3)]);
     /// assert_eq!(state.add_edge(0, 1).unwrap_err().cause, Cause::CellNotShort);
+    ///
+    /// let mut state = State::new();
+    /// state.take_block(0, &[0, 0, 1, 0, 1, 1, 2, 0]).unwrap(); // vertex 0 is isolated
+    /// state.lay_out().unwrap();
+    /// let refusal = state.add_edge(2, 0).unwrap_err();
+    /// assert_eq!((refusal.cause, refusal.places), (Cause::CellNotShort, (0, 1)));
     /// ```
     pub fn add_edge(&mut self, v: u64, w: u64) -> Result<u64, Refusal> {
         let answer = raw::add_edge(&self.journal, &mut self.adjacency, v, w);
@@ -362,22 +370,31 @@ fn figures_of(answer: ReplicaAnswer) -> Figures {
     }
 }
 
-/// Writes the joint degree matrix of an edge list as records, ascending, and returns the written
-/// length. The list has 2 bytes an edge, v below w below 200, ascending; 3,280 bytes of output
-/// always do.
+/// Writes the joint degree matrix of an edge list among `total` vertices as records, ascending, and
+/// returns the written length. The record of the isolated vertices, those below the total that are
+/// in no edge, comes first if there are some. The list has 2 bytes an edge, v below w below the
+/// total, ascending; the total is 200 at most; [`MOST_RECORDS`](crate::MOST_RECORDS) records of
+/// output, 3,284 bytes, always do.
 ///
 /// ```
 /// use replica::{jdm_of_edges, Cause, Record, Records};
 ///
 /// let mut output = [0; 64];
-/// let length = jdm_of_edges(&[0, 3, 1, 2, 1, 3, 2, 3], &mut output).unwrap();
+/// let edges = [0, 3, 1, 2, 1, 3, 2, 3];
+/// let length = jdm_of_edges(&edges, 4, &mut output).unwrap();
 /// let records: Vec<Record> = Records::new(&output[..length]).collect();
 /// assert_eq!(records, [Record::new(1, 3, 1), Record::new(2, 2, 2), Record::new(2, 3, 2)]);
 ///
-/// let refusal = jdm_of_edges(&[0, 3, 2, 1], &mut output).unwrap_err();
+/// // Among 10 vertices, six are in none of the four edges.
+/// let length = jdm_of_edges(&edges, 10, &mut output).unwrap();
+/// assert_eq!(Records::new(&output[..length]).next(), Some(Record::isolated(6)));
+///
+/// let refusal = jdm_of_edges(&edges, 3, &mut output).unwrap_err(); // there is no vertex 3
+/// assert_eq!((refusal.cause, refusal.places), (Cause::BadEdgeList, (0, 0)));
+/// let refusal = jdm_of_edges(&[0, 3, 2, 1], 4, &mut output).unwrap_err();
 /// assert_eq!((refusal.cause, refusal.places), (Cause::BadEdgeList, (1, 0)));
 /// ```
-pub fn jdm_of_edges(edges: &[u8], output: &mut [u8]) -> Result<usize, Refusal> {
-    let answer = raw::jdm_of_edges(edges, output);
+pub fn jdm_of_edges(edges: &[u8], total: u64, output: &mut [u8]) -> Result<usize, Refusal> {
+    let answer = raw::jdm_of_edges(edges, total, output);
     Ok(Refusal::unless_done(answer)?.first as usize)
 }
