@@ -3,27 +3,33 @@
 use reference::graphs::{self, Graph};
 use reference::journal::record;
 use reference::random::Random;
-use reference::{Matrix, BLOCK_LENGTH, MOST_BLOCKS, MOST_DEGREE};
+use reference::{Table, BLOCK_LENGTH, MOST_BLOCKS, MOST_DEGREE, MOST_VERTICES};
 
-/// The records of a matrix cut into blocks: some counts split over several records, some records
+/// The records of a table cut into blocks: some counts split over several records, some records
 /// of count 0 among them, all in random order.
-pub fn cut(matrix: &Matrix, random: &mut Random) -> Vec<Vec<u8>> {
-    let cells = matrix.nonzero_cells();
-    // A journal has room for 1,024 records; a matrix has at most 820 cells.
-    let mut spare = 1024 - cells.len();
+pub fn cut(table: &Table, random: &mut Random) -> Vec<Vec<u8>> {
+    let mut counts = table.matrix.nonzero_cells();
+    if table.isolated > 0 {
+        counts.push((0, 0, table.isolated));
+    }
+    // A journal has room for 1,024 records; a table has at most 820 cells.
+    let mut spare = 1024 - counts.len();
     let mut records = Vec::new();
-    for (k, l, count) in cells {
+    for (k, l, count) in counts {
         let mut left = count;
-        while spare > 0 && left > 1 && random.chance(20) {
-            let part = 1 + random.below(left as usize - 1) as u64;
-            records.push(record(k, l, part.min(65_535)));
-            left -= part.min(65_535);
+        while spare > 0 && left > 1 && (left > 65_535 || random.chance(20)) {
+            let part = match left {
+                65_536.. => 65_535,
+                _ => 1 + random.below(left as usize - 1) as u64,
+            };
+            records.push(record(k, l, part));
+            left -= part;
             spare -= 1;
         }
         records.push(record(k, l, left));
     }
     while spare > 0 && random.chance(20) {
-        let (k, l) = degrees(MOST_DEGREE, random);
+        let (k, l) = any_pair(MOST_DEGREE, random);
         records.push(record(k, l, 0));
         spare -= 1;
     }
@@ -40,11 +46,19 @@ fn degrees(most: usize, random: &mut Random) -> (usize, usize) {
     (k.min(l), k.max(l))
 }
 
+/// The two degrees of a well-formed record, now and then those of isolated vertices.
+fn any_pair(most: usize, random: &mut Random) -> (usize, usize) {
+    if random.chance(15) {
+        return (0, 0);
+    }
+    degrees(most, random)
+}
+
 /// A well-formed block of records with degrees and counts up to the given ones.
 pub fn any_block(most_degree: usize, most_count: usize, random: &mut Random) -> Vec<u8> {
     let mut block = Vec::new();
     for _ in 0..random.between(1, 16) {
-        let (k, l) = degrees(most_degree, random);
+        let (k, l) = any_pair(most_degree, random);
         block.extend(record(k, l, random.below(most_count + 1) as u64));
     }
     block
@@ -58,7 +72,7 @@ pub fn spoil(block: &[u8], random: &mut Random) -> Vec<u8> {
     if spoiled.len() < start + 4 {
         return random.bytes(3);
     }
-    match random.below(10) {
+    match random.below(11) {
         0 => spoiled.clear(),
         1 => spoiled.truncate(block.len() - random.between(1, 4)),
         2 => spoiled.push(0),
@@ -71,6 +85,8 @@ pub fn spoil(block: &[u8], random: &mut Random) -> Vec<u8> {
         6 => spoiled[start + 1] = *random.pick(&[0, 41, 255]),
         7 => spoiled.swap(start, start + 1),
         8 => spoiled[start + 2] ^= 1 << random.below(8),
+        // Another well-formed block, where it was a cell.
+        9 => spoiled[start..start + 2].fill(0),
         _ => {
             let place = random.below(spoiled.len());
             spoiled[place] = random.byte();
@@ -100,7 +116,7 @@ impl Size {
 /// The blocks a call list sends: of a table with a graph, of one nearly so, or of any table.
 pub fn plan(size: Size, random: &mut Random) -> Vec<Vec<u8>> {
     let graph = graphs::any(size.most_vertices(), random);
-    match random.below(14) {
+    match random.below(15) {
         0 | 5 => nearly(&graph, random),
         1 => (0..random.between(1, 3))
             .map(|_| any_block(4, 6, random))
@@ -110,13 +126,14 @@ pub fn plan(size: Size, random: &mut Random) -> Vec<Vec<u8>> {
         4 => (0..random.between(1, 20))
             .map(|_| any_block(MOST_DEGREE, 65_535, random))
             .collect(),
-        _ => cut(&graph.matrix(), random),
+        6 => only_isolated(random),
+        _ => cut(&graph.table(), random),
     }
 }
 
 /// A table with a graph, and one record more: it may have none any more.
 fn nearly(graph: &Graph, random: &mut Random) -> Vec<Vec<u8>> {
-    let mut blocks = cut(&graph.matrix(), random);
+    let mut blocks = cut(&graph.table(), random);
     blocks.truncate(MOST_BLOCKS - 1);
     let used = graph.degrees().into_iter().max().unwrap_or(0);
     let (k, l) = degrees((used + 1).min(MOST_DEGREE), random);
@@ -136,15 +153,29 @@ fn even_multiple(k: usize, l: usize) -> usize {
     (1..=2 * k * l).find(fits).expect("2kl fits")
 }
 
-/// A table with a graph and about 200 single edges: the number of vertices is near its bound.
+/// A table with a graph, and as many vertices more, by single edges or isolated, as bring their number
+/// near its bound.
 fn many_vertices(graph: &Graph, random: &mut Random) -> Vec<Vec<u8>> {
-    let mut blocks = cut(&graph.matrix(), random);
+    let mut blocks = cut(&graph.table(), random);
     blocks.truncate(MOST_BLOCKS - 1);
-    let vertices = graph.matrix().vertex_count() as usize;
-    let room = 200usize.saturating_sub(vertices);
+    let room = MOST_VERTICES - graph.vertices();
     let count = (room + random.below(5)).saturating_sub(2);
-    blocks.push(record(1, 1, count as u64).to_vec());
+    let degree = random.below(2);
+    blocks.push(record(degree, degree, count as u64).to_vec());
     blocks
+}
+
+/// Isolated vertices and nothing else: a few, about 200, or far more.
+fn only_isolated(random: &mut Random) -> Vec<Vec<u8>> {
+    let around = MOST_VERTICES as u64;
+    let count = match random.below(5) {
+        0 => random.below(10) as u64,
+        1 => around + random.below(5) as u64 - 2,
+        2 => 65_536 + random.below(2 * MOST_VERTICES) as u64,
+        3 => random.below(67_000_000) as u64,
+        _ => *random.pick(&[around - 1, around, around + 1]),
+    };
+    cut(&Table::of(&[], count), random)
 }
 
 /// As many blocks as a journal holds and one more, nearly all of them adding nothing.

@@ -4,7 +4,7 @@ use crate::call::{on_library, on_reference, Call, Memory};
 use crate::count::Count;
 use crate::lent::Lent;
 use reference::six::Six;
-use reference::{ADJACENCY_LENGTH, JOURNAL_LENGTH};
+use reference::{journal, ADJACENCY_LENGTH, JOURNAL_LENGTH};
 
 /// One state for both sides: they are equal after every call, or the test has failed.
 pub struct Both {
@@ -55,7 +55,34 @@ impl Both {
         self.adjacency = after.adjacency;
         self.output = after.output;
         self.count.answered(call.entry(), numbers);
+        self.count_isolated(&call, numbers);
         numbers
+    }
+
+    /// Counts the answers in which isolated vertices or a survey's total have a part.
+    fn count_isolated(&mut self, call: &Call, numbers: Six) {
+        let count = &mut self.count.isolated;
+        match (call, numbers[0]) {
+            (Call::LayOut, 0 | 12) => {
+                let some = journal::summed_table(&self.journal).isolated > 0;
+                let answers = match numbers[0] {
+                    0 => &mut count.laid,
+                    _ => &mut count.too_many,
+                };
+                *answers += u64::from(some);
+            }
+            (Call::AddEdge { .. }, 16) => count.not_joined += u64::from(numbers[1] == 0),
+            (Call::JdmOfEdges { .. }, 0) => {
+                let written = &self.output[..numbers[1] as usize];
+                count.surveyed += u64::from(written.starts_with(&[0, 0]));
+            }
+            (Call::JdmOfEdges { total, edges, .. }, 19) => {
+                let beyond = |byte: &u8| u64::from(*byte) >= *total;
+                count.totals += u64::from(*total > 200);
+                count.beyond += u64::from(*total < 200 && edges.iter().any(beyond));
+            }
+            _ => {}
+        }
     }
 
     /// The same on other buffers, which are dropped afterwards; the state stays as it is.

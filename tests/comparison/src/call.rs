@@ -68,14 +68,31 @@ impl Entry {
 #[derive(Clone, PartialEq, Eq)]
 pub enum Call {
     Clear,
-    TakeBlock { number: u64, block: Vec<u8> },
-    HeldBlock { number: u64 },
+    TakeBlock {
+        number: u64,
+        block: Vec<u8>,
+    },
+    HeldBlock {
+        number: u64,
+    },
     LayOut,
-    AddEdge { v: u64, w: u64 },
-    RemoveEdge { v: u64, w: u64 },
+    AddEdge {
+        v: u64,
+        w: u64,
+    },
+    RemoveEdge {
+        v: u64,
+        w: u64,
+    },
     Complete,
-    EdgeList { output: Vec<u8> },
-    JdmOfEdges { edges: Vec<u8>, output: Vec<u8> },
+    EdgeList {
+        output: Vec<u8>,
+    },
+    JdmOfEdges {
+        edges: Vec<u8>,
+        total: u64,
+        output: Vec<u8>,
+    },
     Figures,
 }
 
@@ -121,9 +138,11 @@ impl fmt::Debug for Call {
             Call::HeldBlock { number } => write!(f, "({number})"),
             Call::AddEdge { v, w } | Call::RemoveEdge { v, w } => write!(f, "({v}, {w})"),
             Call::EdgeList { output } => write!(f, "({} bytes)", output.len()),
-            Call::JdmOfEdges { edges, output } => {
-                write!(f, "({edges:?}, {} bytes)", output.len())
-            }
+            Call::JdmOfEdges {
+                edges,
+                total,
+                output,
+            } => write!(f, "({edges:?}, total {total}, {} bytes)", output.len()),
             _ => Ok(()),
         }
     }
@@ -168,7 +187,7 @@ pub fn on_library(
         Call::RemoveEdge { v, w } => raw::remove_edge(journal, adjacency, v, w),
         Call::Complete => raw::complete(journal, adjacency),
         Call::EdgeList { .. } => raw::edge_list(journal, adjacency, output),
-        Call::JdmOfEdges { .. } => raw::jdm_of_edges(input, output),
+        Call::JdmOfEdges { total, .. } => raw::jdm_of_edges(input, total, output),
         Call::Figures => raw::figures(journal, adjacency),
     }
     .numbers()
@@ -189,7 +208,7 @@ pub fn on_reference(call: &Call, memory: &mut Memory) -> Six {
         Call::RemoveEdge { v, w } => six::remove_edge(journal, adjacency, v, w),
         Call::Complete => six::complete(journal, adjacency),
         Call::EdgeList { .. } => six::edge_list(journal, adjacency, output),
-        Call::JdmOfEdges { .. } => six::jdm_of_edges(input, output),
+        Call::JdmOfEdges { total, .. } => six::jdm_of_edges(input, total, output),
         Call::Figures => six::figures(journal, adjacency),
     }
 }

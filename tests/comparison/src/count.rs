@@ -18,6 +18,47 @@ pub struct Count {
     pub pairs_joined: u64,
     /// Held blocks compared with what was sent.
     pub read_back: u64,
+    pub isolated: Isolated,
+}
+
+/// Answers in which isolated vertices or a survey's total have a part.
+#[derive(Clone, Debug, Default)]
+pub struct Isolated {
+    /// Tables laid out with some.
+    pub laid: u64,
+    /// Tables with some, refused with 12.
+    pub too_many: u64,
+    /// Edges at one, refused with 16.
+    pub not_joined: u64,
+    /// Surveys that wrote their number.
+    pub surveyed: u64,
+    /// Surveys refused for a total over 200.
+    pub totals: u64,
+    /// Surveys refused with 19 that name a vertex not below a total under 200.
+    pub beyond: u64,
+}
+
+impl Isolated {
+    /// What a count is called, and the count.
+    fn named(&self) -> [(&'static str, u64); 6] {
+        [
+            ("laid out", self.laid),
+            ("too many", self.too_many),
+            ("not joined", self.not_joined),
+            ("surveyed", self.surveyed),
+            ("total over 200", self.totals),
+            ("vertex not below the total", self.beyond),
+        ]
+    }
+
+    fn add(&mut self, other: &Isolated) {
+        self.laid += other.laid;
+        self.too_many += other.too_many;
+        self.not_joined += other.not_joined;
+        self.surveyed += other.surveyed;
+        self.totals += other.totals;
+        self.beyond += other.beyond;
+    }
 }
 
 impl Count {
@@ -58,6 +99,7 @@ impl Count {
         self.switches += other.switches;
         self.pairs_joined += other.pairs_joined;
         self.read_back += other.read_back;
+        self.isolated.add(&other.isolated);
     }
 
     pub fn calls(&self) -> u64 {
@@ -85,6 +127,11 @@ impl Count {
         }
         if self.read_back == 0 {
             missing.push("no block was read back".to_string());
+        }
+        for (name, count) in self.isolated.named() {
+            if count == 0 {
+                missing.push(format!("isolated vertices, never: {name}"));
+            }
         }
         missing
     }
@@ -119,5 +166,10 @@ impl Count {
             self.joins, self.switches, self.completions
         );
         println!("blocks        {} read back as sent", self.read_back);
+        print!("isolated     ");
+        for (name, count) in self.isolated.named() {
+            print!(" {name}:{count}");
+        }
+        println!();
     }
 }

@@ -4,10 +4,10 @@
 use crate::blocks::{self, Size};
 use crate::both::Both;
 use crate::call::Call;
-use crate::tables::{cells_of, simple, sum_of, Cells};
+use crate::tables::{simple, sum_of, sum_of_graph, Cells, Sum};
 use reference::random::Random;
 use reference::search::find_graph;
-use reference::Matrix;
+use reference::Table;
 
 /// The tally of document 01, with the blocks it has counted.
 struct Tally {
@@ -25,15 +25,13 @@ impl Tally {
         }
     }
 
-    /// T, the summed table.
-    fn cells(&self) -> Cells {
+    /// T, the summed table, and the isolated vertices beside it.
+    fn sum(&self) -> Sum {
         sum_of(&self.blocks)
     }
 
-    fn matrix(&self) -> Matrix {
-        let cells = self.cells();
-        let cells: Vec<_> = cells.iter().map(|(&(k, l), &n)| (k, l, n)).collect();
-        Matrix::of(&cells)
+    fn table(&self) -> Table {
+        self.sum().table()
     }
 
     fn fed(&mut self, call: &Call, numbers: [u64; 6]) {
@@ -45,7 +43,7 @@ impl Tally {
                     self.blocks.push(block.clone());
                 }
             }
-            Call::LayOut if !self.laid => self.laid = self.matrix().check().is_ok(),
+            Call::LayOut if !self.laid => self.laid = self.table().check().is_ok(),
             Call::AddEdge { .. } if done => self.edges += 1,
             Call::RemoveEdge { .. } if done => self.edges -= 1,
             Call::Complete if done => self.edges += numbers[1],
@@ -57,10 +55,12 @@ impl Tally {
 /// Checks 4 and 5.
 fn well_formed(block: &[u8]) -> bool {
     let length = (4..=64).contains(&block.len()) && block.len() % 4 == 0;
-    length
-        && block
-            .chunks(4)
-            .all(|record| 1 <= record[0] && record[0] <= record[1] && record[1] <= 40)
+    let good = |record: &[u8]| match record[..2] {
+        [0, 0] => true,
+        [k, l] => 1 <= k && k <= l && l <= 40,
+        _ => false,
+    };
+    length && block.chunks(4).all(good)
 }
 
 /// Runs a list of taking, laying out, joining, removing and completing calls from a cleared state
@@ -103,7 +103,7 @@ fn next_call(plan: &[Vec<u8>], tally: &Tally, random: &mut Random) -> Call {
             }
         }
         2 => {
-            let block = *random.pick(&[[1, 1, 2, 0], [2, 3, 6, 0]]);
+            let block = *random.pick(&[[1, 1, 2, 0], [2, 3, 6, 0], [0, 0, 1, 0]]);
             Call::TakeBlock {
                 number: random.below(blocks + 2) as u64,
                 block: blocks::spoil(&block, random),
@@ -126,45 +126,54 @@ fn next_call(plan: &[Vec<u8>], tally: &Tally, random: &mut Random) -> Call {
     }
 }
 
-/// Not yet laid: laying out is refused for want of a graph exactly when no graph has the table.
+/// Not yet laid: laying out is refused for want of a graph exactly when no graph has the table,
+/// whatever the isolated vertices; else it is refused exactly when there are over 200 with them.
 fn check_taking(tally: &Tally, both: &mut Both) {
     let numbers = both.call_on(both.journal.clone(), both.adjacency.clone(), Call::LayOut);
-    let matrix = tally.matrix();
-    if matrix.vertex_count() <= 7 {
-        let refused = (9..=11).contains(&numbers[0]);
-        assert_eq!(
-            refused,
-            find_graph(&matrix).is_none(),
-            "{:?}",
-            tally.cells()
-        );
+    let table = tally.table();
+    let no_graph = (9..=11).contains(&numbers[0]);
+    let linked = Table::new(table.matrix.clone(), 0);
+    if linked.vertex_count() <= 7 {
+        let found = find_graph(&linked);
+        assert_eq!(no_graph, found.is_none(), "{:?}", tally.sum());
+    }
+    if !no_graph {
+        let vertices = table.vertex_count();
+        let expected = if vertices > 200 {
+            (12, 0)
+        } else {
+            (0, vertices)
+        };
+        assert_eq!((numbers[0], numbers[1]), expected, "{:?}", tally.sum());
     }
 }
 
 /// Once laid: figures agree with the tally, every short pair can be joined, there is one while a
 /// cell is short, and completing makes exactly as many joins as edges are missing.
 fn check_laid(tally: &Tally, both: &mut Both) {
-    let matrix = tally.matrix();
-    let (vertices, edges) = (matrix.vertex_count(), matrix.edge_count());
+    let (table, wanted) = (tally.table(), tally.sum());
+    let (vertices, edges) = (table.vertex_count(), wanted.edges());
     let figures = both.call(Call::Figures);
     let blocks = tally.blocks.len() as u64;
     assert_eq!(figures, [0, 1, blocks, vertices, edges, tally.edges]);
     let missing = edges - tally.edges;
 
+    let degrees = table.degrees();
     if vertices <= 10 {
-        let pairs = short_pairs(&matrix.degrees(), &tally.cells(), &both.adjacency);
+        let pairs = short_pairs(&degrees, &wanted.cells, &both.adjacency);
         assert_eq!(pairs.is_empty(), missing == 0);
         for (v, w) in pairs {
             check_pair(v, w, tally.edges, both);
             check_pair(w, v, tally.edges, both);
         }
+        check_isolated(&degrees, both);
     }
     let journal = both.journal.clone();
     let before = both.adjacency.clone();
     let numbers = both.call(Call::Complete);
     assert_eq!((numbers[0], numbers[1]), (0, missing));
     assert!(simple(&both.adjacency));
-    assert_eq!(cells_of(&both.adjacency), tally.cells());
+    assert_eq!(sum_of_graph(&both.adjacency, vertices as usize), wanted);
     both.journal = journal;
     both.adjacency = before;
 }
@@ -189,6 +198,21 @@ fn short_pairs(degrees: &[usize], wanted: &Cells, adjacency: &[u8]) -> Vec<(usiz
         count(&counted, cell) < count(wanted, cell)
     });
     open
+}
+
+/// No edge can be added at an isolated vertex, and there is none to remove.
+fn check_isolated(degrees: &[usize], both: &mut Both) {
+    for v in (0..degrees.len()).filter(|&v| degrees[v] == 0) {
+        for w in (0..degrees.len()).filter(|&w| w != v) {
+            let (first, second, degree) = (v as u64, w as u64, degrees[w] as u64);
+            for (v, w) in [(first, second), (second, first)] {
+                let answer = both.call(Call::AddEdge { v, w });
+                assert_eq!(answer, [16, 0, degree, 0, 0, 0], "joining {v} and {w}");
+                let answer = both.call(Call::RemoveEdge { v, w });
+                assert_eq!(answer, [17, 0, 0, 0, 0, 0], "removing {v} and {w}");
+            }
+        }
+    }
 }
 
 /// The pair is joined, the state stays valid and has exactly one edge more; then all is put back.

@@ -9,6 +9,9 @@ use reference::random::Random;
 use reference::{adjacency, journal, validity, Matrix};
 use reference::{ADJACENCY_LENGTH, JOURNAL_LENGTH, MOST_VERTICES};
 
+/// The isolated vertices and 820 cells: no survey writes more.
+const MOST_RECORD_BYTES: usize = 4 * 821;
+
 /// Runs the call list of this seed.
 pub fn run(seed: u64, size: Size, both: &mut Both) {
     let mut random = Random::new(seed);
@@ -230,12 +233,12 @@ impl List<'_> {
         if !validity::valid(journal, adjacency) || journal::phase(journal) != journal::LAID {
             return None;
         }
-        let wanted = journal::summed_matrix(journal);
-        let degrees = wanted.degrees();
+        let table = journal::summed_table(journal);
+        let degrees = table.degrees();
         let counted = adjacency::counted_at(adjacency, &degrees);
         Some(Laid {
             degrees,
-            wanted,
+            wanted: table.matrix,
             counted,
         })
     }
@@ -306,10 +309,30 @@ impl List<'_> {
         if self.random.chance(40) {
             self.spoil_edges(&mut edges);
         }
-        let mut probe = vec![0; 4 * 820];
-        let needed = reference::jdm_of_edges(&edges, &mut probe).unwrap_or(0);
+        let total = self.total(&edges);
+        let mut probe = vec![0; MOST_RECORD_BYTES];
+        let needed = reference::jdm_of_edges(&edges, total, &mut probe).unwrap_or(0);
         let output = self.output(needed as usize);
-        Call::JdmOfEdges { edges, output }
+        Call::JdmOfEdges {
+            edges,
+            total,
+            output,
+        }
+    }
+
+    /// The state's vertices, about as many as the list names, about 200, or any number.
+    fn total(&mut self, edges: &[u8]) -> u64 {
+        let named = edges.iter().max().map_or(0, |&vertex| vertex as u64 + 1);
+        match self.random.below(12) {
+            0 | 1 => self.laid().map_or(0, |laid| laid.degrees.len()) as u64,
+            2..=4 => named,
+            5 => named.saturating_sub(1),
+            6 => named + self.random.below(4) as u64,
+            7 => self.random.below(named as usize + 1) as u64,
+            8 => *self.random.pick(&[0, 1, 199, 200, 201]),
+            9 => self.wild_number(),
+            _ => self.random.between(named.min(200) as usize, MOST_VERTICES) as u64,
+        }
     }
 
     /// The edges of the state, of a random graph, of a graph with high degrees, or any bytes.
@@ -395,8 +418,13 @@ impl List<'_> {
         let length = adjacency::edges(&self.both.adjacency).len() * 2;
         if self.both.output.len() >= length {
             let edges = self.both.output[..length].to_vec();
-            let output = self.random.bytes(3_280);
-            self.both.call(Call::JdmOfEdges { edges, output });
+            let total = self.total(&edges);
+            let output = self.random.bytes(MOST_RECORD_BYTES);
+            self.both.call(Call::JdmOfEdges {
+                edges,
+                total,
+                output,
+            });
         }
     }
 

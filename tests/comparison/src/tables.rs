@@ -7,8 +7,8 @@ use crate::call::Call;
 use reference::adjacency;
 use reference::graphs::{self, Graph};
 use reference::random::Random;
-use reference::Matrix;
-use std::collections::BTreeMap;
+use reference::{Matrix, Table};
+use std::collections::{BTreeMap, BTreeSet};
 
 /// Cells (k, l) with k at most l that are not 0.
 pub type Cells = BTreeMap<(usize, usize), u64>;
@@ -21,37 +21,66 @@ pub enum Start {
     ByHand,
 }
 
-/// The sum of all records.
-pub fn sum_of(blocks: &[Vec<u8>]) -> Cells {
-    let mut cells = Cells::new();
-    for record in blocks.iter().flat_map(|block| block.chunks(4)) {
-        let count = u64::from(record[2]) + 256 * u64::from(record[3]);
-        if count > 0 {
-            *cells
-                .entry((record[0] as usize, record[1] as usize))
-                .or_default() += count;
-        }
-    }
-    cells
+/// What records add up to, or what a graph has: its cells, and beside them its isolated vertices.
+#[derive(Clone, Debug, Default, PartialEq, Eq)]
+pub struct Sum {
+    pub cells: Cells,
+    pub isolated: u64,
 }
 
-/// Equation (1) at the degrees the graph itself has.
-pub fn cells_of(adjacency: &[u8]) -> Cells {
+impl Sum {
+    /// Half the sum of all cells, (k, l) and (l, k) both counted.
+    pub fn edges(&self) -> u64 {
+        let ends =
+            |(&(k, l), &count): (&(usize, usize), &u64)| if k == l { count } else { 2 * count };
+        self.cells.iter().map(ends).sum::<u64>() / 2
+    }
+
+    /// How many records write it down.
+    fn records(&self) -> usize {
+        self.cells.len() + usize::from(self.isolated > 0)
+    }
+
+    /// The same for the reference.
+    pub fn table(&self) -> Table {
+        let cells: Vec<_> = self.cells.iter().map(|(&(k, l), &n)| (k, l, n)).collect();
+        Table::of(&cells, self.isolated)
+    }
+}
+
+/// The sum of all records.
+pub fn sum_of(blocks: &[Vec<u8>]) -> Sum {
+    let mut sum = Sum::default();
+    for record in blocks.iter().flat_map(|block| block.chunks(4)) {
+        let count = u64::from(record[2]) + 256 * u64::from(record[3]);
+        match (record[0] as usize, record[1] as usize) {
+            (0, 0) => sum.isolated += count,
+            cell if count > 0 => *sum.cells.entry(cell).or_default() += count,
+            _ => {}
+        }
+    }
+    sum
+}
+
+/// Equation (1) at the degrees the graph itself has, and how many of its vertices have no edge.
+pub fn sum_of_graph(adjacency: &[u8], vertices: usize) -> Sum {
     let rows: Vec<&[u8]> = adjacency.chunks(200).collect();
     let degrees: Vec<usize> = rows
         .iter()
         .map(|row| row.iter().map(|&byte| byte as usize).sum())
         .collect();
-    let mut cells = Cells::new();
+    let mut sum = Sum::default();
     for v in 0..200 {
         for w in (0..200).filter(|&w| rows[v][w] == 1) {
             // From v's side: cell (k, k) is met from both ends, any other once with k below l.
             if degrees[v] <= degrees[w] {
-                *cells.entry((degrees[v], degrees[w])).or_default() += 1;
+                *sum.cells.entry((degrees[v], degrees[w])).or_default() += 1;
             }
         }
     }
-    cells
+    let without = degrees[..vertices].iter().filter(|&&degree| degree == 0);
+    sum.isolated = without.count() as u64;
+    sum
 }
 
 /// Whether the bytes are a simple graph: 0 or 1, symmetric, no loops.
@@ -66,8 +95,8 @@ pub fn simple(adjacency: &[u8]) -> bool {
 }
 
 /// Lays a table out and completes it, or sees it refused. Returns whether it was laid.
-pub fn run(matrix: &Matrix, start: Start, random: &mut Random, both: &mut Both) -> bool {
-    let blocks = take_all(matrix, random, both);
+pub fn run(table: &Table, start: Start, random: &mut Random, both: &mut Both) -> bool {
+    let blocks = take_all(table, random, both);
     let numbers = both.call(Call::LayOut);
     read_all_back(&blocks, both);
     if numbers[0] != 0 {
@@ -75,20 +104,21 @@ pub fn run(matrix: &Matrix, start: Start, random: &mut Random, both: &mut Both) 
         both.count.tables_refused += 1;
         return false;
     }
+    let vertices = numbers[1] as usize;
     let laid = match start {
         Start::Empty => 0,
-        Start::ByHand => edges_by_hand(numbers[1] as usize, random, both),
+        Start::ByHand => edges_by_hand(vertices, random, both),
     };
-    finish(&sum_of(&blocks), laid, both);
+    finish(&sum_of(&blocks), vertices, laid, both);
     true
 }
 
 /// Lays out the table of a graph, lays some of the graph's own edges by hand, and completes.
 pub fn run_from_part_of(graph: &Graph, random: &mut Random, both: &mut Both) {
     let graph = graph.by_rising_degree();
-    let blocks = take_all(&graph.matrix(), random, both);
-    let vertices = graph.vertices() as u64;
-    assert_eq!(both.call(Call::LayOut), [0, vertices, 0, 0, 0, 0]);
+    let blocks = take_all(&graph.table(), random, both);
+    let vertices = graph.vertices();
+    assert_eq!(both.call(Call::LayOut), [0, vertices as u64, 0, 0, 0, 0]);
     read_all_back(&blocks, both);
     let percent = random.between(1, 99);
     let mut edges: Vec<(usize, usize)> = graph.edges().iter().copied().collect();
@@ -103,16 +133,16 @@ pub fn run_from_part_of(graph: &Graph, random: &mut Random, both: &mut Both) {
             adjacency::insert(&mut both.adjacency, v, w);
         }
     }
-    finish(&sum_of(&blocks), edges.len() as u64, both);
+    finish(&sum_of(&blocks), vertices, edges.len() as u64, both);
 }
 
 /// Edges of a large start beyond these are written as bytes, to save time.
 const MOST_BY_CALLS: usize = 100;
 
 /// Clears, and takes the table's blocks, some of them twice.
-fn take_all(matrix: &Matrix, random: &mut Random, both: &mut Both) -> Vec<Vec<u8>> {
+fn take_all(table: &Table, random: &mut Random, both: &mut Both) -> Vec<Vec<u8>> {
     both.call(Call::Clear);
-    let blocks = blocks::cut(matrix, random);
+    let blocks = blocks::cut(table, random);
     for (number, block) in (0..).zip(&blocks) {
         take(both, number, block, [0, 0, number + 1, 0, 0, 0]);
         if random.chance(20) {
@@ -154,23 +184,25 @@ fn edges_by_hand(vertices: usize, random: &mut Random, both: &mut Both) -> u64 {
     laid
 }
 
-/// Completes and checks the graph by its own count, by its list and by the list's matrix.
-fn finish(wanted: &Cells, laid: u64, both: &mut Both) {
-    let ends = |(&(k, l), &count): (&(usize, usize), &u64)| if k == l { count } else { 2 * count };
-    let edges = wanted.iter().map(ends).sum::<u64>() / 2;
+/// Completes and checks the graph by its own count, by its list and by the list's survey.
+fn finish(wanted: &Sum, vertices: usize, laid: u64, both: &mut Both) {
+    let edges = wanted.edges();
     let numbers = both.call(Call::Complete);
     assert_eq!((numbers[0], numbers[1]), (0, edges - laid));
     assert!(simple(&both.adjacency));
-    assert_eq!(&cells_of(&both.adjacency), wanted);
+    assert_eq!(&sum_of_graph(&both.adjacency, vertices), wanted);
+    // The isolated vertices are the first ones.
+    let rows = &both.adjacency[..200 * wanted.isolated as usize];
+    assert!(rows.iter().all(|&byte| byte == 0), "isolated, but joined");
     assert_eq!(both.call(Call::Complete), [0; 6]);
 
     let output = vec![0xee; 2 * edges as usize];
     let numbers = both.call(Call::EdgeList { output });
     assert_eq!(numbers, [0, 2 * edges, 0, 0, 0, 0]);
-    let list = both.output.clone();
-    let length = 4 * wanted.len();
+    let length = 4 * wanted.records();
     let call = Call::JdmOfEdges {
-        edges: list,
+        edges: both.output.clone(),
+        total: vertices as u64,
         output: vec![0xee; length],
     };
     assert_eq!(both.call(call), [0, length as u64, 0, 0, 0, 0]);
@@ -191,33 +223,51 @@ const FAMILIES: [(&[usize], u64); 9] = [
     (&[4], 100),
 ];
 
-/// Every table of small families, whether it has a graph or not.
-pub fn exhaustive() -> Vec<Matrix> {
-    let mut tables = Vec::new();
+/// Every table of small families, whether it has a graph or not; every third has isolated vertices.
+pub fn exhaustive() -> Vec<Table> {
+    let mut matrices = Vec::new();
     for (degrees, most) in FAMILIES {
         let mut pairs = Vec::new();
         for (i, &k) in degrees.iter().enumerate() {
             pairs.extend(degrees[i..].iter().map(|&l| (k, l)));
         }
-        fill(&pairs, most, &Matrix::new(), &mut tables);
+        fill(&pairs, most, &Matrix::new(), &mut matrices);
     }
-    tables
+    let isolated = [0, 0, 1, 0, 0, 2, 0, 0, 7].into_iter().cycle();
+    let both = matrices.into_iter().zip(isolated);
+    both.map(|(matrix, isolated)| Table::new(matrix, isolated))
+        .collect()
 }
 
-fn fill(pairs: &[(usize, usize)], most: u64, matrix: &Matrix, tables: &mut Vec<Matrix>) {
+fn fill(pairs: &[(usize, usize)], most: u64, matrix: &Matrix, matrices: &mut Vec<Matrix>) {
     let Some((&(k, l), rest)) = pairs.split_first() else {
-        tables.push(matrix.clone());
+        matrices.push(matrix.clone());
         return;
     };
     for count in 0..=most {
         let mut with_count = matrix.clone();
         with_count.add(k, l, count);
-        fill(rest, most, &with_count, tables);
+        fill(rest, most, &with_count, matrices);
     }
 }
 
-/// Tables at the bounds: most vertices, most edges, most cells, cells as large as they can be.
-pub fn at_the_bounds() -> Vec<Matrix> {
+/// Tables at the bounds: most vertices, most edges, most cells, cells as large as they can be, each
+/// without isolated vertices, with as many as there is room for, and with one more.
+pub fn at_the_bounds() -> Vec<Table> {
+    let mut tables = Vec::new();
+    for matrix in matrices_at_the_bounds() {
+        let vertices = Table::new(matrix.clone(), 0).vertex_count();
+        let room = 200u64.saturating_sub(vertices);
+        let isolated = BTreeSet::from([0, room, room + 1]);
+        tables.extend(isolated.iter().map(|&n| Table::new(matrix.clone(), n)));
+    }
+    for isolated in [1, 199, 256, 65_535, 65_536, 65_736, 131_072, 67_000_000] {
+        tables.push(Table::of(&[], isolated));
+    }
+    tables
+}
+
+fn matrices_at_the_bounds() -> Vec<Matrix> {
     vec![
         Matrix::new(),
         Matrix::of(&[(40, 40, 8_000)]),

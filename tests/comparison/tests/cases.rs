@@ -1,6 +1,7 @@
 //! The cases of document 01 and the figures checked by hand, on the library through its safe crate.
 
-use replica::{block, Cause, Completion, Record, State, Take};
+use replica::{block, jdm_of_edges, Cause, Completion, Record, Records, State, Take};
+use replica::{MOST_RECORDS, RECORD_LENGTH};
 
 fn state_of(cells: &[(u8, u8, u16)]) -> State {
     let mut state = State::new();
@@ -100,6 +101,80 @@ fn tables_that_fit() {
 #[test]
 fn evenness_is_of_the_sum() {
     assert_eq!(state_of(&[(2, 2, 3), (2, 2, 3)]).lay_out(), Ok(3));
+}
+
+/// Isolated vertices: numbered first, counted in N and in no cell.
+#[test]
+fn isolated_vertices() {
+    let mut state = laid(&[(0, 0, 3), (1, 3, 1), (2, 2, 2), (2, 3, 2)]);
+    assert_eq!(state.cells().unwrap().isolated(), 3);
+    assert_eq!(state.figures().unwrap().vertices, 7);
+    let refusal = state.add_edge(6, 0).unwrap_err();
+    assert_eq!(
+        (refusal.cause, refusal.places),
+        (Cause::CellNotShort, (0, 3))
+    );
+    assert_eq!(
+        state.remove_edge(0, 1).unwrap_err().cause,
+        Cause::EdgeAbsent
+    );
+    assert_eq!(state.complete(), Ok(done(4, 0)));
+    assert_eq!(edges(&state), [(3, 6), (4, 5), (4, 6), (5, 6)]);
+    assert_eq!(state_of(&[(0, 0, 200)]).lay_out(), Ok(200));
+    assert_eq!(refusal_of_lay_out(201), Cause::TooManyVertices);
+    assert_eq!(state_of(&[(0, 0, 0)]).lay_out(), Ok(0));
+    let mut state = State::new();
+    for bad in [Record::new(0, 3, 1), Record::new(3, 0, 1)] {
+        let refusal = state.take_block(0, &block(&[Record::isolated(1), bad]));
+        let refusal = refusal.unwrap_err();
+        assert_eq!((refusal.cause, refusal.places), (Cause::BadRecord, (1, 0)));
+    }
+}
+
+fn refusal_of_lay_out(isolated: u16) -> Cause {
+    refusal(&[(0, 0, isolated)]).0
+}
+
+/// The list of a completed state, surveyed with its number of vertices, is the table again.
+#[test]
+fn a_survey_gives_the_table_back() {
+    let tables: [&[(u8, u8, u16)]; 4] = [
+        &[(0, 0, 3), (1, 3, 1), (2, 2, 2), (2, 3, 2)],
+        &[(1, 3, 1), (2, 2, 2), (2, 3, 2)],
+        &[(0, 0, 200)],
+        &[(0, 0, 159), (40, 40, 1_640)],
+    ];
+    for cells in tables {
+        let mut state = state_of(cells);
+        let total = state.lay_out().unwrap();
+        state.complete().unwrap();
+        let list = state.edges().unwrap();
+        let mut output = vec![0; MOST_RECORDS * RECORD_LENGTH];
+        let length = jdm_of_edges(list.as_bytes(), total, &mut output).unwrap();
+        let records: Vec<Record> = Records::new(&output[..length]).collect();
+        let sent: Vec<Record> = cells
+            .iter()
+            .map(|&(k, l, n)| Record::new(k, l, n))
+            .collect();
+        assert_eq!(records, sent);
+        assert_eq!(records[0].is_isolated(), cells[0].0 == 0);
+    }
+}
+
+#[test]
+fn totals_of_a_survey() {
+    let survey = |edges: &[u8], total| {
+        let refusal = jdm_of_edges(edges, total, &mut [0; 8]).unwrap_err();
+        assert_eq!(refusal.cause, Cause::BadEdgeList);
+        refusal.places
+    };
+    for total in [201, u64::MAX] {
+        assert_eq!(survey(&[], total), (0, 0));
+        assert_eq!(survey(&[0, 1, 5], total), (0, 0));
+    }
+    assert_eq!(survey(&[0, 1, 5], 200), (1, 0));
+    assert_eq!(survey(&[0, 1, 0, 5], 5), (1, 0));
+    assert_eq!(jdm_of_edges(&[], 0, &mut []), Ok(0));
 }
 
 #[test]

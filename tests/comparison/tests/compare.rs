@@ -14,8 +14,8 @@ use comparison::tables::{self, Start};
 use comparison::{joins, lists};
 use reference::graphs;
 use reference::random::Random;
-use reference::search::matrices_of_all_graphs;
-use reference::Matrix;
+use reference::search::tables_of_all_graphs;
+use reference::Table;
 use std::panic;
 use std::sync::atomic::{AtomicUsize, Ordering};
 use std::thread;
@@ -25,7 +25,7 @@ use std::time::Instant;
 enum Job {
     List(u64, Size),
     Joins(u64),
-    Tables(usize, Vec<(Matrix, Start)>),
+    Tables(usize, Vec<(Table, Start)>),
     RandomTable(u64, usize),
 }
 
@@ -46,15 +46,15 @@ impl Job {
             Job::Joins(seed) => joins::run(*seed, &mut both),
             Job::Tables(number, tables) => {
                 let mut random = Random::new(*number as u64);
-                for (matrix, start) in tables {
-                    tables::run(matrix, *start, &mut random, &mut both);
+                for (table, start) in tables {
+                    tables::run(table, *start, &mut random, &mut both);
                 }
             }
             Job::RandomTable(seed, most) => {
                 let mut random = Random::new(*seed);
                 let graph = graphs::any(*most, &mut random);
                 for start in [Start::Empty, Start::ByHand] {
-                    let laid = tables::run(&graph.matrix(), start, &mut random, &mut both);
+                    let laid = tables::run(&graph.table(), start, &mut random, &mut both);
                     assert!(laid, "the table of a graph was refused");
                 }
                 tables::run_from_part_of(&graph, &mut random, &mut both);
@@ -111,20 +111,24 @@ fn jobs() -> Vec<Job> {
     jobs
 }
 
-/// Tables at the bounds, of all graphs on 6 vertices, and of small families.
+/// Tables at the bounds, of all graphs on 6 vertices, isolated ones among them or left out, and of
+/// small families.
 fn table_jobs(effort: u64) -> Vec<Job> {
     let mut tables = Vec::new();
-    for matrix in tables::at_the_bounds() {
-        tables.push(vec![(matrix.clone(), Start::Empty)]);
-        tables.push(vec![(matrix, Start::ByHand)]);
+    for table in tables::at_the_bounds() {
+        tables.push(vec![(table.clone(), Start::Empty)]);
+        tables.push(vec![(table, Start::ByHand)]);
     }
-    let small: Vec<Matrix> = matrices_of_all_graphs(6)
-        .into_iter()
-        .chain(tables::exhaustive())
-        .collect();
+    let mut small = tables::exhaustive();
+    for table in tables_of_all_graphs(6) {
+        if table.isolated > 0 {
+            small.push(Table::new(table.matrix.clone(), 0));
+        }
+        small.push(table);
+    }
     let step = (100 / effort.clamp(1, 100)) as usize;
     let both_starts =
-        |matrix: &Matrix| [Start::Empty, Start::ByHand].map(|start| (matrix.clone(), start));
+        |table: &Table| [Start::Empty, Start::ByHand].map(|start| (table.clone(), start));
     for some in small.chunks(100).step_by(step) {
         tables.push(some.iter().flat_map(both_starts).collect());
     }

@@ -36,7 +36,9 @@ fn states() -> Vec<Both> {
     let state = |plan: &Vec<usize>| {
         let mut both = Both::new("damage");
         for (number, &records) in (0..).zip(plan) {
-            let block = record(1, 1, 2).repeat(records);
+            // Every second block is of isolated vertices.
+            let degree = number as usize % 2;
+            let block = record(1 - degree, 1 - degree, 2).repeat(records);
             let answer = both.call(Call::TakeBlock { number, block });
             assert_eq!(answer[..2], [0, 0]);
         }

@@ -1,4 +1,5 @@
-//! Test 11 on tables whose products D(k) x D(l) pass 32 bits: the answer is that of whole numbers.
+//! Test 11 on tables whose products D(k) x D(l) pass 32 bits, and test 12 on isolated vertices far
+//! beyond 16: the answer is that of whole numbers.
 
 use comparison::both::Both;
 use comparison::call::Call;
@@ -107,6 +108,39 @@ fn around_32_bits() {
     }
     println!("{wrapped_below} would wrap below the cell, {wrapped_above} not");
     assert!(wrapped_below > 10 && wrapped_above > 10);
+}
+
+/// Isolated vertices whose number would be 200 or less, alone or with others, in 8 or 16 bits.
+#[test]
+fn many_isolated_vertices() {
+    for count in [
+        201,
+        256,
+        256 + 200,
+        65_535,
+        65_536,
+        65_536 + 200,
+        3 * 65_536 + 1,
+        1 << 24,
+        MOST_SUM - 1,
+        MOST_SUM,
+    ] {
+        assert_eq!(answer(&[(0, 0, count)]), refused(12, 0, 0), "{count}");
+    }
+    assert_eq!(answer(&[(0, 0, 200)]), [0, 200, 0, 0, 0, 0]);
+    for count in [65_536 - 2, 65_536, 65_536 + 198, 1 << 25] {
+        let cells = [(1, 1, 2), (0, 0, count)];
+        assert_eq!(answer(&cells), refused(12, 0, 0), "{count}");
+    }
+    // The other tests come first.
+    let most = MOST_SUM - MOST_COUNT;
+    assert_eq!(answer(&[(0, 0, most), (2, 2, 5)]), refused(9, 2, 2));
+    assert_eq!(answer(&[(0, 0, most), (1, 3, 1)]), refused(10, 3, 0));
+    assert_eq!(answer(&[(0, 0, most), (2, 2, 4)]), refused(11, 2, 2));
+    assert_eq!(answer(&[(0, 0, most), (2, 2, 8)]), refused(12, 0, 0));
+    // Both near what a journal holds: half of the records each.
+    let half = MOST_SUM / 2;
+    assert_eq!(answer(&[(0, 0, half), (1, 1, half)]), refused(12, 0, 0));
 }
 
 /// A cell that is too large behind one whose product would wrap: the place tells them apart.

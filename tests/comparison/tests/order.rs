@@ -29,10 +29,12 @@ fn list(both: &mut Both, length: usize) -> [u64; 6] {
     both.call(Call::EdgeList { output })
 }
 
-fn jdm(both: &mut Both, edges: &[u8], length: usize) -> [u64; 6] {
-    let edges = edges.to_vec();
-    let output = vec![0xee; length];
-    both.call(Call::JdmOfEdges { edges, output })
+fn jdm(both: &mut Both, edges: &[u8], total: u64, length: usize) -> [u64; 6] {
+    both.call(Call::JdmOfEdges {
+        edges: edges.to_vec(),
+        total,
+        output: vec![0xee; length],
+    })
 }
 
 /// A laid state of the given cells.
@@ -63,15 +65,23 @@ fn taking() {
             let block = vec![1; length];
             assert_eq!(take(&mut both, number, &block), refused(4, 0, 0));
         }
-        let bad: [[u8; 4]; 5] = [
+        let bad: [[u8; 4]; 9] = [
             [0, 1, 2, 0],
+            [0, 3, 0, 0],
+            [3, 0, 1, 0],
+            [0, 40, 1, 0],
+            [0, 255, 0, 0],
             [1, 41, 2, 0],
             [2, 1, 2, 0],
             [41, 41, 0, 0],
             [255, 255, 0, 0],
         ];
         for (index, record) in (0..).zip(bad) {
-            let mut block = good.repeat(index);
+            // Records of isolated vertices before it and behind it are good.
+            let before = [[1, 1, 2, 0], [0, 0, 0, 0], [0, 0, 9, 1]]
+                .into_iter()
+                .cycle();
+            let mut block = before.take(index).flatten().collect::<Vec<u8>>();
             block.extend(record);
             block.extend([0; 4]);
             let answer = take(&mut both, number, &block);
@@ -155,6 +165,22 @@ fn laying_out() {
     assert_eq!(answer(&[(1, 1, 200)]), [0, 200, 0, 0, 0, 0]);
     assert_eq!(answer(&[(1, 1, 1), (1, 1, 1)]), [0, 2, 0, 0, 0, 0]);
     assert_eq!(answer(&[]), DONE);
+    // Isolated vertices count in N and in no other test.
+    assert_eq!(answer(&[(0, 0, 0)]), DONE);
+    assert_eq!(answer(&[(0, 0, 1)]), [0, 1, 0, 0, 0, 0]);
+    assert_eq!(answer(&[(0, 0, 120), (0, 0, 80)]), [0, 200, 0, 0, 0, 0]);
+    assert_eq!(answer(&[(0, 0, 120), (0, 0, 81)]), refused(12, 0, 0));
+    assert_eq!(answer(&[(1, 1, 198), (0, 0, 2)]), [0, 200, 0, 0, 0, 0]);
+    assert_eq!(answer(&[(1, 1, 198), (0, 0, 3)]), refused(12, 0, 0));
+    assert_eq!(answer(&[(1, 1, 200), (0, 0, 1)]), refused(12, 0, 0));
+    assert_eq!(answer(&[(40, 40, 8_000), (0, 0, 0)]), [0, 200, 0, 0, 0, 0]);
+    assert_eq!(answer(&[(40, 40, 8_000), (0, 0, 1)]), refused(12, 0, 0));
+    for isolated in [1, 2, 201, 65_535] {
+        let with = |k, l, count| answer(&[(0, 0, isolated), (k, l, count)]);
+        assert_eq!(with(2, 2, 5), refused(9, 2, 2));
+        assert_eq!(with(1, 3, 1), refused(10, 3, 0));
+        assert_eq!(with(2, 2, 4), refused(11, 2, 2));
+    }
 }
 
 #[test]
@@ -175,6 +201,59 @@ fn joining_and_removing() {
     assert_eq!(both.call(Call::LayOut), refused(3, 0, 0));
     assert_eq!(both.call(Call::Complete), [0, 4, 0, 0, 0, 0]);
     assert_eq!(add(&mut both, 0, 1), refused(16, 1, 2));
+}
+
+/// Three isolated vertices and the table of document 004.
+const WITH_ISOLATED: [(usize, usize, u64); 4] = [(0, 0, 3), (1, 3, 1), (2, 2, 2), (2, 3, 2)];
+
+#[test]
+fn joining_and_removing_at_isolated_vertices() {
+    let mut both = laid("isolated vertices", &WITH_ISOLATED);
+    assert_eq!(both.call(Call::Figures), [0, 1, 4, 7, 4, 0]);
+    for (v, w, degree) in [(0, 1, 0), (1, 2, 0), (0, 3, 1), (2, 4, 2), (1, 6, 3)] {
+        for (v, w) in [(v, w), (w, v)] {
+            assert_eq!(add(&mut both, v, w), refused(16, 0, degree));
+            assert_eq!(remove(&mut both, v, w), refused(17, 0, 0));
+        }
+    }
+    // Those checks come after 13 and 14, and 15 concerns other vertices only.
+    assert_eq!(add(&mut both, 0, 7), refused(13, 0, 0));
+    assert_eq!(add(&mut both, u64::MAX, 0), refused(13, 0, 0));
+    assert_eq!(add(&mut both, 0, 0), refused(14, 0, 0));
+    assert_eq!(remove(&mut both, 7, 0), refused(13, 0, 0));
+    assert_eq!(remove(&mut both, 2, 2), refused(14, 0, 0));
+    assert_eq!(add(&mut both, 3, 6), DONE);
+    assert_eq!(add(&mut both, 6, 3), refused(15, 0, 0));
+    assert_eq!(both.call(Call::Complete), [0, 3, 0, 0, 0, 0]);
+    assert_eq!(add(&mut both, 2, 3), refused(16, 0, 1));
+    assert_eq!(both.call(Call::Figures), [0, 1, 4, 7, 4, 4]);
+    assert_eq!(list(&mut both, 8), [0, 8, 0, 0, 0, 0]);
+    assert_eq!(both.output, [3, 6, 4, 5, 4, 6, 5, 6]);
+    let edges = both.output.clone();
+    assert_eq!(jdm(&mut both, &edges, 7, 16), [0, 16, 0, 0, 0, 0]);
+    let records = WITH_ISOLATED.map(|(k, l, count)| record(k, l, count));
+    assert_eq!(both.output, records.concat());
+}
+
+/// No edge and none to add: every call on isolated vertices alone.
+#[test]
+fn only_isolated_vertices() {
+    for isolated in [1, 2, 199, 200] {
+        let mut both = laid("only isolated vertices", &[(0, 0, isolated)]);
+        assert_eq!(both.call(Call::Figures), [0, 1, 1, isolated, 0, 0]);
+        assert_eq!(both.call(Call::Complete), DONE);
+        assert_eq!(list(&mut both, 0), DONE);
+        let last = isolated - 1;
+        let expected = match last {
+            0 => refused(14, 0, 0),
+            _ => refused(16, 0, 0),
+        };
+        assert_eq!(add(&mut both, 0, last), expected);
+        assert_eq!(add(&mut both, last, 0), expected);
+        assert_eq!(add(&mut both, 0, isolated), refused(13, 0, 0));
+        assert_eq!(jdm(&mut both, &[], isolated, 4), [0, 4, 0, 0, 0, 0]);
+        assert_eq!(both.output, record(0, 0, isolated));
+    }
 }
 
 #[test]
@@ -200,38 +279,104 @@ fn outputs() {
     assert_eq!(list(&mut both, 9), [0, 8, 0, 0, 0, 0]);
     let edges = [0, 3, 1, 2, 1, 3, 2, 3];
     for length in 0..12 {
-        assert_eq!(jdm(&mut both, &edges, length), refused(18, 0, 0));
+        assert_eq!(jdm(&mut both, &edges, 4, length), refused(18, 0, 0));
     }
-    assert_eq!(jdm(&mut both, &edges, 12), [0, 12, 0, 0, 0, 0]);
-    assert_eq!(jdm(&mut both, &edges, 13), [0, 12, 0, 0, 0, 0]);
-    assert_eq!(jdm(&mut both, &[], 0), DONE);
+    assert_eq!(jdm(&mut both, &edges, 4, 12), [0, 12, 0, 0, 0, 0]);
+    assert_eq!(jdm(&mut both, &edges, 4, 13), [0, 12, 0, 0, 0, 0]);
+    // With an isolated vertex there is one record more.
+    assert_eq!(jdm(&mut both, &edges, 5, 15), refused(18, 0, 0));
+    assert_eq!(jdm(&mut both, &edges, 5, 16), [0, 16, 0, 0, 0, 0]);
+    assert_eq!(both.output[..8], [0, 0, 1, 0, 1, 3, 1, 0]);
+    assert_eq!(jdm(&mut both, &[], 0, 0), DONE);
+    assert_eq!(jdm(&mut both, &[], 1, 3), refused(18, 0, 0));
+    assert_eq!(jdm(&mut both, &[], 1, 4), [0, 4, 0, 0, 0, 0]);
 }
 
 #[test]
 fn edge_lists() {
     let mut both = Both::new("edge lists");
     // Odd length first, whatever the edges; then the first bad edge; the output last.
-    assert_eq!(jdm(&mut both, &[5], 0), refused(19, 0, 0));
-    assert_eq!(jdm(&mut both, &[9, 9, 9, 9, 9], 0), refused(19, 2, 0));
-    assert_eq!(jdm(&mut both, &[1, 1], 0), refused(19, 0, 0));
-    assert_eq!(jdm(&mut both, &[2, 1], 0), refused(19, 0, 0));
-    assert_eq!(jdm(&mut both, &[0, 199], 4), [0, 4, 0, 0, 0, 0]);
-    assert_eq!(jdm(&mut both, &[0, 200], 4), refused(19, 0, 0));
-    assert_eq!(jdm(&mut both, &[0, 1, 0, 1], 4), refused(19, 1, 0));
-    assert_eq!(jdm(&mut both, &[0, 2, 0, 1], 4), refused(19, 1, 0));
-    assert_eq!(jdm(&mut both, &[1, 2, 0, 3], 4), refused(19, 1, 0));
+    assert_eq!(jdm(&mut both, &[5], 200, 0), refused(19, 0, 0));
+    assert_eq!(jdm(&mut both, &[9, 9, 9, 9, 9], 200, 0), refused(19, 2, 0));
+    assert_eq!(jdm(&mut both, &[1, 1], 200, 0), refused(19, 0, 0));
+    assert_eq!(jdm(&mut both, &[2, 1], 200, 0), refused(19, 0, 0));
+    assert_eq!(jdm(&mut both, &[0, 199], 200, 8), [0, 8, 0, 0, 0, 0]);
+    assert_eq!(jdm(&mut both, &[0, 200], 200, 4), refused(19, 0, 0));
+    assert_eq!(jdm(&mut both, &[0, 1, 0, 1], 200, 4), refused(19, 1, 0));
+    assert_eq!(jdm(&mut both, &[0, 2, 0, 1], 200, 4), refused(19, 1, 0));
+    assert_eq!(jdm(&mut both, &[1, 2, 0, 3], 200, 4), refused(19, 1, 0));
     // A bad edge after a degree over 40 is still 19; both over 40, the lowest is named.
     let mut edges: Vec<u8> = (0..45).flat_map(|v| [v, 199]).collect();
-    assert_eq!(jdm(&mut both, &edges, 0), refused(20, 199, 0));
+    assert_eq!(jdm(&mut both, &edges, 200, 0), refused(20, 199, 0));
     edges.extend((101..150).flat_map(|w| [100, w]));
-    assert_eq!(jdm(&mut both, &edges, 0), refused(20, 100, 0));
+    assert_eq!(jdm(&mut both, &edges, 200, 0), refused(20, 100, 0));
     edges.extend([99, 100]);
-    assert_eq!(jdm(&mut both, &edges, 0), refused(19, 94, 0));
+    assert_eq!(jdm(&mut both, &edges, 200, 0), refused(19, 94, 0));
     // Exactly 40 passes.
     let edges: Vec<u8> = (0..40).flat_map(|v| [v, 199]).collect();
-    assert_eq!(jdm(&mut both, &edges, 3), refused(18, 0, 0));
-    assert_eq!(jdm(&mut both, &edges, 4), [0, 4, 0, 0, 0, 0]);
-    assert_eq!(both.output, [1, 40, 40, 0]);
+    assert_eq!(jdm(&mut both, &edges, 200, 7), refused(18, 0, 0));
+    assert_eq!(jdm(&mut both, &edges, 200, 8), [0, 8, 0, 0, 0, 0]);
+    assert_eq!(both.output, [0, 0, 159, 0, 1, 40, 40, 0]);
+}
+
+/// The total is looked at before the list: its length, its edges, their degrees and the output.
+#[test]
+fn totals() {
+    let mut both = Both::new("totals");
+    let star: Vec<u8> = (1..42).flat_map(|w| [0, w]).collect();
+    let lists: [&[u8]; 7] = [&[], &[5], &[0, 1], &[1, 1], &[0, 1, 9], &[0, 255], &star];
+    for total in [
+        201,
+        255,
+        256,
+        65_536,
+        1 << 32,
+        1 << 63,
+        u64::MAX - 1,
+        u64::MAX,
+    ] {
+        for edges in lists {
+            assert_eq!(jdm(&mut both, edges, total, 0), refused(19, 0, 0));
+            assert_eq!(jdm(&mut both, edges, total, 64), refused(19, 0, 0));
+        }
+    }
+    for total in [0, 1, 199, 200] {
+        // Without edges, all are isolated; none of them is no record.
+        let written = if total > 0 { 4 } else { 0 };
+        assert_eq!(jdm(&mut both, &[], total, 9), [0, written, 0, 0, 0, 0]);
+        assert_eq!(jdm(&mut both, &[5], total, 9), refused(19, 0, 0));
+        assert_eq!(jdm(&mut both, &[0, 1, 5], total, 9), refused(19, 1, 0));
+        assert_eq!(jdm(&mut both, &[0, 200], total, 9), refused(19, 0, 0));
+    }
+}
+
+/// A vertex below the total, the total itself, and above it.
+#[test]
+fn vertices_around_the_total() {
+    let mut both = Both::new("vertices around the total");
+    for total in [2, 3, 100, 199, 200] {
+        let (last, next) = (total as u8 - 1, total as u8);
+        let written = if total > 2 { 8 } else { 4 };
+        let answer = jdm(&mut both, &[0, last], total, 8);
+        assert_eq!(answer, [0, written, 0, 0, 0, 0]);
+        for bad in [next, next + 1, 255] {
+            assert_eq!(jdm(&mut both, &[0, bad], total, 8), refused(19, 0, 0));
+            assert_eq!(jdm(&mut both, &[0, 1, 0, bad], total, 8), refused(19, 1, 0));
+        }
+    }
+    for total in [0, 1] {
+        assert_eq!(jdm(&mut both, &[0, 1], total, 8), refused(19, 0, 0));
+    }
+    // The first bad edge is named, whatever makes it bad; then a degree, then the output.
+    assert_eq!(jdm(&mut both, &[0, 1, 0, 9, 0, 9], 9, 0), refused(19, 1, 0));
+    assert_eq!(jdm(&mut both, &[0, 1, 0, 1, 0, 9], 9, 0), refused(19, 1, 0));
+    let star: Vec<u8> = (1..42).flat_map(|w| [0, w]).collect();
+    assert_eq!(jdm(&mut both, &star, 41, 0), refused(19, 40, 0));
+    assert_eq!(jdm(&mut both, &star, 42, 0), refused(20, 0, 0));
+    assert_eq!(jdm(&mut both, &star[..80], 41, 3), refused(18, 0, 0));
+    assert_eq!(jdm(&mut both, &star[..80], 41, 4), [0, 4, 0, 0, 0, 0]);
+    assert_eq!(jdm(&mut both, &star[..80], 42, 8), [0, 8, 0, 0, 0, 0]);
+    assert_eq!(both.output, [0, 0, 1, 0, 1, 40, 40, 0]);
 }
 
 #[test]
@@ -283,6 +428,14 @@ fn single_damaged_bytes() {
     let mut both = laid("single damaged bytes", &[(2, 2, 8)]);
     add(&mut both, 0, 1);
     add(&mut both, 0, 2);
+    damage(&mut both);
+    let mut both = laid("single damaged bytes, isolated", &[(2, 2, 8), (0, 0, 2)]);
+    add(&mut both, 2, 3);
+    add(&mut both, 2, 4);
+    damage(&mut both);
+}
+
+fn damage(both: &mut Both) {
     let near: Vec<usize> = (0..80).chain([2 + 65, 66, 67, 68, 131, 132]).collect();
     let far = [JOURNAL_LENGTH - 66, JOURNAL_LENGTH - 65, JOURNAL_LENGTH - 1];
     for place in near.into_iter().chain(far) {
@@ -293,8 +446,8 @@ fn single_damaged_bytes() {
             both.call_on(journal, both.adjacency.clone(), Call::Complete);
         }
     }
-    for v in [0, 1, 2, 3, 4, 199] {
-        for w in [0, 1, 2, 3, 4, 199] {
+    for v in [0, 1, 2, 3, 4, 5, 6, 199] {
+        for w in [0, 1, 2, 3, 4, 5, 6, 199] {
             for byte in [0, 1, 2, 255] {
                 let mut adjacency = both.adjacency.clone();
                 adjacency[200 * v + w] = byte;
@@ -329,4 +482,70 @@ fn bounds_of_a_valid_state() {
     join(&mut adjacency, 4, 5);
     let answer = both.call_on(both.journal.clone(), adjacency, Call::Figures);
     assert_eq!(answer, refused(2, 0, 0));
+}
+
+/// An edge at an isolated vertex, to another one or not, is in no valid state.
+#[test]
+fn edges_at_isolated_vertices() {
+    let mut both = laid("edges at isolated vertices", &WITH_ISOLATED);
+    let calls = [
+        Call::TakeBlock {
+            number: 0,
+            block: record(0, 0, 3).to_vec(),
+        },
+        Call::HeldBlock { number: 0 },
+        Call::LayOut,
+        Call::AddEdge { v: 3, w: 6 },
+        Call::RemoveEdge { v: 0, w: 1 },
+        Call::Complete,
+        Call::EdgeList { output: vec![9; 8] },
+        Call::Figures,
+    ];
+    for complete in [false, true] {
+        if complete {
+            assert_eq!(both.call(Call::Complete)[0], 0);
+        }
+        for (v, w) in [
+            (0, 1),
+            (0, 2),
+            (1, 2),
+            (0, 3),
+            (2, 3),
+            (1, 4),
+            (2, 6),
+            (0, 7),
+        ] {
+            let mut adjacency = both.adjacency.clone();
+            adjacency[200 * v + w] = 1;
+            adjacency[200 * w + v] = 1;
+            for call in calls.clone() {
+                let place = format!("{v}-{w}, {call:?}");
+                let answer = both.call_on(both.journal.clone(), adjacency.clone(), call);
+                assert_eq!(answer, refused(2, 0, 0), "{place}");
+            }
+        }
+    }
+}
+
+/// A laid journal whose isolated vertices are others: 200 vertices are valid, 201 are not.
+#[test]
+fn laid_journals_with_other_counts() {
+    let mut both = laid("laid journals", &[(0, 0, 1), (1, 1, 2)]);
+    // The count of the first record, low byte and high byte, and the second record's.
+    for (count, valid) in [
+        (0, true),
+        (198, true),
+        (199, false),
+        (256, false),
+        (454, false),
+    ] {
+        let mut journal = both.journal.clone();
+        journal[3..7].copy_from_slice(&record(0, 0, count));
+        let answer = both.call_on(journal, both.adjacency.clone(), Call::Figures);
+        let expected = match valid {
+            true => [0, 1, 2, count + 2, 1, 0],
+            false => refused(2, 0, 0),
+        };
+        assert_eq!(answer, expected, "{count} isolated");
+    }
 }

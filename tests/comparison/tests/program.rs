@@ -59,6 +59,25 @@ fn fixed_inputs() -> Vec<Vec<u8>> {
         vec![2, 2, 5, 0],
         vec![1, 3, 1, 0],
         vec![1, 1, 202, 0],
+        vec![0, 0, 0, 0],
+        vec![0, 0, 1, 0],
+        vec![0, 0, 200, 0],
+        vec![0, 0, 201, 0],
+        vec![0, 0, 0, 1],
+        vec![0, 3, 1, 0],
+        vec![3, 0, 1, 0],
+        vec![0, 0, 1, 0, 0, 41, 0, 0],
+        vec![0, 0, 2, 0, 1, 1, 2, 0],
+        vec![1, 1, 198, 0, 0, 0, 2, 0],
+        vec![1, 1, 198, 0, 0, 0, 3, 0],
+        vec![0, 0, 201, 0, 2, 2, 5, 0],
+        vec![0, 0, 0],
+        [&[0, 0, 3, 0], &DOCUMENT_01[..]].concat(),
+        [&DOCUMENT_01[..], &[0, 0, 3, 0]].concat(),
+        vec![0; 64],
+        vec![0; 4_096],
+        vec![0; 4_100],
+        [0, 0, 255, 255].repeat(1_024),
         vec![40, 40, 64, 31],
         vec![1, 1, 2],
         vec![1, 1, 2, 0, 2, 1, 0, 0],
@@ -72,6 +91,26 @@ fn fixed_inputs() -> Vec<Vec<u8>> {
     inputs.push([block.repeat(64), vec![1, 1, 2]].concat());
     inputs.push([block.repeat(65), vec![1]].concat());
     inputs
+}
+
+/// What some inputs with isolated vertices print, written down here.
+#[test]
+fn isolated_vertices() {
+    let cases: [(&[u8], &str); 7] = [
+        (&[0, 0, 0, 0], "boards 0 links 0 switches 0\n"),
+        (&[0, 0, 200, 0], "boards 200 links 0 switches 0\n"),
+        (&[0, 0, 201, 0], "refused 12 0 0\n"),
+        (&[0, 3, 1, 0], "refused 5 0 0\n"),
+        (&[0, 0, 1, 0, 3, 0, 1, 0], "refused 5 1 0\n"),
+        (&[0, 0, 201, 0, 2, 2, 4, 0], "refused 11 2 2\n"),
+        (
+            &[1, 1, 2, 0, 0, 0, 2, 0],
+            "boards 4 links 1 switches 0\n2 3\n",
+        ),
+    ];
+    for (input, expected) in cases {
+        assert_eq!(run(input), expected, "{input:?}");
+    }
 }
 
 #[test]
@@ -112,7 +151,7 @@ fn long_inputs_in_pieces() {
     let mut random = Random::new(6);
     for _ in 0..20 {
         let input = blocks::plan(Size::Medium, &mut random).concat();
-        let each = random.between(1, input.len()).max(input.len() / 50);
+        let each = random.between(1, input.len().max(1)).max(input.len() / 50);
         let printed = run_in_pieces(input.chunks(each), PAUSE / 100);
         assert_eq!(printed, output(&input), "pieces of {each}, input {input:?}");
     }
