@@ -4,7 +4,7 @@ use comparison::call::{Call, Entry, Memory};
 use reference::graphs::{self, Graph};
 use reference::journal::{self, record, LAID, TAKING};
 use reference::random::Random;
-use reference::{adjacency, Matrix};
+use reference::{adjacency, Matrix, Table};
 use reference::{ADJACENCY_LENGTH, BLOCK_LENGTH, JOURNAL_LENGTH, MOST_BLOCKS};
 
 const SIZES: [usize; 4] = [25, 50, 100, 200];
@@ -55,6 +55,7 @@ pub fn all() -> Vec<Case> {
     for size in SIZES {
         cases.extend(reports(size));
     }
+    cases.extend(half_isolated());
     cases.push(case(
         "any",
         Call::Clear,
@@ -83,7 +84,12 @@ pub fn journal_of(phase: u8, records: &[u8]) -> Vec<u8> {
 }
 
 fn laid(matrix: &Matrix) -> Vec<u8> {
-    journal_of(LAID, &matrix.records())
+    journal_of(LAID, &records_of(matrix))
+}
+
+/// The records of a matrix and of no isolated vertices.
+fn records_of(matrix: &Matrix) -> Vec<u8> {
+    Table::new(matrix.clone(), 0).records()
 }
 
 /// The records of a matrix, counts split until there are as many as a journal holds.
@@ -213,7 +219,7 @@ fn edges_by_hand(size: usize) -> Vec<Case> {
 }
 
 fn blocks() -> Vec<Case> {
-    let graph = cells(200).by_rising_degree();
+    let graph = cells(200).without_isolated().by_rising_degree();
     let records = all_records(&graph.matrix());
     let (first, last) = (0, MOST_BLOCKS - 1);
     let block = |i: usize| records[i * BLOCK_LENGTH..(i + 1) * BLOCK_LENGTH].to_vec();
@@ -249,8 +255,8 @@ fn layings_out(size: usize) -> Vec<Case> {
         case(&name, Call::LayOut, journal_of(TAKING, records), no_edges())
     };
     let mut cases = vec![
-        lay("regular", &regular(size).matrix().records()),
-        lay("cells", &cells(size).matrix().records()),
+        lay("regular", &records_of(&regular(size).matrix())),
+        lay("cells", &records_of(&cells(size).matrix())),
     ];
     if size == 200 {
         cases.push(lay("64-blocks", &all_records(&cells(size).matrix())));
@@ -258,11 +264,30 @@ fn layings_out(size: usize) -> Vec<Case> {
     cases
 }
 
+/// A regular graph on 100 vertices beside 100 isolated ones.
+fn half_isolated() -> Vec<Case> {
+    let graph = regular(100).widened(200).by_rising_degree();
+    let records = graph.table().records();
+    let (taken, laid) = (journal_of(TAKING, &records), journal_of(LAID, &records));
+    let survey = Call::JdmOfEdges {
+        edges: graph.edge_list(),
+        total: graph.vertices() as u64,
+        output: vec![0; records.len()],
+    };
+    let name = "isolated-200";
+    vec![
+        case(name, Call::LayOut, taken, no_edges()),
+        case(name, Call::Complete, laid.clone(), no_edges()),
+        case(name, Call::Figures, laid.clone(), graph.adjacency()),
+        case(name, survey, laid, graph.adjacency()),
+    ]
+}
+
 fn reports(size: usize) -> Vec<Case> {
     let mut cases = Vec::new();
     for (name, graph) in [("regular", regular(size)), ("cells", cells(size))] {
         let name = format!("{name}-{size}");
-        let graph = graph.by_rising_degree();
+        let graph = graph.without_isolated().by_rising_degree();
         let journal = laid(&graph.matrix());
         let edges = graph.edge_list();
         let list = Call::EdgeList {
@@ -270,7 +295,8 @@ fn reports(size: usize) -> Vec<Case> {
         };
         let jdm = Call::JdmOfEdges {
             edges,
-            output: vec![0; graph.matrix().records().len()],
+            total: graph.vertices() as u64,
+            output: vec![0; graph.table().records().len()],
         };
         let adjacency = graph.adjacency();
         for call in [Call::Figures, list, jdm] {

@@ -99,9 +99,9 @@ fn call_once(
 #[cfg(test)]
 mod tests {
     use super::*;
-    use reference::graphs;
     use reference::journal::LAID;
     use reference::random::Random;
+    use reference::{adjacency, graphs};
     use std::collections::BTreeSet;
 
     /// The twin answers as the library does and leaves the same bytes.
@@ -121,7 +121,7 @@ mod tests {
         }
     }
 
-    /// Parts of random graphs, some of them damaged: every answer is reached.
+    /// Parts of random graphs, some with isolated vertices, some damaged: every answer is reached.
     #[test]
     fn the_twin_on_random_states() {
         let mut random = Random::new(8);
@@ -136,7 +136,7 @@ mod tests {
                     part.join(v, w);
                 }
             }
-            let mut journal = cases::journal_of(LAID, &graph.matrix().records());
+            let mut journal = cases::journal_of(LAID, &graph.table().records());
             let mut adjacency = part.adjacency();
             match random.below(12) {
                 0 => journal[random.below(200)] ^= 1 << random.below(8),
@@ -145,6 +145,10 @@ mod tests {
                 3 => drop(journal.pop()),
                 4 => journal[0] = 0,
                 5 => adjacency[random.below(graph.vertices().max(1) * 200)] ^= 1,
+                6 => {
+                    let (v, w) = (random.below(200), random.below(graph.isolated().max(1)));
+                    adjacency::insert(&mut adjacency, v, w);
+                }
                 _ => {}
             }
             let mut vertex = || random.below(graph.vertices() + 2) as u64;

@@ -30,10 +30,11 @@ struct Laid {
     held: [u8; SIDE],
 }
 
-/// The sum of the blocks.
+/// The sum of the blocks. Row and column 0 stay 0: isolated vertices are in no cell.
 struct Table {
     cells: [[u32; DEGREES]; DEGREES],
     row_sums: [u32; DEGREES],
+    isolated: u32,
 }
 
 fn all_zero(bytes: &[u8]) -> bool {
@@ -49,6 +50,7 @@ fn table_of(journal: &[u8; JOURNAL_LENGTH]) -> Option<Table> {
     let mut table = Table {
         cells: [[0; DEGREES]; DEGREES],
         row_sums: [0; DEGREES],
+        isolated: 0,
     };
     let (used, unused) = journal[2..].split_at(SLOT_LENGTH * blocks);
     for slot in used.chunks_exact(SLOT_LENGTH) {
@@ -59,10 +61,14 @@ fn table_of(journal: &[u8; JOURNAL_LENGTH]) -> Option<Table> {
         let (block, rest) = slot[1..].split_at(length);
         for record in block.chunks_exact(4) {
             let (k, l) = (record[0] as usize, record[1] as usize);
+            let count = u32::from(u16::from_le_bytes([record[2], record[3]]));
+            if k == 0 && l == 0 {
+                table.isolated += count;
+                continue;
+            }
             if k == 0 || k > l || l > MOST_DEGREE {
                 return None;
             }
-            let count = u32::from(u16::from_le_bytes([record[2], record[3]]));
             table.cells[k][l] += count;
             table.row_sums[k] += count;
             if k != l {
@@ -76,10 +82,11 @@ fn table_of(journal: &[u8; JOURNAL_LENGTH]) -> Option<Table> {
     all_zero(unused).then_some(table)
 }
 
-/// Tests 9 to 12; D(k) of every degree.
+/// Tests 9 to 12; D(k) of every degree, and the isolated vertices as those of degree 0.
 fn counts_of(table: &Table) -> Option<[usize; DEGREES]> {
     let mut counts = [0; DEGREES];
-    let mut vertices = 0;
+    counts[0] = table.isolated as usize;
+    let mut vertices = counts[0];
     for (k, count) in counts.iter_mut().enumerate().skip(1) {
         let sum = table.row_sums[k] as usize;
         *count = sum / k;
@@ -132,6 +139,9 @@ fn checked_rows(table: Table, counts: &[usize; DEGREES], rows: &Rows) -> Option<
     }
     let n = laid.starts[DEGREES];
     laid.vertices = n;
+    if !all_zero(rows[..counts[0]].as_flattened()) {
+        return None;
+    }
     for k in (1..DEGREES).filter(|&k| counts[k] > 0) {
         let mut sums = [0u8; SIDE];
         for v in laid.starts[k]..laid.starts[k + 1] {
