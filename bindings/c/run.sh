@@ -28,8 +28,8 @@ fi
 ${CC:-cc} -std=c99 -Wall -Wextra -Wpedantic -Werror -o example example.c $flags
 ./example >printed
 cat printed
-printf '0 3\n1 2\n1 3\n2 3\n' >expected
+printf '1 4\n2 3\n2 4\n3 4\n' >expected
 if ! cmp -s printed expected; then
-    echo "FAILED: other edges than those of document 004" >&2
+    echo "FAILED: other edges than those of document 004 behind an isolated vertex" >&2
     exit 1
 fi
