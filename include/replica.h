@@ -255,12 +255,12 @@ struct ReplicaAnswer replica_edge_list(const uint8_t *journal, size_t journal_le
 /*
  * Writes the joint degree matrix of an edge list, which may be of any graph on vertices 0 to
  * total - 1, total being 200 at most, and the number of its isolated vertices. All of it is written
- * as records: first 0, 0 and how many vertices below the total are in no edge, unless there are none;
- * then the non-zero cells with k <= l, ascending by k and then l. Output bytes after the written part
- * are untouched. It needs no journal and no adjacency matrix.
+ * as records: first 0, 0 and how many vertices below the total are in no edge, unless there are
+ * none; then the non-zero cells with k <= l, ascending by k and then l. Output bytes after the
+ * written part are untouched. It needs no journal and no adjacency matrix.
  *
- * The edge list of a completed state, surveyed with the state's number of vertices, gives the sum of
- * the blocks that were taken.
+ * The edge list of a completed state, with the state's number of vertices as the total, gives the
+ * sum of the blocks that were taken.
  *
  *   first   bytes written, 4 for each record
  *

@@ -49,7 +49,7 @@ int main(void)
     for (uint64_t i = 0; i < list.first; i += 2)
         printf("%d %d\n", edges[i], edges[i + 1]);
 
-    /* A list of edges does not show the isolated vertices: the total of all vertices goes with it. */
+    /* A list of edges does not show isolated vertices: the total of all vertices goes with it. */
     survey = done("jdm_of_edges", replica_jdm_of_edges(edges, list.first, laid.first,
                                                        records, sizeof records));
     if (survey.first != sizeof block || memcmp(records, block, sizeof block) != 0) {

@@ -120,8 +120,8 @@ pub struct Cell {
 /// ```
 /// use replica::{Cell, Cells, Record};
 ///
-/// let records = [Record::new(2, 3, 4), Record::isolated(7), Record::new(1, 1, 2), Record::new(2, 3, 2)];
-/// let cells = Cells::of(records);
+/// let records = [Record::new(2, 3, 4), Record::isolated(7), Record::new(1, 1, 2)];
+/// let cells = Cells::of(records.into_iter().chain([Record::new(2, 3, 2)]));
 /// assert_eq!(cells.isolated(), 7);
 /// let expected = [Cell { k: 1, l: 1, count: 2 }, Cell { k: 2, l: 3, count: 6 }];
 /// assert_eq!(cells.collect::<Vec<Cell>>(), expected);

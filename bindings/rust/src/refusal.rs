@@ -125,15 +125,16 @@ impl fmt::Display for Cause {
     }
 }
 
-/// A refusal: its cause and two places, 0 where none is named. Which places a cause names:
+/// A refusal: its cause and two places, 0 where none is named, as for a total over 200. Which places
+/// a cause names:
 ///
 /// | cause | places |
 /// |---|---|
 /// | `BadRecord` | index of the first bad record, 0 |
 /// | `OddDiagonal` | the degree, twice |
 /// | `RowNotDivisible` | the degree, 0 |
-/// | `CellTooLarge`, `CellNotShort` | the two degrees, lower first; an isolated vertex has degree 0 |
-/// | `BadEdgeList` | index of the first bad edge, or the number of whole edges for an odd length, 0; no place for a total over 200 |
+/// | `CellTooLarge`, `CellNotShort` | the two degrees, lower first; 0 for an isolated vertex |
+/// | `BadEdgeList` | index of the first bad edge, or the number of whole edges for an odd length, 0 |
 /// | `DegreeTooHigh` | lowest such vertex, 0 |
 ///
 /// ```

@@ -153,8 +153,8 @@ fn even_multiple(k: usize, l: usize) -> usize {
     (1..=2 * k * l).find(fits).expect("2kl fits")
 }
 
-/// A table with a graph, and as many vertices more, by single edges or isolated, as bring their number
-/// near its bound.
+/// A table with a graph, and as many vertices more, by single edges or isolated, as bring their
+/// number near its bound.
 fn many_vertices(graph: &Graph, random: &mut Random) -> Vec<Vec<u8>> {
     let mut blocks = cut(&graph.table(), random);
     blocks.truncate(MOST_BLOCKS - 1);
