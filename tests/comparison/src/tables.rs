@@ -267,9 +267,32 @@ pub fn at_the_bounds() -> Vec<Table> {
     tables
 }
 
+/// All 820 cells on 198 vertices, so that with isolated ones a survey writes 821 records: each row
+/// has 41 in its cells, and what is left of k x D(k) goes, from the row that has most left, to the
+/// one that has least.
+pub fn every_cell() -> Matrix {
+    let mut matrix = Matrix::new();
+    let mut left = [0; 41];
+    for (k, left) in left.iter_mut().enumerate().skip(1) {
+        (k..=40).for_each(|l| matrix.add(k, l, if k == l { 2 } else { 1 }));
+        *left = k * 41usize.div_ceil(k) - 41;
+    }
+    let count = |k: usize| 41u64.div_ceil(k as u64);
+    while let Some(k) = (1..=40).filter(|&k| left[k] > 0).max_by_key(|&k| left[k]) {
+        let open = |&l: &usize| l != k && left[l] > 0 && matrix.cell(k, l) < count(k) * count(l);
+        let l = (1..=40).filter(open).min_by_key(|&l| left[l]);
+        let l = l.expect("a row to share with");
+        matrix.add(k, l, 1);
+        left[k] -= 1;
+        left[l] -= 1;
+    }
+    matrix
+}
+
 fn matrices_at_the_bounds() -> Vec<Matrix> {
     vec![
         Matrix::new(),
+        every_cell(),
         Matrix::of(&[(40, 40, 8_000)]),
         Matrix::of(&[(40, 40, 8_040)]),
         Matrix::of(&[(40, 40, 1_640)]),

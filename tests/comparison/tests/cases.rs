@@ -1,7 +1,9 @@
 //! The cases of document 01 and the figures checked by hand, on the library through its safe crate.
 
+use comparison::tables::every_cell;
+use reference::Table;
 use replica::{block, jdm_of_edges, Cause, Completion, Record, Records, State, Take};
-use replica::{MOST_RECORDS, RECORD_LENGTH};
+use replica::{BLOCK_LENGTH, MOST_RECORDS, RECORD_LENGTH};
 
 fn state_of(cells: &[(u8, u8, u16)]) -> State {
     let mut state = State::new();
@@ -159,6 +161,26 @@ fn a_survey_gives_the_table_back() {
         assert_eq!(records, sent);
         assert_eq!(records[0].is_isolated(), cells[0].0 == 0);
     }
+}
+
+/// All cells and isolated vertices: no survey writes more, and this one fills the longest output.
+#[test]
+fn the_longest_survey() {
+    let table = Table::new(every_cell(), 2);
+    let mut state = State::new();
+    for (number, block) in (0..).zip(table.records().chunks(BLOCK_LENGTH)) {
+        state.take_block(number, block).unwrap();
+    }
+    assert_eq!(state.lay_out(), Ok(200));
+    state.complete().unwrap();
+    let list = state.edges().unwrap();
+    let mut output = vec![0; MOST_RECORDS * RECORD_LENGTH];
+    let last = output.len() - 1;
+    let refusal = jdm_of_edges(list.as_bytes(), 200, &mut output[..last]);
+    assert_eq!(refusal.unwrap_err().cause, Cause::OutputTooShort);
+    let length = jdm_of_edges(list.as_bytes(), 200, &mut output);
+    assert_eq!(length, Ok(output.len()));
+    assert_eq!(output, table.records());
 }
 
 #[test]
