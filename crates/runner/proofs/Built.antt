@@ -1,6 +1,6 @@
 -- Every text is a refusal, or that of a graph with the input's table (specs/Theorems.antt `ProgramSays`).
 -- Assumes nothing.
-use mathlib.Core.Path.{_≡_, refl, sym, ap, subst, fun-ext, _∙_}
+use mathlib.Core.Path.{_≡_, refl, sym, ap, subst, _∙_}
 use mathlib.Core.Bool.{true, _&&_}
 use mathlib.Core.List.{List, _++_}
 use mathlib.Core.Logic.{_⊎_, inl, inr}
@@ -11,7 +11,8 @@ use lib.ListN.{length, replicate}
 use Rattle.finite.specs.Range.{bit, sumTo, catTo}
 use Rattle.finite.proofs.Sum.{sumTo-none, sumTo-more}
 use Rattle.finite.proofs.Fold.{catTo-cong, foldTo-keeps}
-use Rattle.graph.specs.Graph.{edges}
+use Rattle.graph.specs.Graph.{edges, DegreeTable}
+use Rattle.graph.proofs.Counts.{same-table}
 use Rattle.answer.specs.declared.Refusal.{Refusal}
 use Rattle.answer.specs.declared.Verdict.{Verdict}
 use Rattle.answer.specs.declared.Verdict.the-variants.{Go, Stop}
@@ -21,11 +22,11 @@ use Rattle.answer.specs.declared.LayOutAnswer.{LayOutAnswer}
 use Rattle.answer.specs.declared.LayOutAnswer.the-variants.{LaidOut, Refused as LayOutRefused}
 use Rattle.answer.specs.declared.CompleteAnswer.{CompleteAnswer}
 use Rattle.answer.specs.declared.CompleteAnswer.the-variants.{Completed, Refused as CompleteRefused}
-use Rattle.table.specs.Block.{blockCell}
+use Rattle.table.specs.Block.{blockCell, blockIsolated, plus}
 use Rattle.graph.specs.Tests.{vertices}
-use Rattle.journal.specs.Journal.{journalSize, phase, blocks, jdmOf, laid}
-use Rattle.journal.proofs.Store.{phase-stored, blocks-stored, jdm-stored}
-use Rattle.journal.proofs.Laid.{jdm-laid}
+use Rattle.journal.specs.Journal.{journalSize, phase, blocks, tableOf, laid}
+use Rattle.journal.proofs.Store.{phase-stored, blocks-stored, table-stored}
+use Rattle.journal.proofs.Laid.{table-laid}
 use Rattle.adjacency.specs.Adjacency.{adjacencySize, edge}
 use Rattle.state.specs.Valid.{lengthsOk, valid}
 use Rattle.state.specs.Laid.{vertexCount}
@@ -70,13 +71,21 @@ module _ (n : ℕ) (g : List ℕ) where
       (cat-sized (λ v. catTo n (edgeBytes g v)) (λ v. sumTo n (there v)) row-sized) n
       ∙ catTo-cong (λ v. edgeLines (catTo n (edgeBytes g v))) (λ v. catTo n (edgeText g v)) n (λ v l. lines-row v)
 
+-- the sum of the first i blocks
+abbrev tableTo : List ℕ → ℕ → DegreeTable
+tableTo input i =
+    record {
+      cells = λ k l. sumTo i (λ i. blockCell (blockIn input i) k l);
+      isolated = sumTo i (λ i. blockIsolated (blockIn input i));
+    }
+
 -- i blocks went into the journal j
 record Reached (g input : List ℕ) (i : ℕ) (j : List ℕ) : Type 0 where
   lengths : lengthsOk j g ≡ true
   sound : valid j g ≡ true
   taking : phase j ≡ 0
   numbered : blocks j ≡ i
-  table : jdmOf j ≡ (λ k l. sumTo i (λ i. blockCell (blockIn input i) k l))
+  table : tableOf j ≡ tableTo input i
 
 module _ (g input : List ℕ) where
   reached-next : (i : ℕ) (s : Taking) → (s .verdict ≡ Go → Reached g input i (s .journal)) → takeNext g input i s .verdict ≡ Go
@@ -95,9 +104,9 @@ module _ (g input : List ℕ) where
             taking = phase-stored (s .journal) (blockIn input i) size ok (f .room) (f .good) ∙ r .taking;
             numbered = blocks-stored (s .journal) (blockIn input i) size ok (f .room) (f .good) ∙ ap (λ (m : ℕ). m + 1) (r .numbered);
             table =
-                jdm-stored (s .journal) (blockIn input i) size ok (f .room) (f .good)
-                ∙ ap {B = ℕ → ℕ → ℕ} (λ (T : ℕ → ℕ → ℕ). λ k l. T k l + blockCell (blockIn input i) k l) (r .table)
-                ∙ fun-ext (λ k. fun-ext (λ l. sym (sumTo-more (λ i. blockCell (blockIn input i) k l) i)));
+                table-stored (s .journal) (blockIn input i) size ok (f .room) (f .good)
+                ∙ ap (λ (t : DegreeTable). plus t (blockIn input i)) (r .table)
+                ∙ same-table (λ k l. sym (sumTo-more (λ i. blockCell (blockIn input i) k l) i)) (sym (sumTo-more (λ i. blockIsolated (blockIn input i)) i));
           }
       took r Held e v = absurd (omega (arith, held-facts (s .journal) g i (blockIn input i) e .low, r .numbered))
       took r (Refused q) e v = absurd (subst IsGo (sym v) tt)
@@ -116,13 +125,15 @@ module _ (g input : List ℕ) where
         sound = c .sound;
         taking = c .taking;
         numbered = c .no-blocks;
-        table = c .no-cells ∙ fun-ext (λ k. fun-ext (λ l. sym (sumTo-none (λ i. blockCell (blockIn input i) k l))));
+        table =
+            c .no-table
+            ∙ same-table (λ k l. sym (sumTo-none (λ i. blockCell (blockIn input i) k l))) (sym (sumTo-none (λ i. blockIsolated (blockIn input i))));
       })
       (λ i s l before. reached-next i s before)
 
 -- a completed state's text
 module _ (j g : List ℕ) (n joins switches : ℕ) (count : n ≡ vertexCount j) (e : completeAnswer j g ≡ Completed joins switches) where
-  built : Built (jdmOf j) (stateText n switches j (completed j g .adjacency))
+  built : Built (tableOf j) (stateText n switches j (completed j g .adjacency))
   built =
       let w = complete-works j g (completed-facts j g joins switches e .0) in
       let h = completed j g .adjacency in
@@ -135,6 +146,7 @@ module _ (j g : List ℕ) (n joins switches : ℕ) (count : n ≡ vertexCount j)
         table = refl;
         simple = w .simple;
         has-table = w .table;
+        has-isolated = w .no-edge;
         says =
             ap (λ (n : ℕ). headLine n d switches ++ edgeLines (listBytes (vertexCount j) h)) count
             ∙ ap (λ (m : ℕ). headLine (vertexCount j) m switches ++ edgeLines (listBytes (vertexCount j) h)) q
@@ -142,23 +154,23 @@ module _ (j g : List ℕ) (n joins switches : ℕ) (count : n ≡ vertexCount j)
       }
 
 -- refused, or built
-abbrev Told : (ℕ → ℕ → ℕ) → List ℕ → Type 0
-Told T text = ((r : Refusal) × (text ≡ refusedLine r)) ⊎ Built T text
+abbrev Told : DegreeTable → List ℕ → Type 0
+Told t text = ((r : Refusal) × (text ≡ refusedLine r)) ⊎ Built t text
 
-told-completed : (j g : List ℕ) (n : ℕ) → n ≡ vertexCount j → Told (jdmOf j) (laidText (LaidOut n) j g)
+told-completed : (j g : List ℕ) (n : ℕ) → n ≡ vertexCount j → Told (tableOf j) (laidText (LaidOut n) j g)
 told-completed j g n count = go (completeAnswer j g) refl
   where
-    go : (a : CompleteAnswer) → completeAnswer j g ≡ a → Told (jdmOf j) (completedText a n j (completeAdjacency a j g))
+    go : (a : CompleteAnswer) → completeAnswer j g ≡ a → Told (tableOf j) (completedText a n j (completeAdjacency a j g))
     go (Completed joins switches) e = inr (built j g n joins switches count e)
     go (CompleteRefused r) e = inl (r, refl)
 
-told-laid : (j g : List ℕ) → Told (jdmOf j) (takenText Go j g)
+told-laid : (j g : List ℕ) → Told (tableOf j) (takenText Go j g)
 told-laid j g = go (layOutAnswer j g) refl
   where
-    go : (a : LayOutAnswer) → layOutAnswer j g ≡ a → Told (jdmOf j) (laidText a (layOutJournal a j) g)
+    go : (a : LayOutAnswer) → layOutAnswer j g ≡ a → Told (tableOf j) (laidText a (layOutJournal a j) g)
     go (LaidOut n) e =
-        subst (λ (T : ℕ → ℕ → ℕ). Told T (laidText (LaidOut n) (laid j) g)) (jdm-laid j)
-        (told-completed (laid j) g n (lay-out-vertices j g n e ∙ ap vertices (sym (jdm-laid j))))
+        subst (λ (t : DegreeTable). Told t (laidText (LaidOut n) (laid j) g)) (table-laid j)
+        (told-completed (laid j) g n (lay-out-vertices j g n e ∙ ap vertices (sym (table-laid j))))
     go (LayOutRefused r) e = inl (r, refl)
 
 told : (j g input : List ℕ) → ClearedState j g → Told (inputTable input) (textFrom j g input)
@@ -166,7 +178,7 @@ told j g input c = go (takeAll j g input .verdict) refl
   where
     go : (v : Verdict) → takeAll j g input .verdict ≡ v → Told (inputTable input) (takenText v (takeAll j g input .journal) g)
     go Go e =
-        subst (λ (T : ℕ → ℕ → ℕ). Told T (takenText Go (takeAll j g input .journal) g)) (reached-all g input j c e .table)
+        subst (λ (t : DegreeTable). Told t (takenText Go (takeAll j g input .journal) g)) (reached-all g input j c e .table)
         (told-laid (takeAll j g input .journal) g)
     go (Stop r) e = inl (r, refl)
 
