@@ -125,8 +125,8 @@ atEdge-le a b k l = omega (arith, one k a l b, one k b l a)
     one p q r s = omega (arith, mul-le-mul-left (δ p q) (δ-le r s), mul-one (δ p q), δ-le p q)
 
 -- no class has more vertices than there are
-pub isolated-most : (n : ℕ) (cls : ℕ → ℕ) → size n cls 0 ≤ n
-isolated-most n cls = omega (arith, sumTo-mono n (λ v. δ (cls v) 0) (λ v. 1) (λ v h. δ-le (cls v) 0), sumTo-const 1 n)
+pub class-most : (n : ℕ) (cls : ℕ → ℕ) (k : ℕ) → size n cls k ≤ n
+class-most n cls k = omega (arith, sumTo-mono n (λ v. δ (cls v) k) (λ v. 1) (λ v h. δ-le (cls v) k), sumTo-const 1 n)
 
 module _ (e : List ℕ) (total : ℕ) (well : firstBadEdge e total ≡ listed e) where
   pub degree-most : (v n : ℕ) → v < total → n ≤ listed e → degree total (graphTo e n) v ≤ 2 * n

@@ -21,7 +21,7 @@ use Rattle.graph.specs.Tests.{leastDegree, mostDegree, degrees, Table}
 use Rattle.table.specs.Block.{records, recordK, recordL, recordCount, goodRecord, firstBad, blockCell, blockIsolated, samePair}
 use Rattle.table.proofs.Block.{samePair-straight, samePair-crossed, samePair-none, blockCell-sym, blockCell-none-above}
 use Rattle.survey.specs.Survey.{countRecord, cellRecord, cellRecords, recordsOf}
-use Rattle.survey.proofs.Records.{Whole, added, OfTable, whole-append, added-append, first-whole, cell-whole, records-shown}
+use Rattle.survey.proofs.Records.{Whole, added, OfTable, whole-append, added-append, two-bytes, first-whole, cell-least, cell-whole, records-shown}
 
 -- weights that are 1 at (m, n) and 0 elsewhere
 module _ (i j m n x : ℕ) where
@@ -52,13 +52,9 @@ module _ (f : ℕ → ℕ → ℕ → ℕ) where
   unfolding sumTo
   count-back x y n z = go (ℕ-discrete n 0)
     where
-      -- as a number, the record's two bytes are the count
-      count : n % 256 + 256 * (n / 256) ≡ n
-      count = omega arith
-
       go : Dec (n ≡ 0) → added f (countRecord x y n) ≡ f x y n
       go (yes q) = rw (eq-eqb n 0 q, q, z)
-      go (no q) = rw (ne-eqb n 0 q, count) (zero-add (f x y n))
+      go (no q) = rw (ne-eqb n 0 q, two-bytes n) (zero-add (f x y n))
 
   -- lists of records one after the other add up
   cat-back : (g : ℕ → List ℕ) (n : ℕ) → ((i : ℕ) → i < n → Whole (g i)) → Whole (catTo n g) × (added f (catTo n g) ≡ sumTo n (λ i. added f (g i)))
@@ -83,9 +79,8 @@ module _ (t : DegreeTable) (table : Table (t .cells)) where
           × (added f (catTo degrees (cellRecord (t .cells) i)) ≡ sumTo degrees (λ j. added f (cellRecord (t .cells) i j)))
       row i = cat-back f (cellRecord (t .cells) i) degrees (cell-whole t table i)
 
-  -- a cell of degree 0 is 0
-  least : (i j : ℕ) → t .cells i j ≢ 0 → i ≢ 0
-  least i j h z = h (rw z (table .none-of-0 j))
+  not-isolated : (i j : ℕ) → t .cells i j ≢ 0 → eqb i 0 ≡ false
+  not-isolated i j h = ne-eqb i 0 (λ z. omega (arith, cell-least t table i j h))
 
   -- what the record of cell (i, j) adds to cell (k, l)
   cell-back : (k l i j : ℕ) → added (toCell k l) (cellRecord (t .cells) i j) ≡ δ i (min k l) * (δ j (max k l) * t .cells i j)
@@ -113,7 +108,7 @@ module _ (t : DegreeTable) (table : Table (t .cells)) where
 
       adds : i ≤ j → Dec (x ≡ 0) → toCell k l i j x ≡ δ i (min k l) * (δ j (max k l) * x)
       adds h (yes q) = rw (q, mul-zero (δ j (max k l)), mul-zero (δ i (min k l))) (none (not (eqb i 0 && eqb j 0) && samePair k l i j))
-      adds h (no q) = rw (ne-eqb i 0 (least i j q)) (one h (ℕ-discrete i (min k l)) (ℕ-discrete j (max k l)))
+      adds h (no q) = rw (not-isolated i j q) (one h (ℕ-discrete i (min k l)) (ℕ-discrete j (max k l)))
 
       go : Dec (j < i) → added (toCell k l) (cellRecord (t .cells) i j) ≡ δ i (min k l) * (δ j (max k l) * x)
       go (yes p) = rw (lt-leb i j p, weighed-apart i j (min k l) (max k l) x (λ r s. omega arith))
@@ -131,13 +126,13 @@ module _ (t : DegreeTable) (table : Table (t .cells)) where
 
       adds : Dec (x ≡ 0) → toIsolated i j x ≡ 0
       adds (yes q) = rw q (none (eqb i 0 && eqb j 0))
-      adds (no q) = rw (ne-eqb i 0 (least i j q))
+      adds (no q) = rw (not-isolated i j q)
 
       go : Dec (j < i) → added toIsolated (cellRecord (t .cells) i j) ≡ 0
       go (yes p) = rw (lt-leb i j p)
       go (no p) = rw (le-leb i j (omega arith)) (count-back toIsolated i j x (none (eqb i 0 && eqb j 0)) ∙ adds (ℕ-discrete x 0))
 
-  -- the first record adds no cell
+  -- what the first record adds, and the cells behind it
   first-back : (f : ℕ → ℕ → ℕ → ℕ) → f 0 0 0 ≡ 0 → added f (recordsOf t) ≡ f 0 0 (t .isolated) + added f (cellRecords (t .cells))
   first-back f z =
       added-append (countRecord 0 0 (t .isolated)) (cellRecords (t .cells)) (first-whole (t .isolated)) f

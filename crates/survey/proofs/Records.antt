@@ -1,7 +1,7 @@
 -- What the records of a table are: whole records, ascending, none with count 0.
 -- Assumes nothing.
 use mathlib.Core.Path.{_≡_, refl, ap, ap₂, _∙_}
-use mathlib.Core.List.{List, [], _∷_, _++_}
+use mathlib.Core.List.{List, [], _++_}
 use mathlib.Core.Logic.{_≢_, _⊎_, inl, inr}
 use Prim.Native.Nat.{ℕ, zero, suc, _+_, _-_, _*_, _/_, _%_, _≤_, _<_}
 use native.Mathlib.Nat.{add-zero}
@@ -100,6 +100,10 @@ module _ (a b : List ℕ) (whole : Whole a) where
       of : List ℕ → ℕ → ℕ
       of c i = f (recordK c i) (recordL c i) (recordCount c i)
 
+-- as a number, a record's two bytes are its count
+pub two-bytes : (n : ℕ) → n % 256 + 256 * (n / 256) ≡ n
+two-bytes n = omega arith
+
 -- 2. Records in their order.
 
 -- k and l as one number, by which records rise
@@ -127,12 +131,8 @@ module _ (P : ℕ → ℕ → ℕ → Type 0) where
   run-count : (k l n : ℕ) → (n ≢ 0 → P k l n) → Run (key k l) (key k l + 1) (countRecord k l n)
   run-count k l n p = go (ℕ-discrete n 0)
     where
-      -- as a number, the record's two bytes are the count
-      count : n % 256 + 256 * (n / 256) ≡ n
-      count = omega arith
-
       one : n ≢ 0 → Shown (key k l) (key k l + 1) k l (n % 256 + 256 * (n / 256))
-      one q = rw count (record { holds = p q; from = omega arith; below = omega arith })
+      one q = rw (two-bytes n) (record { holds = p q; from = omega arith; below = omega arith })
 
       go : Dec (n ≡ 0) → Run (key k l) (key k l + 1) (countRecord k l n)
       go (yes q) = rw (eq-eqb n 0 q) (run-none (key k l) (key k l + 1))
@@ -205,19 +205,23 @@ pub first-whole : (n : ℕ) → Whole (countRecord 0 0 n)
 first-whole n = run-count (λ k l n. 0 < n) 0 0 n (λ q. omega arith) .whole
 
 module _ (t : DegreeTable) (table : Table (t .cells)) where
+  -- only cells of a degree are not 0
+  pub cell-least : (k l : ℕ) → t .cells k l ≢ 0 → leastDegree ≤ k
+  cell-least k l h = go (ℕ-discrete k 0)
+    where
+      go : Dec (k ≡ 0) → leastDegree ≤ k
+      go (yes z) = absurd (h (rw z (table .none-of-0 l)))
+      go (no z) = omega arith
+
   run-cell : (k l : ℕ) → l < degrees → Run OfCell (key k l) (key k l + 1) (cellRecord (t .cells) k l)
   run-cell k l h = go (decLt l k)
     where
-      least : t .cells k l ≢ 0 → Dec (k ≡ 0) → leastDegree ≤ k
-      least q (yes z) = absurd (q (rw z (table .none-of-0 l)))
-      least q (no z) = omega arith
-
       go : Dec (l < k) → Run OfCell (key k l) (key k l + 1) (cellRecord (t .cells) k l)
       go (yes p) = rw (lt-leb k l p) (run-none OfCell (key k l) (key k l + 1))
       go (no p) =
           rw (le-leb k l (omega arith))
           (run-count OfCell k l (t .cells k l)
-          (λ q. record { least = least q (ℕ-discrete k 0); ordered = omega arith; most = omega arith; counted = omega arith }))
+          (λ q. record { least = cell-least k l q; ordered = omega arith; most = omega arith; counted = omega arith }))
 
   pub cell-whole : (k l : ℕ) → l < degrees → Whole (cellRecord (t .cells) k l)
   cell-whole k l h = run-cell k l h .whole

@@ -24,7 +24,7 @@ use Rattle.edgelist.specs.EdgeList.{listed, firstBadEdge, graphOf}
 use Rattle.survey.specs.Survey.{firstAbove, recordsOf, surveyRecords, surveyAnswer}
 use Rattle.survey.specs.Inner.Counting.{HasCells, tableOf, recordsMost}
 use Rattle.survey.specs.Theorem.{Ascending, SurveyExact}
-use Rattle.survey.proofs.Counting.{degree-low, jdm-most, few-edges, isolated-most}
+use Rattle.survey.proofs.Counting.{degree-low, jdm-most, few-edges, class-most}
 use Rattle.edgelist.proofs.List.{list-simple, edges-to}
 use Rattle.survey.proofs.Records.{records-cong, records-whole, records-shown, records-rise}
 use Rattle.survey.proofs.ReadBack.{records-bytes, records-good, records-exact, records-isolated}
@@ -108,7 +108,7 @@ module _ (e : List ℕ) (total : ℕ) (few : total ≤ mostVertices) (well : fir
       omega (arith, jdm-most e total well (degree total (graphOf e)) k l (listed e) (omega arith), few-edges e total well low few)
 
   isolated-small : isolated total (graphOf e) < 65536
-  isolated-small = omega (arith, isolated-most total (degree total (graphOf e)))
+  isolated-small = omega (arith, class-most total (degree total (graphOf e)) 0)
 
   own-ascending : Ascending (surveyRecords e total)
   own-ascending =

@@ -1,10 +1,11 @@
 -- `survey::jdm_of_edges` meets its contract: each check decides as the definition has it.
 -- Assumes nothing.
-use mathlib.Core.Path.{refl, sym, ap, _∙_}
+use mathlib.Core.Path.{_≡_, refl, sym, ap, _∙_}
 use native.Mathlib.Omega.{arith}
 use lib.ListN.{length}
 use borrow.Author.Needs.{needs}
 use Rattle.answer.specs.declared.WrittenAnswer.the-variants.{Written, Refused}
+use Rattle.survey.specs.Inner.Counting.{isolatedIn}
 use Rattle.survey.proofs.Counting.{above-same, isolated-same}
 use Rattle.survey.proofs.Survey.{survey-many, survey-odd, survey-bad, survey-above, survey-short, survey-done, records-written}
 use Rattle.survey.proofs.jdm_of_edges.Statement.{statement}
@@ -97,7 +98,8 @@ jdm-of-edges-spec =
     let m = length (a .output .now) in
     let well = sym (b .first-bad-edge .ensures) ∙ k .if3 .left in
     let above = f .first-above .ensures ∙ above-same e (d .degrees-of .result) t (d .degrees-of .ensures) in
-    let own = z .isolated-in .ensures .0 ∙ isolated-same e (d .degrees-of .result) t (d .degrees-of .ensures) in
+    let counted : z .isolated-in .result ≡ isolatedIn (d .degrees-of .result) t = z .isolated-in .ensures .0 in
+    let own = counted ∙ isolated-same e (d .degrees-of .result) t (d .degrees-of .ensures) in
     let r = records-written e t (z .isolated-in .result) (q .cells-of .result) (p .put-records .result) own (q .cells-of .ensures .0) (p .put-records .ensures .0) in
     rw (survey-short e t m (i .if1 .left) (j .if2 .left) well (sym above ∙ g .if4 .left) (rw (← (r .0)) (o .if5 .taken)))
     (ap Refused (c .refuse5 .ensures), refl))  -- returns-5
@@ -119,7 +121,8 @@ jdm-of-edges-spec =
     let m = length (a .output .now) in
     let well = sym (b .first-bad-edge .ensures) ∙ k .if3 .left in
     let above = f .first-above .ensures ∙ above-same e (d .degrees-of .result) t (d .degrees-of .ensures) in
-    let own = z .isolated-in .ensures .0 ∙ isolated-same e (d .degrees-of .result) t (d .degrees-of .ensures) in
+    let counted : z .isolated-in .result ≡ isolatedIn (d .degrees-of .result) t = z .isolated-in .ensures .0 in
+    let own = counted ∙ isolated-same e (d .degrees-of .result) t (d .degrees-of .ensures) in
     let r = records-written e t (z .isolated-in .result) (q .cells-of .result) (p .put-records .result) own (q .cells-of .ensures .0) (p .put-records .ensures .0) in
     rw (p .put-records .ensures .1) (r .0 ∙ sym (ap length (r .1))))  -- slice-aggregate-copy-in
     (λ c κs.
@@ -139,7 +142,8 @@ jdm-of-edges-spec =
     let m = length (a .output .now) in
     let well = sym (b .first-bad-edge .ensures) ∙ k .if3 .left in
     let above = f .first-above .ensures ∙ above-same e (d .degrees-of .result) t (d .degrees-of .ensures) in
-    let own = z .isolated-in .ensures .0 ∙ isolated-same e (d .degrees-of .result) t (d .degrees-of .ensures) in
+    let counted : z .isolated-in .result ≡ isolatedIn (d .degrees-of .result) t = z .isolated-in .ensures .0 in
+    let own = counted ∙ isolated-same e (d .degrees-of .result) t (d .degrees-of .ensures) in
     let r = records-written e t (z .isolated-in .result) (q .cells-of .result) (p .put-records .result) own (q .cells-of .ensures .0) (p .put-records .ensures .0) in
     rw (p .put-records .ensures .1, r .1, ← (r .0)) (omega (arith, c .before .before .if5 .left)))  -- copy-in-requires
     (λ c. search needs)  -- same-length
@@ -162,7 +166,8 @@ jdm-of-edges-spec =
     let m = length (a .output .now) in
     let well = sym (b .first-bad-edge .ensures) ∙ k .if3 .left in
     let above = f .first-above .ensures ∙ above-same e (d .degrees-of .result) t (d .degrees-of .ensures) in
-    let own = z .isolated-in .ensures .0 ∙ isolated-same e (d .degrees-of .result) t (d .degrees-of .ensures) in
+    let counted : z .isolated-in .result ≡ isolatedIn (d .degrees-of .result) t = z .isolated-in .ensures .0 in
+    let own = counted ∙ isolated-same e (d .degrees-of .result) t (d .degrees-of .ensures) in
     let r = records-written e t (z .isolated-in .result) (q .cells-of .result) (p .put-records .result) own (q .cells-of .ensures .0) (p .put-records .ensures .0) in
     rw (survey-done e t m (i .if1 .left) (j .if2 .left) well (sym above ∙ g .if4 .left) (rw (← (r .0)) (o .if5 .left)))
     (ap Written (r .0), w .copy-in .ensures ∙ rw (p .put-records .ensures .1, r .1))))  -- returns-6

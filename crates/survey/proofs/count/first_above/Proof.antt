@@ -13,7 +13,7 @@ use Rattle.survey.proofs.count.first_above.Statement.{statement}
 use Rattle.survey.proofs.count.first_above.Tie as tie
 
 abbrev Inv-loop : tie.InvT-loop
-Inv-loop counts total v₀ v = (v ≤ total) × (firstAboveIn counts total ≡ lowest v total (λ v. ltb mostDegree (degreeIn counts v)))
+Inv-loop counts total v₀ v = (firstAboveIn counts total ≡ lowest v total (λ v. ltb mostDegree (degreeIn counts v))) × (v ≤ total)
 
 abbrev μ-loop : tie.MeasureT-loop
 μ-loop counts total v₀ v = total - v
@@ -21,11 +21,11 @@ abbrev μ-loop : tie.MeasureT-loop
 pub first-above-spec : {M : Type 1} → statement M
 first-above-spec =
     tie.close (tie.spec Inv-loop μ-loop
-    (λ c. (omega arith, refl))  -- loop-holds
+    (λ c. (refl, omega arith))  -- loop-holds
     (λ c. omega arith)  -- mul-if1
     (λ c. omega arith)  -- element-copy-out-if1
-    (λ c. sym (c .before .before .before .loop .inv .1 ∙ lowest-here _ _ _ (omega arith) (lt-ltb _ _ (c .if1 .taken))))  -- returns
+    (λ c. sym (c .before .before .before .loop .inv .0 ∙ lowest-here _ _ _ (omega arith) (lt-ltb _ _ (c .if1 .taken))))  -- returns
     (λ c. omega arith)  -- add-v
     (λ c. omega arith)  -- loop-less
-    (λ c. (omega arith, c .before .before .before .loop .inv .1 ∙ lowest-next _ _ _ (omega arith) (le-ltb _ _ (c .if1 .left))))  -- loop-again
-    (λ c. sym (c .before .loop .inv .1 ∙ lowest-end _ _ _ (c .loop-test .left))))  -- returns-2
+    (λ c. (c .before .before .before .loop .inv .0 ∙ lowest-next _ _ _ (omega arith) (le-ltb _ _ (c .if1 .left)), omega arith))  -- loop-again
+    (λ c. sym (c .before .loop .inv .0 ∙ lowest-end _ _ _ (c .loop-test .left))))  -- returns-2

@@ -11,7 +11,7 @@ use Rattle.survey.proofs.write.put_record.Tie as tie
 pub put-record-spec : {M : Type 1} → statement M
 put-record-spec =
     tie.close (tie.spec
-    (λ c. rw (eq-eqb _ _ (c .if1 .taken)) ((omega arith, omega arith), refl))  -- returns
+    (λ c. rw (eq-eqb (c .before .before .args .count) 0 (c .if1 .taken)) ((omega arith, omega arith), refl))  -- returns
     (λ c. omega arith)  -- cast-put
     (λ c κs. tt)  -- put-requires
     (λ c. omega arith)  -- add-put
@@ -31,5 +31,5 @@ put-record-spec =
     let f = e .before .before .before .before in
     let g = f .before .before .before .before in
     let i = g .before .before in
-    rw (ne-eqb _ _ (i .if1 .left), d .put4 .ensures, e .put3 .ensures, f .put2 .ensures, g .put .ensures)
+    rw (ne-eqb (i .before .before .args .count) 0 (i .if1 .left), d .put4 .ensures, e .put3 .ensures, f .put2 .ensures, g .put .ensures)
     ((omega arith, omega arith), simp (add-one, add-two, add-three))))  -- returns-2
