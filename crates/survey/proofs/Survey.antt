@@ -20,9 +20,10 @@ use Rattle.graph.proofs.Matrix.{jdm-none, jdm-isolated}
 use Rattle.graph.proofs.Necessary.{necessary-always}
 use Rattle.slices.proofs.Part.{take-sets, drop-sets}
 use Rattle.layout.specs.Layout.{mostVertices}
+use Rattle.layout.specs.Inner.Arrays.{tableIn}
 use Rattle.edgelist.specs.EdgeList.{listed, firstBadEdge, graphOf}
 use Rattle.survey.specs.Survey.{firstAbove, recordsOf, surveyRecords, surveyAnswer}
-use Rattle.survey.specs.Inner.Counting.{HasCells, tableOf, recordsMost}
+use Rattle.survey.specs.Inner.Counting.{HasCells, recordsMost}
 use Rattle.survey.specs.Theorem.{Ascending, SurveyExact}
 use Rattle.survey.proofs.Counting.{degree-low, jdm-most, few-edges, class-most}
 use Rattle.edgelist.proofs.List.{list-simple, edges-to}
@@ -75,14 +76,14 @@ module _ (e : List ℕ) (total m : ℕ) where
 
 -- what the code counts has the records of the list's own table
 pub own-records : (e : List ℕ) (total z : ℕ) (c : List ℕ) → z ≡ isolated total (graphOf e) → HasCells c total (degree total (graphOf e)) (graphOf e)
-    → recordsOf (tableOf z c) ≡ surveyRecords e total
-own-records e total z c i h = records-cong (tableOf z c) (ownTable total (graphOf e)) i h
+    → recordsOf (tableIn c z) ≡ surveyRecords e total
+own-records e total z c i h = records-cong (tableIn c z) (ownTable total (graphOf e)) i h
 
 -- and those stand at the start of the bytes where the code writes them
 pub records-written : (e : List ℕ) (total z : ℕ) (c : List ℕ) (n : ℕ) → z ≡ isolated total (graphOf e)
     → HasCells c total (degree total (graphOf e)) (graphOf e)
-    → (n ≡ length (recordsOf (tableOf z c))) × (n ≤ recordsMost)
-    → (n ≡ length (surveyRecords e total)) × (take n (sets (replicate recordsMost 0) 0 (recordsOf (tableOf z c))) ≡ surveyRecords e total)
+    → (n ≡ length (recordsOf (tableIn c z))) × (n ≤ recordsMost)
+    → (n ≡ length (surveyRecords e total)) × (take n (sets (replicate recordsMost 0) 0 (recordsOf (tableIn c z))) ≡ surveyRecords e total)
 records-written e total z c n i h q =
     let own = own-records e total z c i h in
     let size = q .0 ∙ ap length own in

@@ -8,8 +8,9 @@ ghost use Rattle.graph.specs.Tests.{degrees};
 ghost use Rattle.table.specs.Block.{recordSize};
 ghost use Rattle.table.specs.Inner.Cells.{matrixOf};
 ghost use Rattle.layout.specs.Layout.{mostVertices};
+ghost use Rattle.layout.specs.Inner.Arrays.{tableIn};
 ghost use Rattle.survey.specs.Survey.{countRecord, cellRecord, cellRecords, recordsOf};
-ghost use Rattle.survey.specs.Inner.Counting.{tableOf, cellMostOwn, CellsSmall, cellRecordsMost, recordsMost};
+ghost use Rattle.survey.specs.Inner.Counting.{cellMostOwn, CellsSmall, cellRecordsMost, recordsMost};
 use slices::put;
 use table::cells::CELLS;
 use table::cells::upper_cell;
@@ -60,8 +61,8 @@ fn put_cells(cells: &[u32; CELLS], out: &mut [u8], at: usize) -> usize
 // All records, that of the isolated vertices first. How many bytes they are.
 pub fn put_records(isolated: usize, cells: &[u32; CELLS], out: &mut [u8]) -> usize
     requires { ⌜ (isolated ≤ mostVertices) × CellsSmall (now cells) ⌝ }
-    ensures { λ r. ⌜ (r ≡ length (recordsOf (tableOf isolated (now (cells .entry))))) × (r ≤ recordsMost) ⌝ }
-    ensures { λ _. ⌜ now (out .exit) ≡ sets (now (out .entry)) 0 (recordsOf (tableOf isolated (now (cells .entry)))) ⌝ }
+    ensures { λ r. ⌜ (r ≡ length (recordsOf (tableIn (now (cells .entry)) isolated))) × (r ≤ recordsMost) ⌝ }
+    ensures { λ _. ⌜ now (out .exit) ≡ sets (now (out .entry)) 0 (recordsOf (tableIn (now (cells .entry)) isolated)) ⌝ }
 {
     let first = put_record(0, 0, isolated, out, 0);
     put_cells(cells, out, first)

@@ -110,12 +110,15 @@ recordCell-sym b i k l = rw (crossed (eqb k (recordK b i)) (eqb l (recordL b i))
 pub recordCell-none : (b : List ℕ) (i k l : ℕ) → Good b i → (leastDegree ≤ k → k ≤ mostDegree → ⊥) → recordCell b i k l ≡ 0
 recordCell-none b i k l g h = go (ofIsolated b i) refl
   where
-    go : (t : Bool) → ofIsolated b i ≡ t → cond (not t && samePair k l (recordK b i) (recordL b i)) (recordCount b i) 0 ≡ 0
-    go true e = refl
+    go : (t : Bool) → ofIsolated b i ≡ t → recordCell b i k l ≡ 0
+    go true e = simp e
     go false e =
-        rw (samePair-none k l (recordK b i) (recordL b i)
-        (λ p q. h (omega (arith, g .least e)) (omega (arith, g .ordered, g .most)))
-        (λ p q. h (omega (arith, g .least e, g .ordered)) (omega (arith, g .most))))
+        simp (
+          e,
+          samePair-none k l (recordK b i) (recordL b i)
+              (λ p q. h (omega (arith, g .least e)) (omega (arith, g .ordered, g .most)))
+              (λ p q. h (omega (arith, g .least e, g .ordered)) (omega (arith, g .most))),
+        )
 
 -- What record i adds to an array of cells at the place of (k, l): to a cell what it adds to the matrix, and at (0, 0) its isolated vertices.
 abbrev pub amount : List ℕ → ℕ → ℕ → ℕ → ℕ

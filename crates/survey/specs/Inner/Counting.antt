@@ -7,7 +7,7 @@ use Prim.Native.Nat.{ℕ, _+_, _*_, _≤_, _<_}
 use lib.Dec.{eqb, ltb}
 use lib.ListN.{getD, set}
 use Rattle.finite.specs.Range.{lowest}
-use Rattle.graph.specs.Graph.{Graph, degree, size, jdm, DegreeTable}
+use Rattle.graph.specs.Graph.{Graph, degree, size, jdm}
 use Rattle.graph.specs.Tests.{mostDegree, degrees}
 use Rattle.table.specs.Block.{recordSize}
 use Rattle.table.specs.Inner.Cells.{cellsSize, matrixOf, place}
@@ -53,10 +53,6 @@ firstAboveIn d n = lowest 0 n (λ v. ltb mostDegree (degreeIn d v))
 -- how many of n vertices have degree 0 in the array
 abbrev pub isolatedIn : List ℕ → ℕ → ℕ
 isolatedIn d n = size n (degreeIn d) 0
-
--- the degree table of a number of isolated vertices and an array of cells
-abbrev pub tableOf : ℕ → List ℕ → DegreeTable
-tableOf isolated c = record { cells = matrixOf c; isolated = isolated }
 
 -- the most that a cell reaches: 200 vertices of degree 40
 abbrev pub cellMostOwn : ℕ
