@@ -33,10 +33,11 @@ use Rattle.answer.specs.declared.CompleteAnswer.{CompleteAnswer}
 use Rattle.answer.specs.declared.CompleteAnswer.the-variants as Complete
 use Rattle.answer.specs.declared.WrittenAnswer.{WrittenAnswer}
 use Rattle.answer.specs.declared.WrittenAnswer.the-variants as Write
+use Rattle.graph.specs.Graph.{DegreeTable}
 use Rattle.graph.specs.Tests.{degrees, firstOdd, firstUneven, firstOverfull, firstOverfullIn, vertices}
 use Rattle.table.specs.Block.{blockLength, records, firstBad}
 use Rattle.layout.specs.Layout.{mostVertices, layoutVerdict}
-use Rattle.journal.specs.Journal.{mostBlocks, phase, blocks, slotLength, sameBlock, jdmOf}
+use Rattle.journal.specs.Journal.{mostBlocks, phase, blocks, slotLength, sameBlock, tableOf}
 use Rattle.adjacency.specs.Adjacency.{edge}
 use Rattle.state.specs.Checks.{stateVerdict, phaseVerdict}
 use Rattle.state.specs.Valid.{lengthsOk, valid}
@@ -191,18 +192,20 @@ list-chain : (d : Bool) (n m : ℕ) → (d ≡ true → n ≤ m)
 list-chain false n m h = refl
 list-chain true n m h = (refl, h refl)
 
-survey-chain : (a b c d : Bool) (i j k n m : ℕ) → (d ≡ true → n ≤ m)
+survey-chain : (t a b c d : Bool) (i j k n m : ℕ) → (d ≡ true → n ≤ m)
     → OfWritten (19 ∷ 20 ∷ 18 ∷ []) n m
+    (unless t (Write.Refused (refusal EdgeList 0 0))
     (unless a (Write.Refused (refusal EdgeList i 0))
     (unless b (Write.Refused (refusal EdgeList j 0))
     (unless c (Write.Refused (refusal DegreeAbove k 0))
     (unless d (Write.Refused (refusal OutputLength 0 0))
-    (Write.Written n)))))
-survey-chain false b c d i j k n m h = refl
-survey-chain true false c d i j k n m h = refl
-survey-chain true true false d i j k n m h = refl
-survey-chain true true true false i j k n m h = refl
-survey-chain true true true true i j k n m h = (refl, h refl)
+    (Write.Written n))))))
+survey-chain false a b c d i j k n m h = refl
+survey-chain true false b c d i j k n m h = refl
+survey-chain true true false c d i j k n m h = refl
+survey-chain true true true false d i j k n m h = refl
+survey-chain true true true true false i j k n m h = refl
+survey-chain true true true true true i j k n m h = (refl, h refl)
 
 -- what was written stands at the start, and nothing behind it changes
 past : (out bytes : List ℕ) (n : ℕ) → n ≡ length bytes → length bytes ≤ length out → SamePast n out (sets out 0 bytes)
@@ -217,10 +220,12 @@ list-numbers j g m =
     behind (λ ns. OfWritten ns n m) (1 ∷ 2 ∷ 3 ∷ 18 ∷ []) (phaseVerdict 1 j g) Write.Refused (listLaid j g m) (λ r h. h)
     (phase-numbers 1 j g (18 ∷ [])) (list-chain (leb n m) n m (leb-true n m))
 
-survey-numbers : (e : List ℕ) (m : ℕ) → OfWritten (19 ∷ 20 ∷ 18 ∷ []) (length (surveyRecords e)) m (surveyAnswer e m)
-survey-numbers e m =
-    survey-chain (eqb (length e % 2) 0) (eqb (firstBadEdge e) (listed e)) (eqb (firstAbove e) mostVertices) (leb (length (surveyRecords e)) m)
-    (listed e) (firstBadEdge e) (firstAbove e) (length (surveyRecords e)) m (leb-true (length (surveyRecords e)) m)
+survey-numbers : (e : List ℕ) (total m : ℕ)
+    → OfWritten (19 ∷ 20 ∷ 18 ∷ []) (length (surveyRecords e total)) m (surveyAnswer e total m)
+survey-numbers e total m =
+    let n = length (surveyRecords e total) in
+    survey-chain (leb total mostVertices) (eqb (length e % 2) 0) (eqb (firstBadEdge e total) (listed e)) (eqb (firstAbove e total) total) (leb n m)
+    (listed e) (firstBadEdge e total) (firstAbove e total) n m (leb-true n m)
 
 pub demand-1 : Demand1
 demand-1 =
@@ -246,7 +251,7 @@ demand-1 =
       lay-out = λ j g r e. (
         subst (OfLayOut (1 ∷ 2 ∷ 3 ∷ 9 ∷ 10 ∷ 11 ∷ 12 ∷ [])) e
             (behind OfLayOut _ (phaseVerdict 0 j g) LayOut.Refused _ (λ r h. h) (phase-numbers 0 j g _)
-            (behind OfLayOut _ (layoutVerdict (jdmOf j)) LayOut.Refused (LayOut.LaidOut (vertices (jdmOf j))) (λ r h. h) (verdict-numbers (jdmOf j)) tt)),
+            (behind OfLayOut _ (layoutVerdict (tableOf j)) LayOut.Refused (LayOut.LaidOut (vertices (tableOf j))) (λ r h. h) (verdict-numbers (tableOf j)) tt)),
         ap (λ (a : LayOutAnswer). layOutJournal a j) e,
       );
       add = λ j g v w r e. (
@@ -274,18 +279,19 @@ demand-1 =
       list-written = λ j g out n e.
           let h = subst (OfWritten (1 ∷ 2 ∷ 3 ∷ 18 ∷ []) (length (listBytes (vertexCount j) g)) (length out)) e (list-numbers j g (length out)) in
           subst (SamePast n out) (sym (ap (λ (a : WrittenAnswer). listOutput a j g out) e)) (past out (listBytes (vertexCount j) g) n (h .0) (h .1));
-      survey = λ e out r p. (
-        subst (OfWritten (19 ∷ 20 ∷ 18 ∷ []) (length (surveyRecords e)) (length out)) p (survey-numbers e (length out)),
-        ap (λ (a : WrittenAnswer). surveyOutput a e out) p,
+      survey = λ e total out r p. (
+        subst (OfWritten (19 ∷ 20 ∷ 18 ∷ []) (length (surveyRecords e total)) (length out)) p (survey-numbers e total (length out)),
+        ap (λ (a : WrittenAnswer). surveyOutput a e total out) p,
       );
-      survey-written = λ e out n p.
-          let h = subst (OfWritten (19 ∷ 20 ∷ 18 ∷ []) (length (surveyRecords e)) (length out)) p (survey-numbers e (length out)) in
-          subst (SamePast n out) (sym (ap (λ (a : WrittenAnswer). surveyOutput a e out) p)) (past out (surveyRecords e) n (h .0) (h .1));
+      survey-written = λ e total out n p.
+          let h = subst (OfWritten (19 ∷ 20 ∷ 18 ∷ []) (length (surveyRecords e total)) (length out)) p (survey-numbers e total (length out)) in
+          subst (SamePast n out) (sym (ap (λ (a : WrittenAnswer). surveyOutput a e total out) p)) (past out (surveyRecords e total) n (h .0) (h .1));
       figures = λ j g r e.
           subst (OfFigures (1 ∷ 2 ∷ [])) e (behind OfFigures _ (stateVerdict j g) Figs.Refused _ (λ r h. h) (state-numbers j g _) tt);
     }
   where
-    verdict-numbers : (T : ℕ → ℕ → ℕ) → OfVerdict (1 ∷ 2 ∷ 3 ∷ 9 ∷ 10 ∷ 11 ∷ 12 ∷ []) (layoutVerdict T)
-    verdict-numbers T =
-        verdict-chain (eqb (firstOdd T) degrees) (eqb (firstUneven T) degrees) (eqb (firstOverfull T) degrees) (leb (vertices T) mostVertices)
+    verdict-numbers : (t : DegreeTable) → OfVerdict (1 ∷ 2 ∷ 3 ∷ 9 ∷ 10 ∷ 11 ∷ 12 ∷ []) (layoutVerdict t)
+    verdict-numbers t =
+        let T = t .cells in
+        verdict-chain (eqb (firstOdd T) degrees) (eqb (firstUneven T) degrees) (eqb (firstOverfull T) degrees) (leb (vertices t) mostVertices)
         (firstOdd T) (firstUneven T) (firstOverfull T) (firstOverfullIn T (firstOverfull T))

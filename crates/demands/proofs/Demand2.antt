@@ -1,11 +1,11 @@
 -- Demand 2 (specs/Demand2.antt): the blocks answered as taken or held add up to the tally's table, and a state that was completed, or has no
 -- short cell, holds a simple graph with it.
 -- Assumes nothing.
-use mathlib.Core.Path.{_≡_, refl, sym, ap, subst, fun-ext, _∙_}
+use mathlib.Core.Path.{_≡_, refl, sym, ap, subst, _∙_}
 use mathlib.Core.Bool.{Bool, true, false, _&&_, _||_, not, cond, true≢false}
 use mathlib.Core.List.{List, [], _∷_, _++_}
 use Prim.Native.Nat.{ℕ, _+_, _<_}
-use native.Mathlib.Nat.{zero-add, add-zero, add-assoc}
+use native.Mathlib.Nat.{add-zero, add-assoc}
 use native.Mathlib.Decide.{ℕ-discrete, decLt}
 use native.Mathlib.Omega.{arith}
 use lib.Dec.{eqb, ltb}
@@ -19,15 +19,17 @@ use Rattle.answer.specs.declared.RemoveAnswer.the-variants as Remove
 use Rattle.answer.specs.declared.CompleteAnswer.{CompleteAnswer}
 use Rattle.answer.specs.declared.CompleteAnswer.the-variants.{Completed, Refused as CompleteRefused}
 use Rattle.finite.proofs.All.{and-left, and-right, and-false}
-use Rattle.graph.specs.Graph.{Simple, ownJdm}
-use Rattle.table.specs.Block.{wellFormed, blockCell}
-use Rattle.graph.proofs.Passes.{passes-passed}
-use Rattle.graph.proofs.Realizability.{has-table}
-use Rattle.journal.specs.Journal.{phase, blocks, jdmOf}
+use Rattle.graph.specs.Graph.{jdm, DegreeTable, noTable}
+use Rattle.graph.specs.Tests.{degrees, Table}
+use Rattle.graph.proofs.Counts.{same-table}
+use Rattle.table.specs.Block.{wellFormed, blockCell, blockIsolated, plus}
+use Rattle.graph.proofs.Passes.{Passed, passes-passed}
+use Rattle.graph.proofs.Realizability.{has-table, has-isolated}
+use Rattle.journal.specs.Journal.{phase, blocks, jdmOf, tableOf}
 use Rattle.journal.proofs.Table.{jdm-table}
 use Rattle.adjacency.specs.Adjacency.{edge}
 use Rattle.state.specs.Valid.{lengthsOk, valid}
-use Rattle.state.specs.Laid.{vertexCount}
+use Rattle.state.specs.Laid.{vertexCount, degreeAt}
 use Rattle.state.proofs.Facts.{StateFacts, Laid, valid-facts}
 use Rattle.taking.specs.Take.{takeAnswer}
 use Rattle.taking.proofs.Take.{isTaken, taken-facts, held-facts, take-taken}
@@ -79,73 +81,82 @@ complete-still t (CompleteRefused r) = (refl, refl)
 seen-still : (seen : List ℕ) (t t′ : Tally) → t′ .blocks ≡ t .blocks → Seen seen (t .blocks) → Seen seen (t′ .blocks)
 seen-still seen t t′ e h i = rw e (h i)
 
-through : (t t′ : Tally) (k l x y : ℕ) → t′ .table ≡ t .table → t′ .table k l + x ≡ y → t .table k l + x ≡ y
-through t t′ k l x y e h = subst (λ (T : ℕ → ℕ → ℕ). T k l + x ≡ y) e h
+-- What a block adds to a table, read at one place of it: in a cell, or the isolated vertices.
+module _ (adds : List ℕ → ℕ) (read : DegreeTable → ℕ) (more : (u : DegreeTable) (b : List ℕ) → read (plus u b) ≡ read u + adds b) where
+  through : (t t′ : Tally) (x y : ℕ) → t′ .table ≡ t .table → read (t′ .table) + x ≡ y → read (t .table) + x ≡ y
+  through t t′ x y e h = subst (λ (u : DegreeTable). read u + x ≡ y) e h
 
--- the blocks answered from here on are what the tally adds
-answered-tally : (calls : List Call) (s : State) (t : Tally) (seen : List ℕ) → Reach s t → Seen seen (t .blocks)
-    → (k l : ℕ) → t .table k l + answered seen s calls k l ≡ tallyAll s t calls .table k l
-answered-tally [] s t seen r h k l = add-zero (t .table k l)
-answered-tally (take number b ∷ cs) s t seen r h k l =
-    go (takeAnswer (s .journal) (s .adjacency) number b) refl (counts t number b) refl
-    (λ t′ seen′ r′ h′. answered-tally cs (after s (take number b)) t′ seen′ r′ h′ k l)
-  where
-    tested : isTaken (takeAnswer (s .journal) (s .adjacency) number b) ≡ counts t number b
-    tested = take-taken (s .journal) (s .adjacency) number b (r .lengths) (r .sound) .0 ∙ same-next s t r number b
+  -- the blocks answered from here on are what the tally adds
+  answered-tally : (calls : List Call) (s : State) (t : Tally) (seen : List ℕ) → Reach s t → Seen seen (t .blocks)
+      → read (t .table) + answered adds seen s calls ≡ read (tallyAll s t calls .table)
+  answered-tally [] s t seen r h = add-zero (read (t .table))
+  answered-tally (take number b ∷ cs) s t seen r h =
+      go (takeAnswer (s .journal) (s .adjacency) number b) refl (counts t number b) refl
+      (λ t′ seen′ r′ h′. answered-tally cs (after s (take number b)) t′ seen′ r′ h′)
+    where
+      tested : isTaken (takeAnswer (s .journal) (s .adjacency) number b) ≡ counts t number b
+      tested = take-taken (s .journal) (s .adjacency) number b (r .lengths) (r .sound) .0 ∙ same-next s t r number b
 
-    reached : (c : Bool) → counts t number b ≡ c → Reach (after s (take number b)) (cond c (withBlock t b) t)
-    reached c e = subst (λ (c : Bool). Reach (after s (take number b)) (cond c (withBlock t b) t)) e (after-call s t r (take number b))
+      reached : (c : Bool) → counts t number b ≡ c → Reach (after s (take number b)) (cond c (withBlock t b) t)
+      reached c e = subst (λ (c : Bool). Reach (after s (take number b)) (cond c (withBlock t b) t)) e (after-call s t r (take number b))
 
-    go : (a : TakeAnswer) → takeAnswer (s .journal) (s .adjacency) number b ≡ a → (c : Bool) → counts t number b ≡ c
-        → ((t′ : Tally) (seen′ : List ℕ) → Reach (after s (take number b)) t′ → Seen seen′ (t′ .blocks)
-        → t′ .table k l + answered seen′ (after s (take number b)) cs k l ≡ tallyAll (after s (take number b)) t′ cs .table k l)
-        → t .table k l + cond (accepted a && not (member number seen)) (blockCell b k l + answered (number ∷ seen) (after s (take number b)) cs k l)
-        (answered seen (after s (take number b)) cs k l)
-        ≡ tallyAll (after s (take number b)) (cond c (withBlock t b) t) cs .table k l
-    go (Taken m) e true p again =
-        let f = taken-facts (s .journal) (s .adjacency) number b m e in
-        let n : number ≡ t .blocks = f .next ∙ r .numbered in
-        let fresh : member number seen ≡ false = h number ∙ le-ltb number (t .blocks) (omega arith) in
-        rw fresh
-        (sym (add-assoc (t .table k l) (blockCell b k l) (answered (number ∷ seen) (after s (take number b)) cs k l))
-        ∙ again (withBlock t b) (number ∷ seen) (reached true p) (rw n (seen-more seen (t .blocks) h)))
-    go (Taken m) e false p again = absurd (true≢false (ap isTaken (sym e) ∙ tested ∙ p))
-    go Held e true p again = absurd (true≢false (sym (ap isTaken (sym e) ∙ tested ∙ p)))
-    go Held e false p again =
-        let f = held-facts (s .journal) (s .adjacency) number b e in
-        let known : member number seen ≡ true = h number ∙ lt-ltb number (t .blocks) (omega (arith, f .low, r .numbered)) in
-        rw known (again t seen (reached false p) h)
-    go (Refused q) e true p again = absurd (true≢false (sym (ap isTaken (sym e) ∙ tested ∙ p)))
-    go (Refused q) e false p again = again t seen (reached false p) h
-answered-tally (layOut ∷ cs) s t seen r h k l =
-    let p = lays-still t (laysOut t) in
-    through t (tally t (told s layOut)) k l _ _ (p .0)
-    (answered-tally cs (after s layOut) (tally t (told s layOut)) seen (after-call s t r layOut) (seen-still seen t (tally t (told s layOut)) (p .1) h) k l)
-answered-tally (add v w ∷ cs) s t seen r h k l =
-    let p = add-still t (addAnswer (s .journal) (s .adjacency) v w) in
-    through t (tally t (told s (add v w))) k l _ _ (p .0)
-    (answered-tally cs (after s (add v w)) (tally t (told s (add v w))) seen (after-call s t r (add v w))
-    (seen-still seen t (tally t (told s (add v w))) (p .1) h) k l)
-answered-tally (remove v w ∷ cs) s t seen r h k l =
-    let p = remove-still t (removeAnswer (s .journal) (s .adjacency) v w) in
-    through t (tally t (told s (remove v w))) k l _ _ (p .0)
-    (answered-tally cs (after s (remove v w)) (tally t (told s (remove v w))) seen (after-call s t r (remove v w))
-    (seen-still seen t (tally t (told s (remove v w))) (p .1) h) k l)
-answered-tally (complete ∷ cs) s t seen r h k l =
-    let p = complete-still t (completeAnswer (s .journal) (s .adjacency)) in
-    through t (tally t (told s complete)) k l _ _ (p .0)
-    (answered-tally cs (after s complete) (tally t (told s complete)) seen (after-call s t r complete)
-    (seen-still seen t (tally t (told s complete)) (p .1) h) k l)
-answered-tally (readBack number ∷ cs) s t seen r h k l = answered-tally cs s t seen r h k l
-answered-tally (list out ∷ cs) s t seen r h k l = answered-tally cs s t seen r h k l
-answered-tally (figures ∷ cs) s t seen r h k l = answered-tally cs s t seen r h k l
-answered-tally (survey e out ∷ cs) s t seen r h k l = answered-tally cs s t seen r h k l
+      go : (a : TakeAnswer) → takeAnswer (s .journal) (s .adjacency) number b ≡ a → (c : Bool) → counts t number b ≡ c
+          → ((t′ : Tally) (seen′ : List ℕ) → Reach (after s (take number b)) t′ → Seen seen′ (t′ .blocks)
+          → read (t′ .table) + answered adds seen′ (after s (take number b)) cs ≡ read (tallyAll (after s (take number b)) t′ cs .table))
+          → read (t .table) + cond (accepted a && not (member number seen)) (adds b + answered adds (number ∷ seen) (after s (take number b)) cs)
+          (answered adds seen (after s (take number b)) cs)
+          ≡ read (tallyAll (after s (take number b)) (cond c (withBlock t b) t) cs .table)
+      go (Taken m) e true p again =
+          let f = taken-facts (s .journal) (s .adjacency) number b m e in
+          let n : number ≡ t .blocks = f .next ∙ r .numbered in
+          let fresh : member number seen ≡ false = h number ∙ le-ltb number (t .blocks) (omega arith) in
+          let rest = answered adds (number ∷ seen) (after s (take number b)) cs in
+          rw fresh
+          (sym (add-assoc (read (t .table)) (adds b) rest)
+          ∙ ap (λ (x : ℕ). x + rest) (sym (more (t .table) b))
+          ∙ again (withBlock t b) (number ∷ seen) (reached true p) (rw n (seen-more seen (t .blocks) h)))
+      go (Taken m) e false p again = absurd (true≢false (ap isTaken (sym e) ∙ tested ∙ p))
+      go Held e true p again = absurd (true≢false (sym (ap isTaken (sym e) ∙ tested ∙ p)))
+      go Held e false p again =
+          let f = held-facts (s .journal) (s .adjacency) number b e in
+          let known : member number seen ≡ true = h number ∙ lt-ltb number (t .blocks) (omega (arith, f .low, r .numbered)) in
+          rw known (again t seen (reached false p) h)
+      go (Refused q) e true p again = absurd (true≢false (sym (ap isTaken (sym e) ∙ tested ∙ p)))
+      go (Refused q) e false p again = again t seen (reached false p) h
+  answered-tally (layOut ∷ cs) s t seen r h =
+      let p = lays-still t (laysOut t) in
+      through t (tally t (told s layOut)) _ _ (p .0)
+      (answered-tally cs (after s layOut) (tally t (told s layOut)) seen (after-call s t r layOut) (seen-still seen t (tally t (told s layOut)) (p .1) h))
+  answered-tally (add v w ∷ cs) s t seen r h =
+      let p = add-still t (addAnswer (s .journal) (s .adjacency) v w) in
+      through t (tally t (told s (add v w))) _ _ (p .0)
+      (answered-tally cs (after s (add v w)) (tally t (told s (add v w))) seen (after-call s t r (add v w))
+      (seen-still seen t (tally t (told s (add v w))) (p .1) h))
+  answered-tally (remove v w ∷ cs) s t seen r h =
+      let p = remove-still t (removeAnswer (s .journal) (s .adjacency) v w) in
+      through t (tally t (told s (remove v w))) _ _ (p .0)
+      (answered-tally cs (after s (remove v w)) (tally t (told s (remove v w))) seen (after-call s t r (remove v w))
+      (seen-still seen t (tally t (told s (remove v w))) (p .1) h))
+  answered-tally (complete ∷ cs) s t seen r h =
+      let p = complete-still t (completeAnswer (s .journal) (s .adjacency)) in
+      through t (tally t (told s complete)) _ _ (p .0)
+      (answered-tally cs (after s complete) (tally t (told s complete)) seen (after-call s t r complete)
+      (seen-still seen t (tally t (told s complete)) (p .1) h))
+  answered-tally (readBack number ∷ cs) s t seen r h = answered-tally cs s t seen r h
+  answered-tally (list out ∷ cs) s t seen r h = answered-tally cs s t seen r h
+  answered-tally (figures ∷ cs) s t seen r h = answered-tally cs s t seen r h
+  answered-tally (survey e total out ∷ cs) s t seen r h = answered-tally cs s t seen r h
+
+  -- those answered since the clear are what the tally has there
+  answered-here : read noTable ≡ 0 → (calls : List Call) → answered adds [] cleared calls ≡ read (tallyAll cleared noTally calls .table)
+  answered-here none calls =
+      omega (arith, none, answered-tally calls cleared noTally [] reach-cleared (λ i. sym (le-ltb i 0 (omega arith))))
 
 -- the blocks answered since the clear add up to the journal's table
-answered-jdm : (calls : List Call) → answeredSum calls ≡ jdmOf (afterAll cleared calls .journal)
-answered-jdm calls =
-    fun-ext (λ k. fun-ext (λ l.
-    sym (zero-add (answeredSum calls k l)) ∙ answered-tally calls cleared noTally [] reach-cleared (λ i. sym (le-ltb i 0 (omega arith))) k l))
+answered-table : (calls : List Call) → answeredSum calls ≡ tableOf (afterAll cleared calls .journal)
+answered-table calls =
+    same-table (λ k l. answered-here (λ b. blockCell b k l) (λ u. u .cells k l) (λ u b. refl) refl calls)
+    (answered-here blockIsolated (λ u. u .isolated) (λ u b. refl) refl calls)
     ∙ sym (reach calls .table)
 
 -- a state that completing left, and that nothing has moved since
@@ -153,14 +164,18 @@ record Done (s : State) : Type 0 where
   lengths : lengthsOk (s .journal) (s .adjacency) ≡ true
   sound : valid (s .journal) (s .adjacency) ≡ true
   phased : phase (s .journal) ≡ 1
-  simple : Simple (vertexCount (s .journal)) (edge (s .adjacency))
-  table : (k l : ℕ) → ownJdm (vertexCount (s .journal)) (edge (s .adjacency)) k l ≡ jdmOf (s .journal) k l
+  has : HasTable (tableOf (s .journal)) s
 
 done-complete : (s : State) → CompleteFacts (s .journal) (s .adjacency) → Done (after s complete)
 done-complete s f =
     subst (λ (h : List ℕ). Done (record { journal = s .journal; adjacency = h }))
     (sym (ap (λ (a : CompleteAnswer). completeAdjacency a (s .journal) (s .adjacency)) (facts-completed (s .journal) (s .adjacency) f)))
-    (record { lengths = x .lengths; sound = x .sound; phased = f .phased; simple = x .simple; table = x .table })
+    (record {
+      lengths = x .lengths;
+      sound = x .sound;
+      phased = f .phased;
+      has = record { simple = x .simple; exact = x .table; exact-isolated = x .no-edge };
+    })
   where
     x : Rattle.completion.proofs.Entry.CompleteWorks (s .journal) (s .adjacency)
     x = complete-works (s .journal) (s .adjacency) f
@@ -210,7 +225,7 @@ done-rest (complete ∷ cs) s d q =
 done-rest (readBack number ∷ cs) s d q = done-rest cs s d q
 done-rest (list out ∷ cs) s d q = done-rest cs s d q
 done-rest (figures ∷ cs) s d q = done-rest cs s d q
-done-rest (survey e out ∷ cs) s d q = done-rest cs s d q
+done-rest (survey e total out ∷ cs) s d q = done-rest cs s d q
 
 -- completed, and nothing moved since
 completed-has : (before rest : List Call) (joins switches : ℕ)
@@ -218,7 +233,7 @@ completed-has : (before rest : List Call) (joins switches : ℕ)
     → quiet (after (afterAll cleared before) complete) rest ≡ true
     → HasTable (answeredSum (before ++ complete ∷ rest)) (afterAll (after (afterAll cleared before) complete) rest)
 completed-has before rest joins switches e q =
-    subst (λ (T : ℕ → ℕ → ℕ). HasTable T (afterAll (after (afterAll cleared before) complete) rest)) (sym same) (record { simple = d .simple; exact = d .table })
+    subst (λ (u : DegreeTable). HasTable u (afterAll (after (afterAll cleared before) complete) rest)) (sym same) (d .has)
   where
     d : Done (afterAll (after (afterAll cleared before) complete) rest)
     d =
@@ -227,18 +242,17 @@ completed-has before rest joins switches e q =
         (completed-facts (afterAll cleared before .journal) (afterAll cleared before .adjacency) joins switches e .0))
         q
 
-    same : answeredSum (before ++ complete ∷ rest) ≡ jdmOf (afterAll (after (afterAll cleared before) complete) rest .journal)
-    same = answered-jdm (before ++ complete ∷ rest) ∙ ap (λ (s : State). jdmOf (s .journal)) (after-append before (complete ∷ rest) cleared)
+    same : answeredSum (before ++ complete ∷ rest) ≡ tableOf (afterAll (after (afterAll cleared before) complete) rest .journal)
+    same = answered-table (before ++ complete ∷ rest) ∙ ap (λ (s : State). tableOf (s .journal)) (after-append before (complete ∷ rest) cleared)
 
 -- laid, and no cell short: no cell is above the table on a valid state, so that every cell is the table's
 finished-has : (s : State) (lengths : lengthsOk (s .journal) (s .adjacency) ≡ true) (sound : valid (s .journal) (s .adjacency) ≡ true)
-    → phase (s .journal) ≡ 1 → ((k l : ℕ) → Short (jdmOf (s .journal)) s k l → ⊥) → HasTable (jdmOf (s .journal)) s
+    → phase (s .journal) ≡ 1 → ((k l : ℕ) → Short (tableOf (s .journal)) s k l → ⊥) → HasTable (tableOf (s .journal)) s
 finished-has s lengths sound phased full =
     record {
       simple = laid .partial .simple;
-      exact =
-          has-table (jdmOf (s .journal)) (jdm-table (s .journal) (facts .journal-ok)) (passes-passed (jdmOf (s .journal)) .0 (laid .passed))
-          (edge (s .adjacency)) (laid .partial) (λ k l p q. omega (arith, laid .partial .within k l p q, full k l));
+      exact = has-table (tableOf (s .journal)) table passed (edge (s .adjacency)) (laid .partial) filled;
+      exact-isolated = has-isolated (tableOf (s .journal)) table passed (edge (s .adjacency)) (laid .partial) filled;
     }
   where
     facts : StateFacts (s .journal) (s .adjacency)
@@ -247,15 +261,25 @@ finished-has s lengths sound phased full =
     laid : Laid (s .journal) (s .adjacency)
     laid = facts .laid phased
 
+    table : Table (jdmOf (s .journal))
+    table = jdm-table (s .journal) (facts .journal-ok)
+
+    passed : Passed (jdmOf (s .journal))
+    passed = passes-passed (jdmOf (s .journal)) .0 (laid .passed)
+
+    filled : (k l : ℕ) → k < degrees → l < degrees
+        → jdm (vertexCount (s .journal)) (degreeAt (s .journal)) (edge (s .adjacency)) k l ≡ jdmOf (s .journal) k l
+    filled k l p q = omega (arith, laid .partial .within k l p q, full k l)
+
 pub demand-2 : Demand2
 demand-2 =
     record {
       completed = completed-has;
       finished = λ calls phased full.
           let r = reach calls in
-          let same = answered-jdm calls in
-          subst (λ (T : ℕ → ℕ → ℕ). HasTable T (afterAll cleared calls)) (sym same)
+          let same = answered-table calls in
+          subst (λ (u : DegreeTable). HasTable u (afterAll cleared calls)) (sym same)
           (finished-has (afterAll cleared calls) (r .lengths) (r .sound) phased
-          (subst (λ (T : ℕ → ℕ → ℕ). (k l : ℕ) → Short T (afterAll cleared calls) k l → ⊥) same full));
+          (subst (λ (u : DegreeTable). (k l : ℕ) → Short u (afterAll cleared calls) k l → ⊥) same full));
       once = accepted-once;
     }

@@ -6,7 +6,7 @@ use mathlib.Core.List.{List}
 use mathlib.Core.Logic.{_↔_}
 use Prim.Native.Nat.{ℕ, _+_, _<_}
 use native.Mathlib.Omega.{arith}
-use Rattle.graph.specs.Graph.{Simple, edges}
+use Rattle.graph.specs.Graph.{Simple, DegreeTable}
 use Rattle.graph.specs.Target.{Open}
 use Rattle.graph.specs.Tests.{degrees}
 use Rattle.graph.specs.Theorems.{Realized}
@@ -16,7 +16,7 @@ use Rattle.answer.specs.declared.AddAnswer.{AddAnswer}
 use Rattle.answer.specs.declared.AddAnswer.the-variants.{Added}
 use Rattle.answer.specs.declared.CompleteAnswer.{CompleteAnswer}
 use Rattle.answer.specs.declared.CompleteAnswer.the-variants.{Completed}
-use Rattle.journal.specs.Journal.{phase, jdmOf}
+use Rattle.journal.specs.Journal.{phase, jdmOf, tableOf}
 use Rattle.journal.proofs.Table.{jdm-table}
 use Rattle.adjacency.specs.Adjacency.{edge}
 use Rattle.state.specs.Valid.{valid}
@@ -52,7 +52,7 @@ module _ (s : State) (lengths : Rattle.state.specs.Valid.lengthsOk (s .journal)
   simple : Simple (vertexCount (s .journal)) (edge (s .adjacency))
   simple = laid .partial .simple
 
-  open-pair : (v w : ℕ) → D.OpenPair (jdmOf (s .journal)) s v w → Open (vertexCount (s .journal)) (degreeAt (s .journal)) (jdmOf (s .journal)) (edge (s .adjacency)) v w
+  open-pair : (v w : ℕ) → D.OpenPair (tableOf (s .journal)) s v w → Open (vertexCount (s .journal)) (degreeAt (s .journal)) (jdmOf (s .journal)) (edge (s .adjacency)) v w
   open-pair v w o =
       record {
         first = o .first;
@@ -63,7 +63,7 @@ module _ (s : State) (lengths : Rattle.state.specs.Valid.lengthsOk (s .journal)
       }
 
   -- the pair named the other way round
-  turn : (v w : ℕ) → D.OpenPair (jdmOf (s .journal)) s v w → D.OpenPair (jdmOf (s .journal)) s w v
+  turn : (v w : ℕ) → D.OpenPair (tableOf (s .journal)) s v w → D.OpenPair (tableOf (s .journal)) s w v
   turn v w o =
       record {
         first = o .second;
@@ -80,7 +80,7 @@ module _ (s : State) (lengths : Rattle.state.specs.Valid.lengthsOk (s .journal)
             );
       }
 
-  joins : (v w : ℕ) → D.OpenPair (jdmOf (s .journal)) s v w → D.CanBeJoined (jdmOf (s .journal)) s v w
+  joins : (v w : ℕ) → D.OpenPair (tableOf (s .journal)) s v w → D.CanBeJoined (tableOf (s .journal)) s v w
   joins v w o = go (facts-added (s .journal) (s .adjacency) v w f) (add-works (s .journal) (s .adjacency) v w f)
     where
       f : AddFacts (s .journal) (s .adjacency) v w
@@ -96,7 +96,7 @@ module _ (s : State) (lengths : Rattle.state.specs.Valid.lengthsOk (s .journal)
 
       go : addAnswer (s .journal) (s .adjacency) v w ≡ Added (joinCount (vertexCount (s .journal)) (degreeAt (s .journal)) (s .adjacency) v w)
           → AddWorks (s .journal) (s .adjacency) v w (joinBytes (vertexCount (s .journal)) (degreeAt (s .journal)) (s .adjacency) v w)
-          → D.CanBeJoined (jdmOf (s .journal)) s v w
+          → D.CanBeJoined (tableOf (s .journal)) s v w
       go e x =
           record {
             switches = joinCount (vertexCount (s .journal)) (degreeAt (s .journal)) (s .adjacency) v w;
@@ -107,7 +107,7 @@ module _ (s : State) (lengths : Rattle.state.specs.Valid.lengthsOk (s .journal)
           }
 
   -- a short cell has an open pair; no cell past the degrees is short
-  some-pair : (k l : ℕ) → Short (jdmOf (s .journal)) s k l → (v w : ℕ) × D.OpenPair (jdmOf (s .journal)) s v w
+  some-pair : (k l : ℕ) → Short (tableOf (s .journal)) s k l → (v w : ℕ) × D.OpenPair (tableOf (s .journal)) s v w
   some-pair k l h =
       let o = short-has-open-pair (vertexCount (s .journal)) degrees (degreeAt (s .journal)) (λ k. k) (jdmOf (s .journal)) (edge (s .adjacency)) (laid .target)
       (laid .partial) k l (below k l h) (below l k (mirrored k l h)) h in (
@@ -122,14 +122,14 @@ module _ (s : State) (lengths : Rattle.state.specs.Valid.lengthsOk (s .journal)
         },
       )
     where
-      below : (k l : ℕ) → Short (jdmOf (s .journal)) s k l → k < degrees
+      below : (k l : ℕ) → Short (tableOf (s .journal)) s k l → k < degrees
       below k l h = go (native.Mathlib.Decide.decLt k degrees)
         where
           go : Dec (k < degrees) → k < degrees
           go (yes p) = p
           go (no p) = absurd (omega (arith, h, jdm-table (s .journal) (facts .journal-ok) .none-above k l (omega arith)))
 
-      mirrored : (k l : ℕ) → Short (jdmOf (s .journal)) s k l → Short (jdmOf (s .journal)) s l k
+      mirrored : (k l : ℕ) → Short (tableOf (s .journal)) s k l → Short (tableOf (s .journal)) s l k
       mirrored k l h =
           omega (
             arith,
@@ -138,7 +138,7 @@ module _ (s : State) (lengths : Rattle.state.specs.Valid.lengthsOk (s .journal)
             jdm-table (s .journal) (facts .journal-ok) .symmetric k l,
           )
 
-  completes : (t : Tally) → jdmOf (s .journal) ≡ t .table → edgeTotal (s .journal) (s .adjacency) ≡ t .edges → D.Completes t s
+  completes : (t : Tally) → tableOf (s .journal) ≡ t .table → edgeTotal (s .journal) (s .adjacency) ≡ t .edges → D.Completes t s
   completes t same counted = go (facts-completed (s .journal) (s .adjacency) f) (complete-works (s .journal) (s .adjacency) f)
     where
       f : CompleteFacts (s .journal) (s .adjacency)
@@ -147,7 +147,7 @@ module _ (s : State) (lengths : Rattle.state.specs.Valid.lengthsOk (s .journal)
       own : CompleteWorks (s .journal) (s .adjacency)
           → (e : completeAdjacency (completeAnswer (s .journal) (s .adjacency)) (s .journal) (s .adjacency) ≡ completed (s .journal) (s .adjacency) .adjacency)
           → completeAnswer (s .journal) (s .adjacency) ≡ Completed (completed (s .journal) (s .adjacency) .joins) (completed (s .journal) (s .adjacency) .switches)
-          → D.Completes (record { blocks = t .blocks; table = jdmOf (s .journal); laid = t .laid; edges = t .edges }) s
+          → D.Completes (record { blocks = t .blocks; table = tableOf (s .journal); laid = t .laid; edges = t .edges }) s
       own x e a =
           record {
             joins = completed (s .journal) (s .adjacency) .joins;
@@ -157,14 +157,14 @@ module _ (s : State) (lengths : Rattle.state.specs.Valid.lengthsOk (s .journal)
             more =
                 subst (λ (h : List ℕ). edgeTotal (s .journal) h ≡ edgeTotal (s .journal) (s .adjacency) + completed (s .journal) (s .adjacency) .joins) (sym e) (x .more);
             has-table =
-                subst (λ (h : List ℕ). HasTable (jdmOf (s .journal)) (record { journal = s .journal; adjacency = h })) (sym e)
-                (record { simple = x .simple; exact = x .table });
+                subst (λ (h : List ℕ). HasTable (tableOf (s .journal)) (record { journal = s .journal; adjacency = h })) (sym e)
+                (record { simple = x .simple; exact = x .table; exact-isolated = x .no-edge });
           }
 
       go : completeAnswer (s .journal) (s .adjacency) ≡ Completed (completed (s .journal) (s .adjacency) .joins) (completed (s .journal) (s .adjacency) .switches)
           → CompleteWorks (s .journal) (s .adjacency) → D.Completes t s
       go a x =
-          subst (λ (T : ℕ → ℕ → ℕ). D.Completes (record { blocks = t .blocks; table = T; laid = t .laid; edges = t .edges }) s) same
+          subst (λ (u : DegreeTable). D.Completes (record { blocks = t .blocks; table = u; laid = t .laid; edges = t .edges }) s) same
           (own x (ap (λ (a : CompleteAnswer). completeAdjacency a (s .journal) (s .adjacency)) a) a)
 
 pub demand-3 : D.Demand3
@@ -183,7 +183,7 @@ demand-3 calls = (not-laid, laid-out)
     not-laid e =
         record {
           honest =
-              subst (λ (T : ℕ → ℕ → ℕ). D.RefusedForWantOfAGraph (afterAll cleared calls) ↔ (Realized T → ⊥)) (r .table)
+              subst (λ (u : DegreeTable). D.RefusedForWantOfAGraph (afterAll cleared calls) ↔ (Realized (u .cells) → ⊥)) (r .table)
               (lay-out-honest (afterAll cleared calls .journal) (afterAll cleared calls .adjacency) (r .lengths) (r .sound) (phase-0 _ _ r e));
         }
 
@@ -191,17 +191,17 @@ demand-3 calls = (not-laid, laid-out)
     laid-out e =
         record {
           joinable = λ v w o.
-              let p = subst (λ (T : ℕ → ℕ → ℕ). D.OpenPair T (afterAll cleared calls) v w) (sym (r .table)) o in (
-                subst (λ (T : ℕ → ℕ → ℕ). D.CanBeJoined T (afterAll cleared calls) v w) (r .table)
+              let p = subst (λ (u : DegreeTable). D.OpenPair u (afterAll cleared calls) v w) (sym (r .table)) o in (
+                subst (λ (u : DegreeTable). D.CanBeJoined u (afterAll cleared calls) v w) (r .table)
                     (joins (afterAll cleared calls) (r .lengths) (r .sound) (phase-1 _ _ r e) v w p),
-                subst (λ (T : ℕ → ℕ → ℕ). D.CanBeJoined T (afterAll cleared calls) w v) (r .table)
+                subst (λ (u : DegreeTable). D.CanBeJoined u (afterAll cleared calls) w v) (r .table)
                     (joins (afterAll cleared calls) (r .lengths) (r .sound) (phase-1 _ _ r e) w v
                     (turn (afterAll cleared calls) (r .lengths) (r .sound) (phase-1 _ _ r e) v w p)),
               );
           pair = λ k l h.
               let q = some-pair (afterAll cleared calls) (r .lengths) (r .sound) (phase-1 _ _ r e) k l
-              (subst (λ (T : ℕ → ℕ → ℕ). Short T (afterAll cleared calls) k l) (sym (r .table)) h) in
-              (q .0, q .1, subst (λ (T : ℕ → ℕ → ℕ). D.OpenPair T (afterAll cleared calls) (q .0) (q .1)) (r .table) (q .2));
+              (subst (λ (u : DegreeTable). Short u (afterAll cleared calls) k l) (sym (r .table)) h) in
+              (q .0, q .1, subst (λ (u : DegreeTable). D.OpenPair u (afterAll cleared calls) (q .0) (q .1)) (r .table) (q .2));
           completes =
               completes (afterAll cleared calls) (r .lengths) (r .sound) (phase-1 _ _ r e) (tallyAll cleared noTally calls) (r .table)
               (laid-counted _ _ r e);

@@ -80,7 +80,7 @@ module _ (s : State) (t : Tally) (r : Reach s t) where
   has-call (readBack n) number b h = h
   has-call (list out) number b h = h
   has-call figures number b h = h
-  has-call (survey e out) number b h = h
+  has-call (survey e total out) number b h = h
 
   -- a block that is there was there before the call, or was accepted by it
   came-call : (c : Call) (cs : List Call) (number : ℕ) → number < blocks (after s c .journal)
@@ -112,7 +112,7 @@ module _ (s : State) (t : Tally) (r : Reach s t) where
   came-call (readBack n) cs number l = inl l
   came-call (list out) cs number l = inl l
   came-call figures cs number l = inl l
-  came-call (survey e out) cs number l = inl l
+  came-call (survey e total out) cs number l = inl l
 
 -- over a whole list
 has-all : (calls : List Call) (s : State) (t : Tally) → Reach s t → (number : ℕ) (b : List ℕ) → Has s number b → Has (afterAll s calls) number b

@@ -17,12 +17,13 @@ use Rattle.answer.specs.declared.RemoveAnswer.{RemoveAnswer}
 use Rattle.answer.specs.declared.RemoveAnswer.the-variants as Remove
 use Rattle.answer.specs.declared.CompleteAnswer.{CompleteAnswer}
 use Rattle.answer.specs.declared.CompleteAnswer.the-variants as Complete
+use Rattle.graph.specs.Graph.{DegreeTable}
 use Rattle.graph.specs.Tests.{passes, vertices}
-use Rattle.table.specs.Block.{wellFormed, blockCell}
+use Rattle.table.specs.Block.{wellFormed, plus}
 use Rattle.layout.specs.Layout.{mostVertices}
-use Rattle.journal.specs.Journal.{mostBlocks, phase, blocks, jdmOf, stored, laid}
-use Rattle.journal.proofs.Store.{phase-stored, blocks-stored, jdm-stored}
-use Rattle.journal.proofs.Laid.{blocks-laid, jdm-laid, phase-laid}
+use Rattle.journal.specs.Journal.{mostBlocks, phase, blocks, tableOf, stored, laid}
+use Rattle.journal.proofs.Store.{phase-stored, blocks-stored, table-stored}
+use Rattle.journal.proofs.Laid.{blocks-laid, table-laid, phase-laid}
 use Rattle.adjacency.proofs.Empty.{no-edges}
 use Rattle.state.specs.Valid.{lengthsOk, valid}
 use Rattle.state.proofs.Facts.{edgeTotal, valid-facts, lengths-journal, valid-journal}
@@ -53,7 +54,7 @@ Counted true laid tallied = laid ≡ tallied
 pub record Reach (s : State) (t : Tally) : Type 0 where
   pub lengths : lengthsOk (s .journal) (s .adjacency) ≡ true
   pub sound : valid (s .journal) (s .adjacency) ≡ true
-  pub table : jdmOf (s .journal) ≡ t .table
+  pub table : tableOf (s .journal) ≡ t .table
   pub numbered : blocks (s .journal) ≡ t .blocks
   pub phased : phase (s .journal) ≡ phaseOf (t .laid)
   pub counted : Counted (t .laid) (edgeTotal (s .journal) (s .adjacency)) (t .edges)
@@ -61,7 +62,7 @@ pub record Reach (s : State) (t : Tally) : Type 0 where
 pub reach-cleared : Reach cleared noTally
 reach-cleared =
     let c = cleared-state in
-    record { lengths = c .lengths; sound = c .sound; table = c .no-cells; numbered = c .no-blocks; phased = c .taking; counted = refl }
+    record { lengths = c .lengths; sound = c .sound; table = c .no-table; numbered = c .no-blocks; phased = c .taking; counted = refl }
 
 -- what a join, a lift or a finish that was not refused needs: a laid state
 laid-tally : (s : State) (t : Tally) → Reach s t → phase (s .journal) ≡ 1 → t .laid ≡ true
@@ -121,8 +122,8 @@ module _ (s : State) (t : Tally) (r : Reach s t) where
                 lengths = rw e at (take-lengths (s .journal) (s .adjacency) number b (r .lengths));
                 sound = rw e at (take-valid (s .journal) (s .adjacency) number b (r .sound));
                 table =
-                    jdm-stored (s .journal) b size ok (f .room) (f .good)
-                    ∙ ap {B = ℕ → ℕ → ℕ} (λ (T : ℕ → ℕ → ℕ). λ k l. T k l + blockCell b k l) (r .table);
+                    table-stored (s .journal) b size ok (f .room) (f .good)
+                    ∙ ap (λ (u : DegreeTable). plus u b) (r .table);
                 numbered = blocks-stored (s .journal) b size ok (f .room) (f .good) ∙ ap (λ (m : ℕ). m + 1) (r .numbered);
                 phased = phase-stored (s .journal) b size ok (f .room) (f .good) ∙ r .phased;
                 counted = not-laid (t .laid) refl;
@@ -139,10 +140,12 @@ module _ (s : State) (t : Tally) (r : Reach s t) where
 
   -- the tally's test of a layout is the journal's
   same-lays : laysOutNow (s .journal) ≡ laysOut t
-  same-lays = rw (r .phased, r .table) (go (t .laid))
+  same-lays =
+      ap (λ (u : DegreeTable). eqb (phase (s .journal)) 0 && passes (u .cells) && leb (vertices u) mostVertices) (r .table)
+      ∙ rw (r .phased) (go (t .laid))
     where
-      go : (l : Bool) → (eqb (phaseOf l) 0 && passes (t .table) && leb (vertices (t .table)) mostVertices)
-          ≡ (not l && passes (t .table) && leb (vertices (t .table)) mostVertices)
+      go : (l : Bool) → (eqb (phaseOf l) 0 && passes (t .table .cells) && leb (vertices (t .table)) mostVertices)
+          ≡ (not l && passes (t .table .cells) && leb (vertices (t .table)) mostVertices)
       go true = refl
       go false = refl
 
@@ -162,10 +165,10 @@ module _ (s : State) (t : Tally) (r : Reach s t) where
               record {
                 lengths = lay-out-lengths (s .journal) (s .adjacency) (LaidOut n) (r .lengths);
                 sound = rw e at (lay-out-valid (s .journal) (s .adjacency) (r .lengths) (r .sound));
-                table = jdm-laid (s .journal) ∙ r .table;
+                table = table-laid (s .journal) ∙ r .table;
                 numbered = blocks-laid (s .journal) ∙ r .numbered;
                 phased = phase-laid (s .journal) (facts .journal-length);
-                counted = no-edges (s .adjacency) (facts .empty (f .taking)) (vertices (jdmOf (laid (s .journal)))) ∙ sym (none (t .laid) refl);
+                counted = no-edges (s .adjacency) (facts .empty (f .taking)) (vertices (tableOf (laid (s .journal)))) ∙ sym (none (t .laid) refl);
               }
             where
               none : (l : Bool) → t .laid ≡ l → t .edges ≡ 0
@@ -223,7 +226,7 @@ module _ (s : State) (t : Tally) (r : Reach s t) where
   after-call (readBack number) = r
   after-call (list out) = r
   after-call figures = r
-  after-call (survey e out) = r
+  after-call (survey e total out) = r
 
 -- over a whole list
 pub reach-from : (calls : List Call) (s : State) (t : Tally) → Reach s t → Reach (afterAll s calls) (tallyAll s t calls)

@@ -9,13 +9,19 @@ use native.Mathlib.Omega.{arith}
 use lib.Dec.{eqb, ltb}
 use borrow.Author.Tests.{ne-eqb, eqb-true}
 use Rattle.finite.proofs.All.{and-left, and-right, and-false}
+use Rattle.graph.specs.Graph.{isolated}
+use Rattle.graph.specs.Tests.{vertices}
 use Rattle.graph.specs.Theorems.{Realized}
-use Rattle.table.specs.Block.{wellFormed}
+use Rattle.answer.specs.declared.CompleteAnswer.the-variants.{Completed}
+use Rattle.table.specs.Block.{wellFormed, blockIsolated}
+use Rattle.adjacency.specs.Adjacency.{edge}
 use Rattle.journal.specs.Journal.{mostBlocks}
 use Rattle.taking.specs.Take.{takeAnswer}
-use Rattle.demands.specs.Calls.{Call, take, cleared, afterAll}
+use Rattle.completion.specs.Complete.{completeAnswer}
+use Rattle.demands.specs.Calls.{Call, take, complete, cleared, after, afterAll}
 use Rattle.demands.specs.Accepted.{accepted, AcceptedIn}
 use Rattle.demands.specs.Tally.{Tally, noTally, toldTake, counts, withBlock, tally, tallyAll}
+use Rattle.demands.specs.Demand2.{answered, answeredSum}
 use Rattle.demands.specs.Demand3.{RefusedForWantOfAGraph, OpenPair, CanBeJoined}
 use Rattle.demands.proofs.Demand2.{demand-2}
 use Rattle.demands.proofs.Demand3.{demand-3}
@@ -23,11 +29,11 @@ use Rattle.demands.proofs.Demand3.{demand-3}
 module _ (calls : List Call) where
   -- where laying out is refused with 9, 10 or 11, no simple graph has the table ..
   pub refused-none : tallyAll cleared noTally calls .laid ≡ false → RefusedForWantOfAGraph (afterAll cleared calls)
-      → Realized (tallyAll cleared noTally calls .table) → ⊥
+      → Realized (tallyAll cleared noTally calls .table .cells) → ⊥
   refused-none e = demand-3 calls .0 e .honest .0
 
   -- .. and where none has it, laying out is refused so
-  pub none-refused : tallyAll cleared noTally calls .laid ≡ false → (Realized (tallyAll cleared noTally calls .table) → ⊥)
+  pub none-refused : tallyAll cleared noTally calls .laid ≡ false → (Realized (tallyAll cleared noTally calls .table .cells) → ⊥)
       → RefusedForWantOfAGraph (afterAll cleared calls)
   none-refused e = demand-3 calls .0 e .honest .1
 
@@ -35,6 +41,12 @@ module _ (calls : List Call) where
   pub every-pair : tallyAll cleared noTally calls .laid ≡ true → (v w : ℕ) → OpenPair (tallyAll cleared noTally calls .table) (afterAll cleared calls) v w
       → CanBeJoined (tallyAll cleared noTally calls .table) (afterAll cleared calls) w v
   every-pair e v w o = demand-3 calls .1 e .joinable v w o .1
+
+  -- once completed, exactly as many vertices have no edge as the blocks taken or held add up to
+  pub isolated-exact : (joins switches : ℕ) → completeAnswer (afterAll cleared calls .journal) (afterAll cleared calls .adjacency) ≡ Completed joins switches
+      → isolated (vertices (answeredSum (calls ++ complete ∷ []))) (edge (after (afterAll cleared calls) complete .adjacency))
+      ≡ answered blockIsolated [] cleared (calls ++ complete ∷ [])
+  isolated-exact joins switches e = demand-2 .completed calls [] joins switches e refl .exact-isolated
 
   -- once a block was taken or held, no other bytes are, under its number
   pub other-bytes-refused : (number : ℕ) (b b′ : List ℕ) → AcceptedIn calls number b
