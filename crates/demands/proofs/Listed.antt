@@ -1,15 +1,14 @@
 -- Listing a laid state and surveying the list with its N gives the table of its graph (specs/Listed.antt).
 -- Assumes nothing.
 use mathlib.Core.Path.{_≡_, refl, ap, _∙_}
-use mathlib.Core.Bool.{true, _&&_, not}
+use mathlib.Core.Bool.{not}
 use mathlib.Core.List.{List}
 use Prim.Native.Nat.{ℕ, _%_, _≤_, _<_}
 use native.Mathlib.Omega.{arith}
 use lib.Dec.{ltb}
 use lib.ListN.{length}
-use borrow.Author.Tests.{eq-eqb, lt-ltb, le-ltb, le-leb}
+use borrow.Author.Tests.{eq-eqb, le-ltb, le-leb}
 use Rattle.finite.specs.Range.{δ}
-use Rattle.finite.proofs.All.{and-right, and-both}
 use Rattle.finite.proofs.Lowest.{lowest-none}
 use Rattle.finite.proofs.Sum.{sumTo-cong}
 use Rattle.graph.specs.Graph.{Graph, degree, ownTable, SameOn}
@@ -23,8 +22,8 @@ use Rattle.state.specs.Laid.{vertexCount}
 use Rattle.state.proofs.Facts.{Laid, valid-facts}
 use Rattle.listing.specs.List.{listBytes}
 use Rattle.listing.proofs.List.{list-length}
-use Rattle.listing.proofs.Listed.{list-rising, list-good, list-graph}
-use Rattle.edgelist.specs.EdgeList.{listed, endV, endW, rises, goodEdge, firstBadEdge, graphOf}
+use Rattle.listing.proofs.Listed.{list-good, list-graph}
+use Rattle.edgelist.specs.EdgeList.{listed, goodEdge, firstBadEdge, graphOf}
 use Rattle.survey.specs.Survey.{firstAbove, recordsOf, surveyRecords}
 use Rattle.demands.specs.Listed.{ListSurveyed}
 
@@ -38,9 +37,7 @@ table-same n E E′ same =
 module _ (j g : List ℕ) (laid : Laid j g) where
   -- the list has the edges of the matrix
   same : SameOn (vertexCount j) (edge g) (graphOf (listBytes (vertexCount j) g))
-  same v w p q =
-      list-graph (vertexCount j) g (laid .vertices-le) (laid .partial .simple) (laid .outside) v w (omega (arith, laid .vertices-le))
-      (omega (arith, laid .vertices-le))
+  same = list-graph (vertexCount j) g (laid .partial .simple)
 
   records : surveyRecords (listBytes (vertexCount j) g) (vertexCount j) ≡ recordsOf (ownTable (vertexCount j) (edge g))
   records = ap recordsOf (table-same (vertexCount j) (edge g) (graphOf (listBytes (vertexCount j) g)) same)
@@ -48,19 +45,10 @@ module _ (j g : List ℕ) (laid : Laid j g) where
   even : length (listBytes (vertexCount j) g) % 2 ≡ 0
   even = omega (arith, list-length (vertexCount j) g (laid .partial .simple))
 
-  good-edge : (i : ℕ) → i < listed (listBytes (vertexCount j) g) → goodEdge (listBytes (vertexCount j) g) (vertexCount j) i ≡ true
-  good-edge i l =
-      let e = listBytes (vertexCount j) g in
-      let r = list-rising (vertexCount j) g (laid .vertices-le) in
-      and-both (ltb (endV e i) (endW e i) && ltb (endW e i) (vertexCount j)) (rises e i)
-      (and-both (ltb (endV e i) (endW e i)) (ltb (endW e i) (vertexCount j)) (lt-ltb (endV e i) (endW e i) (r .ordered i l))
-      (lt-ltb (endW e i) (vertexCount j) (r .vertex i l)))
-      (and-right (ltb (endV e i) (endW e i) && ltb (endW e i) mostVertices) (rises e i) (list-good (vertexCount j) g (laid .vertices-le) i l))
-
   good : firstBadEdge (listBytes (vertexCount j) g) (vertexCount j) ≡ listed (listBytes (vertexCount j) g)
   good =
       lowest-none 0 (listed (listBytes (vertexCount j) g)) (λ i. not (goodEdge (listBytes (vertexCount j) g) (vertexCount j) i)) (omega arith)
-      (λ i z l. ap not (good-edge i l))
+      (λ i z l. ap not (list-good (vertexCount j) g (laid .vertices-le) i l))
 
   -- no vertex of the list has a degree above 40
   low : (v : ℕ) → v < vertexCount j → degree (vertexCount j) (graphOf (listBytes (vertexCount j) g)) v ≤ mostDegree

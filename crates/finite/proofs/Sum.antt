@@ -3,7 +3,7 @@
 use mathlib.Core.Path.{_≡_, refl, sym, ap, _∙_}
 use mathlib.Core.Logic.{⊎-elim}
 use Prim.Native.Nat.{ℕ, zero, suc, _+_, _*_, _-_, _≤_, _<_}
-use native.Mathlib.Nat.{not-suc-le-zero, eq-or-lt-of-le, le-of-suc-le-suc, zero-add, add-zero, add-suc, add-assoc, zero-mul, one-mul, mul-zero, mul-add, mul-comm, mul-left-comm, suc-mul}
+use native.Mathlib.Nat.{not-suc-le-zero, eq-or-lt-of-le, le-of-suc-le-suc, add-zero, add-suc, add-assoc, zero-mul, one-mul, mul-zero, mul-add, mul-comm, mul-left-comm, suc-mul}
 use native.Mathlib.Numerals.{add-one}
 use native.Mathlib.Decide.{ℕ-discrete, decLt}
 use native.Mathlib.Omega.{arith}
@@ -186,12 +186,6 @@ sumTo-part n s d f h before behind =
       sumTo-zero s f before,
       sumTo-zero (n - (s + d)) (λ i. f (s + d + i)) (λ i l. behind (s + d + i) (omega arith) (omega arith)),
     )
-
--- terms that are 0 from n on do not count
-pub sumTo-cut : (n m : ℕ) (f : ℕ → ℕ) → n ≤ m → ((i : ℕ) → n ≤ i → i < m → f i ≡ 0) → sumTo m f ≡ sumTo n f
-sumTo-cut n m f h tail =
-    sumTo-part m 0 n f (omega arith) (λ i l. absurd (omega arith)) (λ i l. tail i (omega arith))
-    ∙ sumTo-cong n (λ i. f (0 + i)) f (λ i l. ap f (zero-add i))
 
 -- how many numbers below n are below p
 pub sumTo-below : (n p : ℕ) → p ≤ n → sumTo n (λ v. bit (ltb v p)) ≡ p

@@ -1,7 +1,7 @@
 -- Laws of equation (1), the joint degree matrix, as a function of the graph and of the classes.
 -- Assumes nothing.
-use mathlib.Core.Path.{_≡_, refl, sym, ap, _∙_}
-use mathlib.Core.Logic.{_≢_, _⊎_, inl, inr}
+use mathlib.Core.Path.{_≡_, refl, sym, _∙_}
+use mathlib.Core.Logic.{_≢_}
 use Prim.Native.Nat.{ℕ, zero, suc, _+_, _-_, _*_, _≤_, _<_}
 use native.Mathlib.Nat.{mul-zero, mul-one, mul-comm, mul-add, mul-left-comm, mul-le-mul-left, mul-suc, zero-mul}
 use native.Mathlib.Decide.{ℕ-discrete}
@@ -9,8 +9,8 @@ use native.Mathlib.Omega.{arith}
 use borrow.Author.Tests.{eq-eqb, ne-eqb}
 use Rattle.finite.specs.Range.{δ, sumTo}
 use Rattle.finite.proofs.Delta.{δ-other, δ-less, δ-square}
-use Rattle.finite.proofs.Sum.{sumTo-cong, sumTo-cong₂, sumTo-add, sumTo-scale, sumTo-scale-right, sumTo-swap, sumTo-at, sumTo-zero, sumTo-mono, sumTo-less, sumTo-term, sumTo-cut}
-use Rattle.graph.specs.Graph.{Graph, degree, size, jdm, ownJdm}
+use Rattle.finite.proofs.Sum.{sumTo-cong, sumTo-cong₂, sumTo-add, sumTo-scale, sumTo-scale-right, sumTo-swap, sumTo-at, sumTo-zero, sumTo-mono, sumTo-less, sumTo-term}
+use Rattle.graph.specs.Graph.{Graph, degree, size, jdm}
 use Rattle.graph.proofs.Functions.{empty}
 use Rattle.graph.specs.Target.{cellMost}
 
@@ -132,21 +132,6 @@ jdm-classes n cls cls′ E h k l =
     ∙ sumTo-cong₂ n n (λ v w. δ (cls v) k * (δ (cls w) l * E v w)) (λ v w. δ (cls′ v) k * (δ (cls′ w) l * E v w))
     (λ v w p q. rw (h v p, h w q))
     ∙ sym (jdm-pairs n cls′ E k l)
-
--- vertices without edges do not count, at a graph's own degrees
-pub ownJdm-wider : (n m : ℕ) (E : Graph) → n ≤ m → ((v w : ℕ) → v < m → w < m → (n ≤ v) ⊎ (n ≤ w) → E v w ≡ 0)
-    → (k l : ℕ) → ownJdm m E k l ≡ ownJdm n E k l
-unfolding jdm
-ownJdm-wider n m E h none k l =
-    sumTo-cut n m (row m) h
-    (λ v p q. rw (sumTo-zero m (λ w. δ (degree m E w) l * E v w) (λ w r. rw (none v w q r (inl p)) (mul-zero (δ (degree m E w) l))))
-    (mul-zero (δ (degree m E v) k)))
-    ∙ sumTo-cong n (row m) (row n) (λ v p. ap (λ (s : ℕ). δ (degree m E v) k * s)
-    (sumTo-cut n m (λ w. δ (degree m E w) l * E v w) h (λ w q r. rw (none v w (omega arith) r (inr q)) (mul-zero (δ (degree m E w) l)))))
-    ∙ jdm-classes n (degree m E) (degree n E) E (λ v p. sumTo-cut n m (E v) h (λ w q r. none v w (omega arith) r (inr q))) k l
-  where
-    row : ℕ → ℕ → ℕ
-    row b v = δ (degree m E v) k * sumTo b (λ w. δ (degree m E w) l * E v w)
 
 -- The most of a cell. On the diagonal without subtraction: the pairs of a vertex with itself are added.
 pub cellMost-other : (D : ℕ → ℕ) (k l : ℕ) → k ≢ l → cellMost D k l ≡ D k * D l

@@ -1,11 +1,9 @@
 -- The edge list of a matrix: it is well formed, its edges rise, and they are the edges of the matrix.
 -- Assumes nothing.
-use mathlib.Core.Path.{_≡_, sym, ap, _∙_}
+use mathlib.Core.Path.{_≡_, ap, _∙_}
 use mathlib.Core.Bool.{true, _&&_, _||_}
 use mathlib.Core.List.{List}
-use mathlib.Core.Logic.{_⊎_, inl, inr}
 use Prim.Native.Nat.{ℕ, _+_, _-_, _*_, _/_, _≤_, _<_}
-use native.Mathlib.Nat.{zero-mul, mul-zero}
 use native.Mathlib.Decide.{ℕ-discrete, decLt}
 use native.Mathlib.Omega.{arith}
 use lib.Dec.{eqb, ltb}
@@ -13,14 +11,11 @@ use lib.ListN.{length}
 use borrow.Author.Tests.{ltb-true, lt-ltb, le-ltb, eq-eqb, ne-eqb}
 use Rattle.finite.specs.Range.{bit, sumTo, catTo}
 use Rattle.finite.proofs.All.{and-left, and-both}
-use Rattle.finite.proofs.Delta.{δ-other}
-use Rattle.finite.proofs.Sum.{sumTo-cong, sumTo-zero}
-use Rattle.graph.specs.Graph.{Graph, Simple, degree, ownJdm, atEdge, SameOn}
-use Rattle.graph.proofs.Edge.{atEdge-sum, jdm-same, degree-same}
-use Rattle.graph.proofs.Matrix.{jdm-classes, ownJdm-wider}
+use Rattle.finite.proofs.Sum.{sumTo-cong}
+use Rattle.graph.specs.Graph.{Graph, Simple, atEdge, SameOn}
+use Rattle.graph.proofs.Edge.{atEdge-sum}
 use Rattle.layout.specs.Layout.{mostVertices}
 use Rattle.adjacency.specs.Adjacency.{edge}
-use Rattle.adjacency.proofs.Facts.{ZeroOutside}
 use Rattle.listing.specs.List.{edgeBytes, listBytes}
 use Rattle.listing.proofs.Pairs.{lower, upper, over, place, Rising, cat-sized, over-cat, rising-cat, one-sized, one-over, one-rising}
 
@@ -87,15 +82,15 @@ module _ (n : ℕ) (g : List ℕ) where
               above = r .above;
             }
 
-    -- each is well formed, as document 01 has it: lower end first, its vertices below 200, and above the edge before it
+    -- each is well formed, as document 01 has it: lower end first, its vertices below n, and above the edge before it
     pub list-good : (i : ℕ) → i < length (listBytes n g) / 2
         → (let e = listBytes n g in
-        ltb (lower e i) (upper e i) && ltb (upper e i) mostVertices
+        ltb (lower e i) (upper e i) && ltb (upper e i) n
         && (eqb i 0 || ltb (lower e (i - 1)) (lower e i) || (eqb (lower e (i - 1)) (lower e i) && ltb (upper e (i - 1)) (upper e i)))) ≡ true
     list-good i l =
         and-both _ _
         (and-both _ _ (lt-ltb (lower e i) (upper e i) (list-rising .ordered i l))
-        (lt-ltb (upper e i) mostVertices (omega (arith, list-rising .vertex i l))))
+        (lt-ltb (upper e i) n (list-rising .vertex i l)))
         (go (ℕ-discrete i 0) (decLt (lower e (i - 1)) (lower e i)))
       where
         e : List ℕ
@@ -139,33 +134,6 @@ module _ (n : ℕ) (g : List ℕ) where
           let q : w ≡ v = omega arith in
           omega (arith, down v w (omega arith), down w v (omega arith), ap (edge g v) q, s .loopless v vn)
 
-  list-inside : Simple n (edge g) → (v w : ℕ) → v < n → w < n → listGraph n g v w ≡ edge g v w
-  list-inside s v w vn wn = over-list (λ x y. atEdge x y v w) ∙ atEdge-sum n there v w vn wn ∙ there-once s v w vn wn
-
-  list-outside : (v w : ℕ) → (n ≤ v) ⊎ (n ≤ w) → listGraph n g v w ≡ 0
-  list-outside v w o =
-      over-list (λ x y. atEdge x y v w)
-      ∙ sumTo-zero n (λ x. sumTo n (λ y. there x y * atEdge x y v w))
-      (λ x l. sumTo-zero n (λ y. there x y * atEdge x y v w) (λ y m. rw (away x y l m o) (mul-zero (there x y))))
-    where
-      away : (x y : ℕ) → x < n → y < n → (n ≤ v) ⊎ (n ≤ w) → atEdge x y v w ≡ 0
-      away x y l m (inl p) = rw (δ-other v x (omega arith), δ-other v y (omega arith)) (simp zero-mul)
-      away x y l m (inr p) = rw (δ-other w y (omega arith), δ-other w x (omega arith)) (simp mul-zero)
-
-  -- The list has the edges of the matrix and no others.
-  module _ (few : n ≤ mostVertices) (s : Simple n (edge g)) (zero : ZeroOutside n g) where
-    pub list-graph : SameOn mostVertices (edge g) (listGraph n g)
-    list-graph v w vm wm = go (decLt v n) (decLt w n)
-      where
-        go : Dec (v < n) → Dec (w < n) → listGraph n g v w ≡ edge g v w
-        go (yes p) (yes q) = list-inside s v w p q
-        go (yes p) (no q) = list-outside v w (inr (omega arith)) ∙ sym (zero v w vm wm (inr (omega arith)))
-        go (no p) d = list-outside v w (inl (omega arith)) ∙ sym (zero v w vm wm (inl (omega arith)))
-
-    -- equation (1) at its own degrees is that of the matrix
-    pub list-jdm : (k l : ℕ) → ownJdm mostVertices (listGraph n g) k l ≡ ownJdm n (edge g) k l
-    list-jdm k l =
-        jdm-classes mostVertices (degree mostVertices (listGraph n g)) (degree mostVertices (edge g)) (listGraph n g)
-        (degree-same mostVertices (edge g) (listGraph n g) list-graph) k l
-        ∙ jdm-same mostVertices (edge g) (listGraph n g) list-graph (degree mostVertices (edge g)) k l
-        ∙ ownJdm-wider n mostVertices (edge g) few (λ v w vm wm o. zero v w vm wm o) k l
+  -- the list has the edges of the matrix and no others
+  pub list-graph : Simple n (edge g) → SameOn n (edge g) (listGraph n g)
+  list-graph s v w vn wn = over-list (λ x y. atEdge x y v w) ∙ atEdge-sum n there v w vn wn ∙ there-once s v w vn wn
