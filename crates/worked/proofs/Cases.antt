@@ -1,4 +1,4 @@
--- The starred cases and those of the order of checks hold. A reached state is valid, so that the checks 1 and 2 of every call pass; what is left of the definitions is computed.
+-- The cases hold. A reached state is valid, so that the checks 1 and 2 of every call pass; what is left of the definitions is computed.
 -- Assumes nothing.
 use mathlib.Core.Path.{_≡_, refl, ap, _∙_}
 use mathlib.Core.Bool.{Bool, true, false, _&&_, cond}
@@ -29,7 +29,7 @@ use Rattle.finite.specs.Range.{δ, sumTo, allTo, lowFrom, lowest, catTo, iterat
 use Rattle.graph.specs.Graph.{jdm, edges}
 use Rattle.graph.specs.Tests.{vertices}
 use Rattle.layout.specs.Layout.{layoutVerdict}
-use Rattle.journal.specs.Journal.{phase, blocks, slotLength, jdmOf}
+use Rattle.journal.specs.Journal.{phase, blocks, slotLength, tableOf}
 use Rattle.state.specs.Checks.{stateVerdict}
 use Rattle.state.specs.Laid.{vertexCount}
 use Rattle.state.proofs.Checks.{state-go}
@@ -45,7 +45,7 @@ use Rattle.survey.specs.Survey.{surveyAnswer}
 use Rattle.completion.specs.Complete.{completed, completeAdjacency}
 use Rattle.demands.specs.Calls.{Call, take, layOut, add, remove, complete, readBack, list, figures, survey, State, cleared, after}
 use Rattle.demands.specs.Tally.{Tally, noTally, told, tally}
-use Rattle.worked.specs.Cases.{answerOf, Step, Case, sameNumbers, sameList, edgesOf, holdsFrom, allHold, starred, StarredHold, ordered, OrderedHold}
+use Rattle.worked.specs.Cases.{answerOf, Step, Case, sameNumbers, sameList, edgesOf, holdsFrom, allHold, starred, StarredHold, ordered, OrderedHold, withIsolated, WithIsolatedHold, SurveyedBytes}
 use Rattle.demands.proofs.Reach.{Reach, reach-cleared, after-call}
 
 -- The answers past the checks 1 and 2.
@@ -53,7 +53,7 @@ abbrev phaseRest : ℕ → List ℕ → Verdict
 phaseRest p j = unless (eqb (phase j) p) (stop Phase) Go
 
 abbrev layOutRest : List ℕ → LayOutAnswer
-layOutRest j = unlessStopped (phaseRest 0 j) LayOut.Refused (laidOut (layoutVerdict (jdmOf j)) (vertices (jdmOf j)))
+layOutRest j = unlessStopped (phaseRest 0 j) LayOut.Refused (laidOut (layoutVerdict (tableOf j)) (vertices (tableOf j)))
 
 abbrev addRest : List ℕ → List ℕ → ℕ → ℕ → AddAnswer
 addRest j g v w = unlessStopped (phaseRest 1 j) Add.Refused (addLaid j g v w)
@@ -79,7 +79,7 @@ answerRest s complete = completeNumbers (completeRest (s .journal) (s .adjacency
 answerRest s (readBack number) = lengthNumbers (lengthRest (s .journal) number)
 answerRest s (list out) = writtenNumbers (listRest (s .journal) (s .adjacency) (length out))
 answerRest s figures = figuresNumbers (Figs.Reported (figuresOf (eqb (phase (s .journal)) 0) (s .journal) (s .adjacency)))
-answerRest s (survey e out) = writtenNumbers (surveyAnswer e (length out))
+answerRest s (survey e total out) = writtenNumbers (surveyAnswer e total (length out))
 
 abbrev afterRest : State → Call → State
 afterRest s (take number b) = record { journal = takeJournal (takeOnValid (s .journal) number b) (s .journal) b; adjacency = s .adjacency }
@@ -93,7 +93,7 @@ afterRest s complete =
 afterRest s (readBack number) = s
 afterRest s (list out) = s
 afterRest s figures = s
-afterRest s (survey e out) = s
+afterRest s (survey e total out) = s
 
 -- on a reached state both checks pass
 module _ (s : State) (t : Tally) (r : Reach s t) where
@@ -109,7 +109,7 @@ module _ (s : State) (t : Tally) (r : Reach s t) where
   answer-rest (readBack number) = rw checked
   answer-rest (list out) = rw checked
   answer-rest figures = rw checked
-  answer-rest (survey e out) = refl
+  answer-rest (survey e total out) = refl
 
   after-rest : (c : Call) → after s c ≡ afterRest s c
   after-rest (take number b) = rw checked
@@ -120,7 +120,7 @@ module _ (s : State) (t : Tally) (r : Reach s t) where
   after-rest (readBack number) = refl
   after-rest (list out) = refl
   after-rest figures = refl
-  after-rest (survey e out) = refl
+  after-rest (survey e total out) = refl
 
 -- in phase 0 there are no edges, so that none need be looked for
 abbrev edgesRest : State → List ℕ
@@ -165,8 +165,19 @@ ordered-computed : allRest ordered ≡ true
 unfolding δ sumTo allTo lowFrom lowest catTo iterate jdm edges
 ordered-computed = refl
 
+with-isolated-computed : allRest withIsolated ≡ true
+unfolding δ sumTo allTo lowFrom lowest catTo iterate jdm edges
+with-isolated-computed = refl
+
 pub starred-hold : StarredHold
 starred-hold = all-rest starred ∙ starred-computed
 
 pub ordered-hold : OrderedHold
 ordered-hold = all-rest ordered ∙ ordered-computed
+
+pub with-isolated-hold : WithIsolatedHold
+with-isolated-hold = all-rest withIsolated ∙ with-isolated-computed
+
+pub surveyed-bytes : SurveyedBytes
+unfolding δ sumTo allTo lowFrom lowest catTo iterate jdm edges
+surveyed-bytes = refl

@@ -1,6 +1,6 @@
 -- Worked examples as lists of cases, and one test that runs the entries' definitions on a case: the answers of all its calls from a cleared
 -- state, in document 01's numbers, and the edges in the end. `starred` are the starred cases of document 01 ("Tables to try"), `ordered` those
--- that show the order of checks.
+-- that show the order of checks, `withIsolated` those of document 02's idle boards.
 -- Assumes nothing.
 use mathlib.Core.Path.{_≡_}
 use mathlib.Core.Bool.{Bool, true, false, _&&_}
@@ -17,7 +17,7 @@ use Rattle.figures.specs.Figures.{figuresAnswer}
 use Rattle.adding.specs.Add.{addAnswer}
 use Rattle.removing.specs.Remove.{removeAnswer}
 use Rattle.listing.specs.List.{listBytes, listAnswer}
-use Rattle.survey.specs.Survey.{surveyAnswer}
+use Rattle.survey.specs.Survey.{surveyRecords, surveyAnswer}
 use Rattle.completion.specs.Complete.{completeAnswer}
 use Rattle.demands.specs.Calls.{Call, take, layOut, add, remove, complete, readBack, list, figures, survey, State, cleared, after}
 
@@ -31,7 +31,7 @@ answerOf s complete = completeNumbers (completeAnswer (s .journal) (s .adjacency
 answerOf s (readBack number) = lengthNumbers (lengthAnswer (s .journal) (s .adjacency) number)
 answerOf s (list out) = writtenNumbers (listAnswer (s .journal) (s .adjacency) (length out))
 answerOf s figures = figuresNumbers (figuresAnswer (s .journal) (s .adjacency))
-answerOf s (survey e out) = writtenNumbers (surveyAnswer e (length out))
+answerOf s (survey e total out) = writtenNumbers (surveyAnswer e total (length out))
 
 -- a call and the answer that it is to get
 pub record Step : Type 0 where
@@ -74,7 +74,7 @@ allHold [] = true
 allHold (c ∷ cs) = holds c && allHold cs
 
 -- answers by name: a block taken, with the number of the next; a block held; N laid out; switches of a join; joins and switches of a finish;
--- bytes written; a refusal
+-- bytes written; the figures; a refusal
 abbrev pub taken : ℕ → Numbers
 taken next = done 0 next
 
@@ -92,6 +92,9 @@ finished joins switches = done joins switches
 
 abbrev pub written : ℕ → Numbers
 written n = done n 0
+
+abbrev pub report : ℕ → ℕ → ℕ → ℕ → ℕ → Numbers
+report phase blocks n wanted laid = record { number = 0; first = phase; second = blocks; third = n; fourth = wanted; fifth = laid }
 
 abbrev pub no : ℕ → ℕ → ℕ → Numbers
 no n a b = record { number = n; first = a; second = b; third = 0; fourth = 0; fifth = 0 }
@@ -140,8 +143,8 @@ abbrev pub StarredHold : Type 0
 StarredHold = allHold starred ≡ true
 
 -- The order of checks (document 01: "Checks run in table order, among those that concern the call"): calls in which refusals compete, and the
--- one that is to come out. Left to the tests: survey's 18, which counts over all 200 vertices first; a new block on a laid state with 64 blocks,
--- whose table is too dear to compute here, is 3 by taking/proofs/Take.antt `take-new-laid`.
+-- one that is to come out. Left to the tests: survey's 18 on 200 vertices, and 200 isolated vertices laid out. A new block on a laid state with
+-- 64 blocks, whose table is too dear to compute here, is 3 by taking/proofs/Take.antt `take-new-laid`.
 
 -- (1,1)=2 and (1,1)=4, as blocks
 abbrev pub pair : List ℕ
@@ -153,7 +156,7 @@ pairs = rec 1 1 4 []
 -- blocks that 4 or 5 refuse, under one number: no bytes; 5 and 68 bytes, whose records are bad as well; a bad second record
 abbrev pub malformed : ℕ → List Step → List Step
 malformed number rest =
-    take number [] gives no 4 0 0 ∷ take number (replicate 5 0) gives no 4 0 0 ∷ take number (replicate 68 0) gives no 4 0 0
+    take number [] gives no 4 0 0 ∷ take number (replicate 5 41) gives no 4 0 0 ∷ take number (replicate 68 41) gives no 4 0 0
     ∷ take number (rec 1 1 2 (rec 2 1 2 [])) gives no 5 1 0 ∷ rest
 
 -- n blocks taken
@@ -224,14 +227,14 @@ ordered =
       steps = take 0 (rec 1 3 1 (rec 2 2 2 (rec 2 3 2 []))) gives taken 1 ∷ layOut gives laidOut 4 ∷ add 2 0 gives no 16 1 2 ∷ [];
       edges = [];
     }
-    -- survey, with an empty output: 19 for an odd length, at the number of whole edges, before 19 for an edge, at the first such one: v = w,
-    -- w = 200, the edge before it again, one below it by w or by v; 19 before 20; 20 before 18
+    -- survey of up to 200 vertices, with an empty output: 19 for an odd length, at the number of whole edges, before 19 for an edge, at the first
+    -- such one: v = w, w = 200, the edge before it again, one below it by w or by v; 19 before 20; 20 before 18
     ∷ record {
       steps =
-          survey (5 ∷ 5 ∷ 9 ∷ []) [] gives no 19 1 0 ∷ survey (0 ∷ 1 ∷ 3 ∷ 3 ∷ 2 ∷ 2 ∷ []) [] gives no 19 1 0
-          ∷ survey (0 ∷ 200 ∷ []) [] gives no 19 0 0 ∷ survey (0 ∷ 1 ∷ 0 ∷ 1 ∷ []) [] gives no 19 1 0
-          ∷ survey (0 ∷ 2 ∷ 0 ∷ 1 ∷ []) [] gives no 19 1 0 ∷ survey (1 ∷ 2 ∷ 0 ∷ 3 ∷ []) [] gives no 19 1 0
-          ∷ survey (0 ∷ 1 ∷ star 1 40 (9 ∷ 9 ∷ [])) [] gives no 19 41 0 ∷ survey (0 ∷ 1 ∷ star 1 40 []) [] gives no 20 1 0 ∷ [];
+          survey (5 ∷ 5 ∷ 9 ∷ []) 200 [] gives no 19 1 0 ∷ survey (0 ∷ 1 ∷ 3 ∷ 3 ∷ 2 ∷ 2 ∷ []) 200 [] gives no 19 1 0
+          ∷ survey (0 ∷ 200 ∷ []) 200 [] gives no 19 0 0 ∷ survey (0 ∷ 1 ∷ 0 ∷ 1 ∷ []) 200 [] gives no 19 1 0
+          ∷ survey (0 ∷ 2 ∷ 0 ∷ 1 ∷ []) 200 [] gives no 19 1 0 ∷ survey (1 ∷ 2 ∷ 0 ∷ 3 ∷ []) 200 [] gives no 19 1 0
+          ∷ survey (0 ∷ 1 ∷ star 1 40 (9 ∷ 9 ∷ [])) 200 [] gives no 19 41 0 ∷ survey (0 ∷ 1 ∷ star 1 40 []) 200 [] gives no 20 1 0 ∷ [];
       edges = [];
     }
     ∷ []
@@ -239,3 +242,58 @@ ordered =
 -- one theorem over the list: proofs/Cases.antt `ordered-hold`
 abbrev pub OrderedHold : Type 0
 OrderedHold = allHold ordered ≡ true
+
+-- isolated vertices (document 02, P1)
+abbrev pub withIsolated : List Case
+withIsolated =
+    -- their record is 0, 0 and any count; 0 beside another degree is 5
+    record {
+      steps =
+          take 0 (rec 0 3 1 []) gives no 5 0 0 ∷ take 0 (rec 3 0 1 []) gives no 5 0 0 ∷ take 0 (rec 0 0 1 (rec 0 1 1 [])) gives no 5 1 0
+          ∷ take 0 (rec 0 0 0 []) gives taken 1 ∷ layOut gives laidOut 0 ∷ [];
+      edges = [];
+    }
+    -- a table of them alone
+    ∷ record {
+      steps = take 0 (rec 0 0 3 []) gives taken 1 ∷ layOut gives laidOut 3 ∷ complete gives finished 0 0 ∷ figures gives report 1 1 3 0 0 ∷ [];
+      edges = [];
+    }
+    -- they are numbered first and never linked: 13 and 14 before 16, which names degree 0; 17; figures
+    ∷ record {
+      steps =
+          take 0 (rec 1 1 2 (rec 0 0 2 [])) gives taken 1 ∷ layOut gives laidOut 4
+          ∷ add 0 4 gives no 13 0 0 ∷ add 0 0 gives no 14 0 0 ∷ add 1 0 gives no 16 0 0 ∷ add 3 1 gives no 16 0 1 ∷ remove 2 1 gives no 17 0 0
+          ∷ complete gives finished 1 0 ∷ figures gives report 1 1 4 1 1 ∷ [];
+      edges = 2 ∷ 3 ∷ [];
+    }
+    -- 12 counts them, of all blocks; 9 to 11 come first and do not see them
+    ∷ record { steps = take 0 (rec 0 0 201 []) gives taken 1 ∷ layOut gives no 12 0 0 ∷ []; edges = [] }
+    ∷ record {
+      steps =
+          take 0 (rec 0 0 200 []) gives taken 1 ∷ take 1 (rec 0 0 1 []) gives taken 2 ∷ take 0 (rec 0 0 201 []) gives no 7 0 0
+          ∷ layOut gives no 12 0 0 ∷ [];
+      edges = [];
+    }
+    ∷ record { steps = take 0 (rec 0 0 199 (rec 1 1 2 [])) gives taken 1 ∷ layOut gives no 12 0 0 ∷ []; edges = [] }
+    ∷ record { steps = take 0 (rec 0 0 201 (rec 2 2 5 [])) gives taken 1 ∷ layOut gives no 9 2 2 ∷ []; edges = [] }
+    ∷ record { steps = take 0 (rec 0 0 201 (rec 1 3 1 [])) gives taken 1 ∷ layOut gives no 10 3 0 ∷ []; edges = [] }
+    ∷ record { steps = take 0 (rec 0 0 201 (rec 2 2 4 [])) gives taken 1 ∷ layOut gives no 11 2 2 ∷ []; edges = [] }
+    -- survey: 19 for a total above 200 before an odd length and an edge; an edge whose w is the total, at its index; of no vertices nothing is
+    -- written; of three, two of them linked, two records, and 18 for a byte too few
+    ∷ record {
+      steps =
+          survey [] 201 [] gives no 19 0 0 ∷ survey (5 ∷ 6 ∷ 9 ∷ []) 201 [] gives no 19 0 0 ∷ survey (0 ∷ 1 ∷ 3 ∷ 3 ∷ []) 201 [] gives no 19 0 0
+          ∷ survey (0 ∷ 1 ∷ 0 ∷ 3 ∷ []) 3 [] gives no 19 1 0
+          ∷ survey [] 0 [] gives written 0 ∷ survey (0 ∷ 1 ∷ []) 3 (replicate 7 0) gives no 18 0 0
+          ∷ survey (0 ∷ 1 ∷ []) 3 (replicate 8 0) gives written 8 ∷ [];
+      edges = [];
+    }
+    ∷ []
+
+-- one theorem over the list: proofs/Cases.antt `with-isolated-hold`
+abbrev pub WithIsolatedHold : Type 0
+WithIsolatedHold = allHold withIsolated ≡ true
+
+-- the bytes of the last survey: the record of isolated vertices comes first (proofs/Cases.antt `surveyed-bytes`)
+abbrev pub SurveyedBytes : Type 0
+SurveyedBytes = surveyRecords (0 ∷ 1 ∷ []) 3 ≡ rec 0 0 1 (rec 1 1 2 [])
