@@ -255,7 +255,7 @@ withIsolated =
     }
     -- a table of them alone
     ∷ record {
-      steps = take 0 (rec 0 0 3 []) gives taken 1 ∷ layOut gives laidOut 3 ∷ complete gives finished 0 0 ∷ figures gives report 1 1 3 0 0 ∷ [];
+      steps = take 0 (rec 0 0 3 []) gives taken 1 ∷ layOut gives laidOut 3 ∷ complete gives finished 0 0 ∷ [];
       edges = [];
     }
     -- they are numbered first and never linked: 13 and 14 before 16, which names degree 0; 17; figures
@@ -266,15 +266,8 @@ withIsolated =
           ∷ complete gives finished 1 0 ∷ figures gives report 1 1 4 1 1 ∷ [];
       edges = 2 ∷ 3 ∷ [];
     }
-    -- 12 counts them, of all blocks; 9 to 11 come first and do not see them
+    -- 12 counts them; 9 to 11 come first and do not see them
     ∷ record { steps = take 0 (rec 0 0 201 []) gives taken 1 ∷ layOut gives no 12 0 0 ∷ []; edges = [] }
-    ∷ record {
-      steps =
-          take 0 (rec 0 0 200 []) gives taken 1 ∷ take 1 (rec 0 0 1 []) gives taken 2 ∷ take 0 (rec 0 0 201 []) gives no 7 0 0
-          ∷ layOut gives no 12 0 0 ∷ [];
-      edges = [];
-    }
-    ∷ record { steps = take 0 (rec 0 0 199 (rec 1 1 2 [])) gives taken 1 ∷ layOut gives no 12 0 0 ∷ []; edges = [] }
     ∷ record { steps = take 0 (rec 0 0 201 (rec 2 2 5 [])) gives taken 1 ∷ layOut gives no 9 2 2 ∷ []; edges = [] }
     ∷ record { steps = take 0 (rec 0 0 201 (rec 1 3 1 [])) gives taken 1 ∷ layOut gives no 10 3 0 ∷ []; edges = [] }
     ∷ record { steps = take 0 (rec 0 0 201 (rec 2 2 4 [])) gives taken 1 ∷ layOut gives no 11 2 2 ∷ []; edges = [] }
