@@ -1,7 +1,7 @@
 -- Read back, the records of a table give the table; they are good, and where each count fits 16 bits they are bytes.
 -- Assumes nothing.
 use mathlib.Core.Path.{_≡_, refl, sym, ap, _∙_}
-use mathlib.Core.Bool.{Bool, true, false, _&&_, not, cond}
+use mathlib.Core.Bool.{Bool, true, false, _&&_, not, cond, and-false, and-true}
 use mathlib.Core.List.{List, [], _∷_, _++_}
 use mathlib.Core.Logic.{_≢_, _⊎_, inl, inr}
 use Prim.Native.Nat.{ℕ, zero, suc, _+_, _-_, _*_, _/_, _%_, _≤_, _<_, min, max}
@@ -37,7 +37,7 @@ module _ (i j m n x : ℕ) where
 
 -- what a record adds to cell (k, l), and to the isolated vertices
 abbrev toCell : ℕ → ℕ → ℕ → ℕ → ℕ → ℕ
-toCell k l x y n = cond (not (eqb x 0 && eqb y 0) && samePair k l x y) n 0
+toCell k l x y n = cond (samePair k l x y && not (eqb x 0 && eqb y 0)) n 0
 
 abbrev toIsolated : ℕ → ℕ → ℕ → ℕ
 toIsolated x y n = cond (eqb x 0 && eqb y 0) n 0
@@ -107,14 +107,14 @@ module _ (t : DegreeTable) (table : Table (t .cells)) where
       one h (no p) q = apart h (λ r _. p r)
 
       adds : i ≤ j → Dec (x ≡ 0) → toCell k l i j x ≡ δ i (min k l) * (δ j (max k l) * x)
-      adds h (yes q) = rw (q, mul-zero (δ j (max k l)), mul-zero (δ i (min k l))) (none (not (eqb i 0 && eqb j 0) && samePair k l i j))
-      adds h (no q) = rw (not-isolated i j q) (one h (ℕ-discrete i (min k l)) (ℕ-discrete j (max k l)))
+      adds h (yes q) = rw (q, mul-zero (δ j (max k l)), mul-zero (δ i (min k l))) (none (samePair k l i j && not (eqb i 0 && eqb j 0)))
+      adds h (no q) = rw (not-isolated i j q, and-true (samePair k l i j)) (one h (ℕ-discrete i (min k l)) (ℕ-discrete j (max k l)))
 
       go : Dec (j < i) → added (toCell k l) (cellRecord (t .cells) i j) ≡ δ i (min k l) * (δ j (max k l) * x)
       go (yes p) = rw (lt-leb i j p, weighed-apart i j (min k l) (max k l) x (λ r s. omega arith))
       go (no p) =
           rw (le-leb i j (omega arith))
-          (count-back (toCell k l) i j x (none (not (eqb i 0 && eqb j 0) && samePair k l i j)) ∙ adds (omega arith) (ℕ-discrete x 0))
+          (count-back (toCell k l) i j x (none (samePair k l i j && not (eqb i 0 && eqb j 0))) ∙ adds (omega arith) (ℕ-discrete x 0))
 
   -- and to the isolated vertices: nothing
   cell-none : (i j : ℕ) → added toIsolated (cellRecord (t .cells) i j) ≡ 0
@@ -141,8 +141,8 @@ module _ (t : DegreeTable) (table : Table (t .cells)) where
   -- read back, the records are the matrix
   records-back : (k l : ℕ) → k < degrees → l < degrees → blockCell (recordsOf t) k l ≡ t .cells k l
   records-back k l hk hl =
-      first-back (toCell k l) refl
-      ∙ zero-add (added (toCell k l) (cellRecords (t .cells)))
+      first-back (toCell k l) (none (samePair k l 0 0 && false))
+      ∙ rw (and-false (samePair k l 0 0)) (zero-add (added (toCell k l) (cellRecords (t .cells))))
       ∙ cells-back (toCell k l)
       ∙ sumTo-cong degrees (λ i. sumTo degrees (λ j. added (toCell k l) (cellRecord (t .cells) i j)))
       (λ i. δ i (min k l) * sumTo degrees (λ j. δ j (max k l) * t .cells i j))

@@ -1,7 +1,7 @@
 -- What a good record is, and what a block adds to the cells: the same to (k, l) as to (l, k), and nothing to a degree out of range.
 -- Assumes nothing.
 use mathlib.Core.Path.{_≡_, refl, sym, _∙_}
-use mathlib.Core.Bool.{Bool, true, false, _&&_, _||_, not, cond, true≢false}
+use mathlib.Core.Bool.{Bool, true, false, _&&_, _||_, not, cond, true≢false, and-true, or-true}
 use mathlib.Core.List.{List}
 use Prim.Native.Nat.{ℕ, _≤_, _<_}
 use native.Mathlib.Decide.{ℕ-discrete}
@@ -67,14 +67,6 @@ both-fail k a l b h = go (ℕ-discrete k a)
     go (yes e) = rw (ne-eqb l b (h e)) (and-false (eqb k a))
     go (no e) = rw (ne-eqb k a e)
 
-or-true : (a : Bool) → a || true ≡ true
-or-true true = refl
-or-true false = refl
-
-pub or-false : (a : Bool) → a || false ≡ a
-or-false true = refl
-or-false false = refl
-
 module _ (k l a b : ℕ) where
   pub samePair-straight : k ≡ a → l ≡ b → samePair k l a b ≡ true
   samePair-straight p q = rw (eq-eqb k a p, eq-eqb l b q)
@@ -111,14 +103,11 @@ pub recordCell-none : (b : List ℕ) (i k l : ℕ) → Good b i → (leastDegree
 recordCell-none b i k l g h = go (ofIsolated b i) refl
   where
     go : (t : Bool) → ofIsolated b i ≡ t → recordCell b i k l ≡ 0
-    go true e = simp e
+    go true e = simp (e, and-false (samePair k l (recordK b i) (recordL b i)))
     go false e =
-        simp (
-          e,
-          samePair-none k l (recordK b i) (recordL b i)
-              (λ p q. h (omega (arith, g .least e)) (omega (arith, g .ordered, g .most)))
-              (λ p q. h (omega (arith, g .least e, g .ordered)) (omega (arith, g .most))),
-        )
+        simp (samePair-none k l (recordK b i) (recordL b i)
+        (λ p q. h (omega (arith, g .least e)) (omega (arith, g .ordered, g .most)))
+        (λ p q. h (omega (arith, g .least e, g .ordered)) (omega (arith, g .most))))
 
 -- What record i adds to an array of cells at the place of (k, l): to a cell what it adds to the matrix, and at (0, 0) its isolated vertices.
 abbrev pub amount : List ℕ → ℕ → ℕ → ℕ → ℕ
@@ -135,11 +124,11 @@ module _ (b : List ℕ) (i : ℕ) where
   pub amount-cell : (k l : ℕ) → (k ≡ 0 → l ≡ 0 → ⊥) → amount b i k l ≡ recordCell b i k l
   amount-cell k l h = go (ofIsolated b i) refl
     where
-      go : (t : Bool) → ofIsolated b i ≡ t → amount b i k l ≡ cond (not t && samePair k l (recordK b i) (recordL b i)) (recordCount b i) 0
+      go : (t : Bool) → ofIsolated b i ≡ t → amount b i k l ≡ cond (samePair k l (recordK b i) (recordL b i) && not t) (recordCount b i) 0
       go true e =
           let z = isolated-zeros b i e in
           rw (samePair-none k l (recordK b i) (recordL b i) (λ p q. h (p ∙ z .0) (q ∙ z .1)) (λ p q. h (p ∙ z .1) (q ∙ z .0)))
-      go false e = refl
+      go false e = rw (and-true (samePair k l (recordK b i) (recordL b i)))
 
   pub amount-isolated : amount b i 0 0 ≡ recordIsolated b i
   amount-isolated = go (ofIsolated b i) refl

@@ -71,7 +71,7 @@ samePair k l a b = (eqb k a && eqb l b) || (eqb k b && eqb l a)
 
 -- What record i adds to cell (k, l): its count where (k, l) is its pair in either order, so to the diagonal once. Isolated vertices are no cell.
 abbrev pub recordCell : List ℕ → ℕ → ℕ → ℕ → ℕ
-recordCell b i k l = cond (not (ofIsolated b i) && samePair k l (recordK b i) (recordL b i)) (recordCount b i) 0
+recordCell b i k l = cond (samePair k l (recordK b i) (recordL b i) && not (ofIsolated b i)) (recordCount b i) 0
 
 -- how many isolated vertices record i adds
 abbrev pub recordIsolated : List ℕ → ℕ → ℕ

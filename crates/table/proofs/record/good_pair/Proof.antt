@@ -1,10 +1,10 @@
 -- `table::record::good_pair` meets its contract.
 -- Assumes nothing.
 use mathlib.Core.Path.{sym, _∙_}
+use mathlib.Core.Bool.{or-false}
 use borrow.Author.Needs.{needs}
 use Rattle.finite.proofs.All.{and-false}
 use Rattle.table.specs.Block.{isDegree}
-use Rattle.table.proofs.Block.{or-false}
 use Rattle.table.proofs.Made.{made, none-made, degree-not-0}
 use Rattle.table.proofs.record.good_pair.Statement.{statement}
 use Rattle.table.proofs.record.good_pair.Tie as tie
