@@ -11,7 +11,7 @@ use Rattle.answer.specs.declared.AddAnswer.the-variants.{Added, Refused}
 use Rattle.adjacency.specs.Adjacency.{edge}
 use Rattle.state.specs.Checks.{phaseVerdict}
 use Rattle.state.specs.Laid.{vertexCount, degreeAt, isShort}
-use Rattle.joining.specs.Join.{joinBytes, joinCount}
+use Rattle.joining.specs.Join.{joinBytes, joinSwitches}
 
 -- on a valid laid state: the checks 13, 14, 15, 16
 abbrev pub addLaid : List ℕ → List ℕ → ℕ → ℕ → AddAnswer
@@ -22,7 +22,7 @@ addLaid j g v w =
     (unless (eqb (edge g v w) 0) (Refused (refusal Linked 0 0))
     (unless (isShort j g (degreeAt j v) (degreeAt j w))
     (Refused (refusal CellFull (min (degreeAt j v) (degreeAt j w)) (max (degreeAt j v) (degreeAt j w))))
-    (Added (joinCount (vertexCount j) (degreeAt j) g v w))))))
+    (Added (joinSwitches (vertexCount j) (degreeAt j) g v w))))))
 
 -- the checks 1, 2, 3, then 13, 14, 15, 16
 abbrev pub addAnswer : List ℕ → List ℕ → ℕ → ℕ → AddAnswer

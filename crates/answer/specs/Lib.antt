@@ -1,2 +1,3 @@
 pub mod Refusals
+pub mod Switches
 pub mod Numbers

@@ -1,6 +1,7 @@
 -- Document 01's number of each cause, and the number and values of each case of each answer.
 -- Assumes nothing.
 use Prim.Native.Nat.{ℕ}
+use Rattle.answer.specs.Switches.{switchCount, firstSwitch, secondSwitch}
 use Rattle.answer.specs.declared.Cause.{Cause}
 use Rattle.answer.specs.declared.Cause.the-variants.{Length as LengthCause, Invalid, Phase, BlockLength, Record, BlockNumber, Conflict, JournalFull, OddDiagonal, UnevenRow, OverfullCell, TooManyVertices, VertexNumber, SameVertex, Linked, CellFull, NotLinked, OutputLength, EdgeList, DegreeAbove}
 use Rattle.answer.specs.declared.Refusal.{Refusal}
@@ -85,17 +86,45 @@ figuresNumbers (Figs.Reported f) =
     record { number = 0; first = f .phase; second = f .blocks; third = f .vertices; fourth = f .wanted; fifth = f .laid }
 figuresNumbers (Figs.Refused r) = refused r
 
-abbrev pub addNumbers : AddAnswer → Numbers
-addNumbers (Add.Added switches) = done switches 0
-addNumbers (Add.Refused r) = refused r
+-- An added edge in numbers: 0, the switches, 0, and their vertices in the order made, 255 where a switch was not needed; else the refusal's number,
+-- its two places, and 0.
+pub record JoinNumbers : Type 0 where
+  pub number : ℕ
+  pub first : ℕ
+  pub second : ℕ
+  pub a1 : ℕ
+  pub b1 : ℕ
+  pub t1 : ℕ
+  pub a2 : ℕ
+  pub b2 : ℕ
+  pub t2 : ℕ
+
+abbrev pub addNumbers : AddAnswer → JoinNumbers
+addNumbers (Add.Added s) =
+    let x = firstSwitch s in
+    let y = secondSwitch s in
+    record {
+      number = 0;
+      first = switchCount s;
+      second = 0;
+      a1 = x .a;
+      b1 = x .b;
+      t1 = x .t;
+      a2 = y .a;
+      b2 = y .b;
+      t2 = y .t;
+    }
+addNumbers (Add.Refused r) =
+    record { number = numberOf (r .cause); first = r .first; second = r .second; a1 = 0; b1 = 0; t1 = 0; a2 = 0; b2 = 0; t2 = 0 }
 
 abbrev pub removeNumbers : RemoveAnswer → Numbers
 removeNumbers Remove.Removed = done 0 0
 removeNumbers (Remove.Refused r) = refused r
 
--- first: the edges added (document 01: joins); second: the switches
+-- first: the edges added (document 01: joins); second: the switches; third: the written length
 abbrev pub completeNumbers : CompleteAnswer → Numbers
-completeNumbers (Complete.Completed joins switches) = done joins switches
+completeNumbers (Complete.Completed joins switches length) =
+    record { number = 0; first = joins; second = switches; third = length; fourth = 0; fifth = 0 }
 completeNumbers (Complete.Refused r) = refused r
 
 abbrev pub writtenNumbers : WrittenAnswer → Numbers

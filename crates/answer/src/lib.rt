@@ -3,6 +3,10 @@ ghost use mathlib.Core.Path.{_≡_};
 ghost use Rattle.answer.specs.Numbers.{numberOf};
 ghost use Rattle.answer.specs.Refusals.{refusal, stop};
 
+pub mod switches;
+
+use crate::switches::Switches;
+
 // Why a call is refused: one case for each number of document 01's table.
 pub enum Cause {
     Length,
@@ -79,7 +83,7 @@ pub enum FiguresAnswer {
 
 // Adding an edge: the switches made.
 pub enum AddAnswer {
-    Added(usize),
+    Added(Switches),
     Refused(Refusal),
 }
 
@@ -88,9 +92,9 @@ pub enum RemoveAnswer {
     Refused(Refusal),
 }
 
-// Completing: the edges added and the switches made.
+// Completing: the edges added, the switches made, and the written length.
 pub enum CompleteAnswer {
-    Completed(usize, usize),
+    Completed(usize, usize, usize),
     Refused(Refusal),
 }
 

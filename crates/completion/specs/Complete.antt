@@ -1,26 +1,38 @@
--- Completing (document 01: finish): while a cell is short, the pair of specs/Choice.antt is joined.
+-- Completing (document 01: finish): while a cell is short, the pair of specs/Choice.antt is joined, and its record (specs/Record.antt) written.
 -- Assumes nothing.
 use mathlib.Core.Bool.{Bool}
-use mathlib.Core.List.{List}
-use Prim.Native.Nat.{ℕ, _+_, _*_, _/_}
-use lib.Dec.{ltb}
+use mathlib.Core.List.{List, [], _++_}
+use Prim.Native.Nat.{ℕ, _+_, _-_, _*_, _/_}
+use lib.Dec.{ltb, leb}
+use lib.ListN.{length}
+use lib.Seq.{sets}
 use Rattle.finite.specs.Range.{iterate}
-use Rattle.answer.specs.Refusals.{unlessStopped}
+use Rattle.answer.specs.Refusals.{refusal, unless, unlessStopped}
+use Rattle.answer.specs.Switches.{switchCount}
+use Rattle.answer.specs.declared.Cause.the-variants.{OutputLength}
 use Rattle.answer.specs.declared.CompleteAnswer.{CompleteAnswer}
 use Rattle.answer.specs.declared.CompleteAnswer.the-variants.{Completed, Refused}
+use Rattle.graph.specs.Graph.{edges}
 use Rattle.graph.specs.Tests.{mostDegree, degrees}
-use Rattle.layout.specs.Layout.{mostVertices}
+use Rattle.layout.specs.Layout.{mostVertices, wanted}
 use Rattle.journal.specs.Journal.{jdmOf}
+use Rattle.adjacency.specs.Adjacency.{edge}
 use Rattle.state.specs.Checks.{phaseVerdict}
 use Rattle.state.specs.Laid.{vertexCount, degreeAt}
-use Rattle.joining.specs.Join.{joinBytes, joinCount}
+use Rattle.joining.specs.Join.{joinBytes, joinSwitches}
 use Rattle.completion.specs.Choice.{shortK, shortL, openV, openW}
+use Rattle.completion.specs.Record.{recordSize, joinRecord}
 
--- a matrix with the edges added and the switches made so far
+-- a matrix with the edges added and the switches made so far, and the records of the joins
 pub record Ran : Type 0 where
   pub adjacency : List ℕ
   pub joins : ℕ
   pub switches : ℕ
+  pub records : List ℕ
+
+-- the matrix g, with nothing done yet
+abbrev pub fresh : List ℕ → Ran
+fresh g = record { adjacency = g; joins = 0; switches = 0; records = [] }
 
 -- one pair v – w joined
 abbrev pub joined : ℕ → (ℕ → ℕ) → Ran → ℕ → ℕ → Ran
@@ -28,7 +40,8 @@ joined n cls s v w =
     record {
       adjacency = joinBytes n cls (s .adjacency) v w;
       joins = s .joins + 1;
-      switches = s .switches + joinCount n cls (s .adjacency) v w;
+      switches = s .switches + switchCount (joinSwitches n cls (s .adjacency) v w);
+      records = s .records ++ joinRecord v w (joinSwitches n cls (s .adjacency) v w);
     }
 
 -- the next pair joined: the lowest open pair of the lowest short cell
@@ -54,13 +67,28 @@ mostEdges = mostVertices * mostDegree / 2
 
 -- a laid state completed
 abbrev pub completed : List ℕ → List ℕ → Ran
-completed j g = run mostEdges (vertexCount j) (degreeAt j) (jdmOf j) (record { adjacency = g; joins = 0; switches = 0 })
+completed j g = run mostEdges (vertexCount j) (degreeAt j) (jdmOf j) (fresh g)
 
--- the checks 1, 2, 3
-abbrev pub completeAnswer : List ℕ → List ℕ → CompleteAnswer
-completeAnswer j g = unlessStopped (phaseVerdict 1 j g) Refused (Completed (completed j g .joins) (completed j g .switches))
+-- the edges that are missing: wanted, less those laid
+abbrev pub missing : List ℕ → List ℕ → ℕ
+missing j g = wanted (jdmOf j) - edges (vertexCount j) (edge g)
+
+-- on a valid laid state, for an output of m bytes: the check 18, before anything is joined
+abbrev pub completeLaid : List ℕ → List ℕ → ℕ → CompleteAnswer
+completeLaid j g m =
+    unless (leb (recordSize * missing j g) m) (Refused (refusal OutputLength 0 0))
+    (Completed (completed j g .joins) (completed j g .switches) (length (completed j g .records)))
+
+-- the checks 1, 2, 3, then 18
+abbrev pub completeAnswer : List ℕ → List ℕ → ℕ → CompleteAnswer
+completeAnswer j g m = unlessStopped (phaseVerdict 1 j g) Refused (completeLaid j g m)
 
 -- the matrix afterwards
 abbrev pub completeAdjacency : CompleteAnswer → List ℕ → List ℕ → List ℕ
-completeAdjacency (Completed joins switches) j g = completed j g .adjacency
+completeAdjacency (Completed joins switches n) j g = completed j g .adjacency
 completeAdjacency (Refused r) j g = g
+
+-- the output afterwards: the records, and behind them what was there
+abbrev pub completeOutput : CompleteAnswer → List ℕ → List ℕ → List ℕ → List ℕ
+completeOutput (Completed joins switches n) j g out = sets out 0 (completed j g .records)
+completeOutput (Refused r) j g out = out

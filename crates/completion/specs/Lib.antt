@@ -1,3 +1,4 @@
 pub mod Choice
+pub mod Record
 pub mod Complete
 pub mod Inner

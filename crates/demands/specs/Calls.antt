@@ -2,7 +2,7 @@
 -- Assumes nothing.
 use mathlib.Core.List.{List, [], _∷_}
 use Prim.Native.Nat.{ℕ}
-use lib.ListN.{replicate}
+use lib.ListN.{length, replicate}
 use Rattle.journal.specs.Journal.{journalSize}
 use Rattle.adjacency.specs.Adjacency.{adjacencySize}
 use Rattle.taking.specs.Take.{takeAnswer, takeJournal}
@@ -12,13 +12,13 @@ use Rattle.removing.specs.Remove.{removeAnswer, removeAdjacency}
 use Rattle.completion.specs.Complete.{completeAnswer, completeAdjacency}
 
 -- the calls that demand 3 lists: those that may change the state, with any arguments, and the reading ones between them; a survey, which is
--- lent no state, may stand there too
+-- lent no state, may stand there too. A list of bytes is a block, or an output as it is lent, with room or without.
 pub data Call : Type 0 where
   take : ℕ → List ℕ → Call
   layOut : Call
   add : ℕ → ℕ → Call
   remove : ℕ → ℕ → Call
-  complete : Call
+  complete : List ℕ → Call
   readBack : ℕ → Call
   list : List ℕ → Call
   figures : Call
@@ -51,10 +51,10 @@ after s (remove v w) =
       journal = s .journal;
       adjacency = removeAdjacency (removeAnswer (s .journal) (s .adjacency) v w) (s .adjacency) v w;
     }
-after s complete =
+after s (complete out) =
     record {
       journal = s .journal;
-      adjacency = completeAdjacency (completeAnswer (s .journal) (s .adjacency)) (s .journal) (s .adjacency);
+      adjacency = completeAdjacency (completeAnswer (s .journal) (s .adjacency) (length out)) (s .journal) (s .adjacency);
     }
 after s (readBack number) = s
 after s (list out) = s

@@ -4,7 +4,7 @@
 use mathlib.Core.Path.{_≡_}
 use mathlib.Core.Bool.{Bool, true, false, _||_}
 use mathlib.Core.List.{List, [], _∷_}
-use Prim.Native.Nat.{ℕ}
+use Prim.Native.Nat.{ℕ, _*_}
 use lib.Dec.{eqb}
 use lib.ListN.{length, drop}
 use Rattle.answer.specs.Numbers.{numberOf}
@@ -27,7 +27,8 @@ use Rattle.adding.specs.Add.{addAnswer, addAdjacency}
 use Rattle.removing.specs.Remove.{removeAnswer, removeAdjacency}
 use Rattle.listing.specs.List.{listAnswer, listOutput}
 use Rattle.survey.specs.Survey.{surveyAnswer, surveyOutput}
-use Rattle.completion.specs.Complete.{completeAnswer, completeAdjacency}
+use Rattle.completion.specs.Record.{recordSize}
+use Rattle.completion.specs.Complete.{completeAnswer, completeAdjacency, completeOutput}
 
 -- n is one of the numbers
 abbrev pub oneOf : ℕ → List ℕ → Bool
@@ -55,8 +56,11 @@ pub record Demand1 : Type 0 where
       Numbered r (1 ∷ 2 ∷ 3 ∷ 13 ∷ 14 ∷ 15 ∷ 16 ∷ []) × (addAdjacency (addAnswer j g v w) j g v w ≡ g)
   pub remove : (j g : List ℕ) (v w : ℕ) (r : Refusal) → removeAnswer j g v w ≡ Remove.Refused r →
       Numbered r (1 ∷ 2 ∷ 3 ∷ 13 ∷ 14 ∷ 17 ∷ []) × (removeAdjacency (removeAnswer j g v w) g v w ≡ g)
-  pub complete : (j g : List ℕ) (r : Refusal) → completeAnswer j g ≡ Complete.Refused r →
-      Numbered r (1 ∷ 2 ∷ 3 ∷ []) × (completeAdjacency (completeAnswer j g) j g ≡ g)
+  pub complete : (j g out : List ℕ) (r : Refusal) → completeAnswer j g (length out) ≡ Complete.Refused r →
+      Numbered r (1 ∷ 2 ∷ 3 ∷ 18 ∷ []) × (completeAdjacency (completeAnswer j g (length out)) j g ≡ g)
+      × (completeOutput (completeAnswer j g (length out)) j g out ≡ out)
+  pub complete-written : (j g out : List ℕ) (joins switches n : ℕ) → completeAnswer j g (length out) ≡ Complete.Completed joins switches n →
+      (n ≡ recordSize * joins) × SamePast n out (completeOutput (completeAnswer j g (length out)) j g out)
   pub list : (j g out : List ℕ) (r : Refusal) → listAnswer j g (length out) ≡ Write.Refused r →
       Numbered r (1 ∷ 2 ∷ 3 ∷ 18 ∷ []) × (listOutput (listAnswer j g (length out)) j g out ≡ out)
   pub list-written : (j g out : List ℕ) (n : ℕ) → listAnswer j g (length out) ≡ Write.Written n →

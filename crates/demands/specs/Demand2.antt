@@ -7,6 +7,7 @@ use mathlib.Core.Bool.{Bool, true, false, _&&_, _||_, not, cond}
 use mathlib.Core.List.{List, [], _∷_, _++_}
 use Prim.Native.Nat.{ℕ, _+_}
 use lib.Dec.{eqb}
+use lib.ListN.{length}
 use Rattle.answer.specs.declared.AddAnswer.{AddAnswer}
 use Rattle.answer.specs.declared.AddAnswer.the-variants as Add
 use Rattle.answer.specs.declared.RemoveAnswer.{RemoveAnswer}
@@ -38,7 +39,7 @@ answered adds seen s (take number b ∷ cs) =
 answered adds seen s (layOut ∷ cs) = answered adds seen (after s layOut) cs
 answered adds seen s (add v w ∷ cs) = answered adds seen (after s (add v w)) cs
 answered adds seen s (remove v w ∷ cs) = answered adds seen (after s (remove v w)) cs
-answered adds seen s (complete ∷ cs) = answered adds seen (after s complete) cs
+answered adds seen s (complete out ∷ cs) = answered adds seen (after s (complete out)) cs
 answered adds seen s (readBack number ∷ cs) = answered adds seen s cs
 answered adds seen s (list out ∷ cs) = answered adds seen s cs
 answered adds seen s (figures ∷ cs) = answered adds seen s cs
@@ -64,7 +65,7 @@ quiet s (take number b ∷ cs) = quiet (after s (take number b)) cs
 quiet s (layOut ∷ cs) = quiet (after s layOut) cs
 quiet s (add v w ∷ cs) = addRefused (addAnswer (s .journal) (s .adjacency) v w) && quiet (after s (add v w)) cs
 quiet s (remove v w ∷ cs) = removeRefused (removeAnswer (s .journal) (s .adjacency) v w) && quiet (after s (remove v w)) cs
-quiet s (complete ∷ cs) = quiet (after s complete) cs
+quiet s (complete out ∷ cs) = quiet (after s (complete out)) cs
 quiet s (readBack number ∷ cs) = quiet s cs
 quiet s (list out ∷ cs) = quiet s cs
 quiet s (figures ∷ cs) = quiet s cs
@@ -72,11 +73,11 @@ quiet s (survey e total out ∷ cs) = quiet s cs
 
 pub record Demand2 : Type 0 where
   -- completed: calls since the clear, a completing that was not refused, and calls after it that added and removed nothing
-  pub completed : (before rest : List Call) (joins switches : ℕ) →
+  pub completed : (before rest : List Call) (out : List ℕ) (joins switches n : ℕ) →
       let s = afterAll cleared before in
-      completeAnswer (s .journal) (s .adjacency) ≡ Completed joins switches →
-      quiet (after s complete) rest ≡ true →
-      HasTable (answeredSum (before ++ complete ∷ rest)) (afterAll (after s complete) rest)
+      completeAnswer (s .journal) (s .adjacency) (length out) ≡ Completed joins switches n →
+      quiet (after s (complete out)) rest ≡ true →
+      HasTable (answeredSum (before ++ complete out ∷ rest)) (afterAll (after s (complete out)) rest)
   -- finished in any way, "touched by these entries alone since its last clear": laid, and no cell is short
   pub finished : (calls : List Call) →
       let s = afterAll cleared calls in

@@ -5,21 +5,26 @@ use mathlib.Core.Bool.{true, false}
 use mathlib.Core.List.{List}
 use mathlib.Core.Logic.{_↔_, _≢_}
 use Prim.Native.Nat.{ℕ, _+_, _*_, _≤_, _<_}
+use lib.ListN.{length}
 use Rattle.finite.specs.Range.{sumTo}
 use Rattle.graph.specs.Graph.{edges, DegreeTable}
 use Rattle.graph.specs.Tests.{degrees, rowSum, vertices, vertexDegree}
 use Rattle.graph.specs.Theorems.{Realized}
 use Rattle.answer.specs.Numbers.{layOutNumbers}
+use Rattle.answer.specs.Refusals.{refusal}
+use Rattle.answer.specs.declared.Cause.the-variants.{OutputLength}
+use Rattle.answer.specs.declared.switches.Switches.{Switches}
 use Rattle.answer.specs.declared.AddAnswer.the-variants.{Added}
-use Rattle.answer.specs.declared.CompleteAnswer.the-variants.{Completed}
+use Rattle.answer.specs.declared.CompleteAnswer.the-variants.{Completed, Refused}
 use Rattle.adjacency.specs.Adjacency.{edge}
 use Rattle.state.specs.Valid.{valid}
 use Rattle.laying_out.specs.LayOut.{layOutAnswer}
 use Rattle.adding.specs.Add.{addAnswer}
+use Rattle.completion.specs.Record.{recordSize}
 use Rattle.completion.specs.Complete.{completeAnswer}
 use Rattle.demands.specs.Calls.{Call, add, complete, State, cleared, after, afterAll}
 use Rattle.demands.specs.Matrix.{Short, HasTable}
-use Rattle.demands.specs.Tally.{Tally, noTally, tallyAll}
+use Rattle.demands.specs.Tally.{Tally, noTally, missingEdges, tallyAll}
 
 -- laying out is refused for want of a graph: with 9, 10 or 11
 abbrev pub RefusedForWantOfAGraph : State → Type 0
@@ -41,21 +46,30 @@ pub record OpenPair (t : DegreeTable) (s : State) (v w : ℕ) : Type 0 where
 
 -- joining v and w is not refused; afterwards the state is valid, the pair is linked, and there is exactly one edge more
 pub record CanBeJoined (t : DegreeTable) (s : State) (v w : ℕ) : Type 0 where
-  pub switches : ℕ
+  pub switches : Switches
   pub answer : addAnswer (s .journal) (s .adjacency) v w ≡ Added switches
   pub sound : valid (after s (add v w) .journal) (after s (add v w) .adjacency) ≡ true
   pub linked : edge (after s (add v w) .adjacency) v w ≡ 1
   pub one-more : edgesLaid t (after s (add v w)) ≡ edgesLaid t s + 1
 
--- Completing is not refused; its joins and the tally's edges together are half the sum of all cells of T; the matrix then holds
+-- Completing into the output is not refused; its joins and the tally's edges together are half the sum of all cells of T; the matrix then holds
 -- exactly that many edges more and, as a simple graph, has T in every cell and as many vertices without an edge as the tally's isolated ones.
-pub record Completes (t : Tally) (s : State) : Type 0 where
+pub record Completes (t : Tally) (s : State) (out : List ℕ) : Type 0 where
   pub joins : ℕ
   pub switches : ℕ
-  pub answer : completeAnswer (s .journal) (s .adjacency) ≡ Completed joins switches
+  pub answer : completeAnswer (s .journal) (s .adjacency) (length out) ≡ Completed joins switches (recordSize * joins)
   pub missing : 2 * (t .edges + joins) ≡ sumTo degrees (rowSum (t .table .cells))
-  pub more : edgesLaid (t .table) (after s complete) ≡ edgesLaid (t .table) s + joins
-  pub has-table : HasTable (t .table) (after s complete)
+  pub more : edgesLaid (t .table) (after s (complete out)) ≡ edgesLaid (t .table) s + joins
+  pub has-table : HasTable (t .table) (after s (complete out))
+
+-- the output has room for a record of each missing edge (document 02, P2: "the mission's finishing is one with that much room")
+abbrev pub HasRoom : Tally → List ℕ → Type 0
+HasRoom t out = recordSize * missingEdges t ≤ length out
+
+-- completing into a shorter output is refused with 18, and nothing changes
+pub record RefusedShort (s : State) (out : List ℕ) : Type 0 where
+  pub answer : completeAnswer (s .journal) (s .adjacency) (length out) ≡ Refused (refusal OutputLength 0 0)
+  pub unchanged : after s (complete out) ≡ s
 
 -- not laid: refused with 9, 10 or 11 if and only if no simple graph of any size has T (isolated vertices hinder no graph)
 pub record NotLaid (t : Tally) (s : State) : Type 0 where
@@ -65,7 +79,8 @@ pub record NotLaid (t : Tally) (s : State) : Type 0 where
 pub record Laid (t : Tally) (s : State) : Type 0 where
   pub joinable : (v w : ℕ) → OpenPair (t .table) s v w → CanBeJoined (t .table) s v w × CanBeJoined (t .table) s w v
   pub pair : (k l : ℕ) → Short (t .table) s k l → (v w : ℕ) × OpenPair (t .table) s v w
-  pub completes : Completes t s
+  pub completes : (out : List ℕ) → HasRoom t out → Completes t s out
+  pub refuses : (out : List ℕ) → (HasRoom t out → ⊥) → RefusedShort s out
 
 -- after every list of calls from a cleared state
 abbrev pub Demand3 : Type 0

@@ -7,4 +7,5 @@ pub mod Demand2
 pub mod Demand3
 pub mod ReadBack
 pub mod Listed
+pub mod Playback
 pub mod Isolated

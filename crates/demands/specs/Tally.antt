@@ -5,6 +5,7 @@ use mathlib.Core.Bool.{Bool, true, false, _&&_, not, cond}
 use mathlib.Core.List.{List, [], _∷_}
 use Prim.Native.Nat.{ℕ, _+_, _-_}
 use lib.Dec.{eqb, ltb, leb}
+use lib.ListN.{length}
 use Rattle.answer.specs.declared.AddAnswer.{AddAnswer}
 use Rattle.answer.specs.declared.AddAnswer.the-variants as Add
 use Rattle.answer.specs.declared.RemoveAnswer.{RemoveAnswer}
@@ -14,7 +15,7 @@ use Rattle.answer.specs.declared.CompleteAnswer.the-variants as Complete
 use Rattle.graph.specs.Graph.{DegreeTable, noTable}
 use Rattle.graph.specs.Tests.{passes, vertices}
 use Rattle.table.specs.Block.{wellFormed, plus}
-use Rattle.layout.specs.Layout.{mostVertices}
+use Rattle.layout.specs.Layout.{mostVertices, wanted}
 use Rattle.journal.specs.Journal.{mostBlocks}
 use Rattle.adding.specs.Add.{addAnswer}
 use Rattle.removing.specs.Remove.{removeAnswer}
@@ -35,7 +36,7 @@ told s (take number b) = toldTake number b
 told s layOut = toldLayOut
 told s (add v w) = toldAdd (addAnswer (s .journal) (s .adjacency) v w)
 told s (remove v w) = toldRemove (removeAnswer (s .journal) (s .adjacency) v w)
-told s complete = toldComplete (completeAnswer (s .journal) (s .adjacency))
+told s (complete out) = toldComplete (completeAnswer (s .journal) (s .adjacency) (length out))
 told s (readBack number) = toldNothing
 told s (list out) = toldNothing
 told s figures = toldNothing
@@ -78,9 +79,13 @@ tally t (toldAdd (Add.Added switches)) = withEdges t (t .edges + 1)
 tally t (toldAdd (Add.Refused r)) = t
 tally t (toldRemove Remove.Removed) = withEdges t (t .edges - 1)
 tally t (toldRemove (Remove.Refused r)) = t
-tally t (toldComplete (Complete.Completed joins switches)) = withEdges t (t .edges + joins)
+tally t (toldComplete (Complete.Completed joins switches n)) = withEdges t (t .edges + joins)
 tally t (toldComplete (Complete.Refused r)) = t
 tally t toldNothing = t
+
+-- the missing edges: half the sum of all cells of T, less the edge count
+abbrev pub missingEdges : Tally → ℕ
+missingEdges t = wanted (t .table .cells) - t .edges
 
 -- the tally after a list of calls from the state s
 abbrev pub tallyAll : State → Tally → List Call → Tally

@@ -1,9 +1,12 @@
 -- Joining two vertices (document 01, "Joining, lifting, finishing") on the bytes of the adjacency matrix g, with n vertices
 -- of degrees cls: if v is saturated, switch v; then if w is saturated, switch w; then link v and w.
 -- Assumes nothing.
-use mathlib.Core.Bool.{cond}
+use mathlib.Core.Bool.{Bool, true, false, cond}
 use mathlib.Core.List.{List}
-use Prim.Native.Nat.{ℕ, _+_}
+use Prim.Native.Nat.{ℕ}
+use Rattle.answer.specs.declared.switches.Switch.{Switch}
+use Rattle.answer.specs.declared.switches.Switches.{Switches}
+use Rattle.answer.specs.declared.switches.Switches.the-variants.{None, One, Two}
 use Rattle.graph.specs.Switch.{unsaturated, substitute, transfer}
 use Rattle.adjacency.specs.Adjacency.{edge, setEdge}
 
@@ -27,13 +30,23 @@ abbrev pub relieveBytes : ℕ → (ℕ → ℕ) → List ℕ → ℕ → ℕ →
 relieveBytes n cls g a other =
     cond (unsaturated n cls own (edge g) a) g (switchBytes g a (substituteAt n cls g a other) (transferAt n cls g a other))
 
-abbrev pub relieveCount : ℕ → (ℕ → ℕ) → List ℕ → ℕ → ℕ
-relieveCount n cls g a = cond (unsaturated n cls own (edge g) a) 0 1
-
 -- both steps, and the edge
 abbrev pub joinBytes : ℕ → (ℕ → ℕ) → List ℕ → ℕ → ℕ → List ℕ
 joinBytes n cls g v w = setEdge (relieveBytes n cls (relieveBytes n cls g v w) w v) v w 1
 
--- the switches made, 0 to 2
-abbrev pub joinCount : ℕ → (ℕ → ℕ) → List ℕ → ℕ → ℕ → ℕ
-joinCount n cls g v w = relieveCount n cls g v + relieveCount n cls (relieveBytes n cls g v w) w
+-- what switching a says (document 02, P2): a, b and t
+abbrev pub switchAt : ℕ → (ℕ → ℕ) → List ℕ → ℕ → ℕ → Switch
+switchAt n cls g a other = record { a = a; b = substituteAt n cls g a other; t = transferAt n cls g a other }
+
+-- the switches of v and of w, in the order made; none at an end that had room
+abbrev pub inOrder : Bool → Bool → Switch → Switch → Switches
+inOrder true true x y = None
+inOrder false true x y = One x
+inOrder true false x y = One y
+inOrder false false x y = Two x y
+
+-- the switches of the join: v's on the matrix as it is, w's on what that leaves
+abbrev pub joinSwitches : ℕ → (ℕ → ℕ) → List ℕ → ℕ → ℕ → Switches
+joinSwitches n cls g v w =
+    let g′ = relieveBytes n cls g v w in
+    inOrder (unsaturated n cls own (edge g) v) (unsaturated n cls own (edge g′) w) (switchAt n cls g v w) (switchAt n cls g′ w v)

@@ -1,24 +1,24 @@
 // Joining two vertices of the adjacency matrix, with at most two neighbour switches. The degrees that the vertices have so far
 // stand in an array beside the matrix; for one join by itself, `once` counts those that it needs.
 ghost use mathlib.Core.Path.{_≡_};
-ghost use mathlib.Core.Bool.{cond};
 ghost use Prim.Native.Nat.{_+_, _-_, _≤_, _<_};
-ghost use lib.Dec.{ltb};
 ghost use lib.ListN.{length, getD, set};
 ghost use Rattle.finite.specs.Range.{lowest};
 ghost use Rattle.graph.specs.Graph.{Simple};
 ghost use Rattle.graph.specs.Switch.{orElse};
 ghost use Rattle.graph.specs.Tests.{degrees};
 ghost use Rattle.adjacency.specs.Adjacency.{adjacencySize, side, edge, setEdge};
-ghost use Rattle.joining.specs.Join.{relieveBytes, joinBytes, joinCount};
+ghost use Rattle.joining.specs.Join.{relieveBytes, joinBytes, joinSwitches};
 ghost use Rattle.classes.specs.Inner.Block.{classFrom};
-ghost use Rattle.joining.specs.Inner.Work.{degreesOf, Joinable, Placed, canStandIn, freed};
+ghost use Rattle.joining.specs.Inner.Work.{degreesOf, Joinable, Placed, canStandIn, reliefOf, bothReliefs, cutOff, freed};
 
 pub mod once;
 mod switch;
 
 use crate::switch::neighbor_switch;
 use adjacency::set_edge;
+use answer::switches::Switch;
+use answer::switches::Switches;
 use classes::STARTS;
 use classes::row_sum;
 use layout::MOST_VERTICES;
@@ -30,9 +30,15 @@ pub struct End {
     pub low: usize,
 }
 
+// What making room at an end took: nothing, or a switch.
+pub enum Relief {
+    Room,
+    Switched(Switch),
+}
+
 // What joining did: the switches, and the vertex that the switch of v cut off from v (n where there was none).
 pub struct JoinDone {
-    pub switches: usize,
+    pub switches: Switches,
     pub freed: usize,
 }
 
@@ -87,7 +93,7 @@ fn shift_edge(held: &mut [usize; MOST_VERTICES], a: usize, b: usize)
     held[b] = more;
 }
 
-// Makes room at a: a neighbour switch if it is saturated. The vertex cut off from a; n where there was no switch.
+// Makes room at a: a neighbour switch if it is saturated.
 fn relieve(
     adjacency: &mut [u8],
     held: &mut [usize; MOST_VERTICES],
@@ -95,22 +101,22 @@ fn relieve(
     n: usize,
     a: End,
     other: usize,
-) -> usize
+) -> Relief
     requires { ⌜ Joinable n (classFrom (now starts)) (now adjacency) (a .at) other × Placed n (now starts) (now adjacency) a other × (now held ≡ degreesOf n (now adjacency)) ⌝ }
-    ensures { λ r. ⌜ r ≡ freed n (classFrom (now (starts .entry))) (now (adjacency .entry)) (a .at) other ⌝ }
+    ensures { λ r. ⌜ r ≡ reliefOf n (classFrom (now (starts .entry))) (now (adjacency .entry)) (a .at) other ⌝ }
     ensures { λ _. ⌜ now (adjacency .exit) ≡ relieveBytes n (classFrom (now (starts .entry))) (now (adjacency .entry)) (a .at) other ⌝ }
     ensures { λ _. ⌜ now (held .exit) ≡ degreesOf n (relieveBytes n (classFrom (now (starts .entry))) (now (adjacency .entry)) (a .at) other) ⌝ }
 {
     let v = a.at;
     let k = a.class;
     if held[v] < k {
-        return n;
+        return Relief::Room;
     }
     let to = starts[k + 1];
     let b = choose_substitute(held, k, other, a.low, to);
     let t = neighbor_switch(adjacency, n, v, b);
     shift_edge(held, v, b);
-    t
+    Relief::Switched(Switch { a: v, b, t })
 }
 
 // The edge v – w added.
@@ -126,14 +132,30 @@ fn link(adjacency: &mut [u8], held: &mut [usize; MOST_VERTICES], v: usize, w: us
     held[w] = more_w;
 }
 
-// 1 where a vertex was cut off, else 0.
-fn switch_count(n: usize, cut: usize) -> usize
-    ensures { λ r. ⌜ (r ≡ cond (ltb cut n) 1 0) × (r ≤ 1) ⌝ }
+// The switches of both ends, in the order made.
+fn both_reliefs(x: Relief, y: Relief) -> Switches
+    ensures { λ r. ⌜ r ≡ bothReliefs x y ⌝ }
 {
-    if cut < n {
-        return 1;
+    match x {
+        Relief::Room => match y {
+            Relief::Room => Switches::None,
+            Relief::Switched(t) => Switches::One(t),
+        },
+        Relief::Switched(s) => match y {
+            Relief::Room => Switches::One(s),
+            Relief::Switched(t) => Switches::Two(s, t),
+        },
     }
-    0
+}
+
+// The vertex that a relief cut off from its end; n where there was no switch.
+fn cut_off(n: usize, x: Relief) -> usize
+    ensures { λ r. ⌜ r ≡ cutOff n x ⌝ }
+{
+    match x {
+        Relief::Room => n,
+        Relief::Switched(s) => s.t,
+    }
 }
 
 // Joins v and w: room at v, then at w, then the edge.
@@ -146,7 +168,7 @@ pub fn join(
     w: End,
 ) -> JoinDone
     requires { ⌜ Joinable n (classFrom (now starts)) (now adjacency) (v .at) (w .at) × (now held ≡ degreesOf n (now adjacency)) × Placed n (now starts) (now adjacency) v (w .at) × Placed n (now starts) (now adjacency) w (v .at) ⌝ }
-    ensures { λ r. ⌜ (r .switches ≡ joinCount n (classFrom (now (starts .entry))) (now (adjacency .entry)) (v .at) (w .at)) × (r .freed ≡ freed n (classFrom (now (starts .entry))) (now (adjacency .entry)) (v .at) (w .at)) ⌝ }
+    ensures { λ r. ⌜ (r .switches ≡ joinSwitches n (classFrom (now (starts .entry))) (now (adjacency .entry)) (v .at) (w .at)) × (r .freed ≡ freed n (classFrom (now (starts .entry))) (now (adjacency .entry)) (v .at) (w .at)) ⌝ }
     ensures { λ _. ⌜ now (adjacency .exit) ≡ joinBytes n (classFrom (now (starts .entry))) (now (adjacency .entry)) (v .at) (w .at) ⌝ }
     ensures { λ _. ⌜ now (held .exit) ≡ degreesOf n (joinBytes n (classFrom (now (starts .entry))) (now (adjacency .entry)) (v .at) (w .at)) ⌝ }
 {
@@ -154,7 +176,7 @@ pub fn join(
     let y = relieve(adjacency, held, starts, n, w, v.at);
     link(adjacency, held, v.at, w.at);
     JoinDone {
-        switches: switch_count(n, x) + switch_count(n, y),
-        freed: x,
+        switches: both_reliefs(x, y),
+        freed: cut_off(n, x),
     }
 }

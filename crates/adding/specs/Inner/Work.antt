@@ -14,7 +14,7 @@ use Rattle.graph.specs.Target.{Target, Partial}
 use Rattle.graph.specs.Tests.{degrees, vertices, vertexDegree}
 use Rattle.layout.specs.Layout.{mostVertices}
 use Rattle.adjacency.specs.Adjacency.{adjacencySize, edge}
-use Rattle.joining.specs.Join.{own, joinBytes, joinCount}
+use Rattle.joining.specs.Join.{own, joinBytes, joinSwitches}
 
 -- g is a partial graph of the table t, and v and w are two vertices that it does not link
 pub record Unlinked (t : DegreeTable) (g : List ℕ) (v w : ℕ) : Type 0 where
@@ -32,7 +32,7 @@ abbrev pub addUnlinked : DegreeTable → List ℕ → ℕ → ℕ → AddAnswer
 addUnlinked t g v w =
     unless (ltb (jdm (vertices t) (vertexDegree t) (edge g) (vertexDegree t v) (vertexDegree t w)) (t .cells (vertexDegree t v) (vertexDegree t w)))
     (Refused (refusal CellFull (min (vertexDegree t v) (vertexDegree t w)) (max (vertexDegree t v) (vertexDegree t w))))
-    (Added (joinCount (vertices t) (vertexDegree t) g v w))
+    (Added (joinSwitches (vertices t) (vertexDegree t) g v w))
 
 -- the matrix afterwards
 abbrev pub addedAdjacency : AddAnswer → DegreeTable → List ℕ → ℕ → ℕ → List ℕ

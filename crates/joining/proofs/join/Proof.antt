@@ -1,10 +1,8 @@
 -- `joining::join` meets its contract: room is made at v, then at w, and then both have room for the edge.
 -- Assumes nothing.
-use mathlib.Core.Path.{refl, ap₂, _∙_}
-use Prim.Native.Nat.{_+_}
-use native.Mathlib.Omega.{arith}
+use mathlib.Core.Path.{refl, _∙_}
 use borrow.Author.Needs.{needs}
-use Rattle.joining.proofs.Relief.{freed-count, joinable-next, placed-next, linkable, link-held, joinable-last, room-v, room-w}
+use Rattle.joining.proofs.Relieving.{reliefs-switches, relief-freed, joinable-next, placed-next, linkable, link-held, joinable-last, room-v, room-w}
 use Rattle.joining.proofs.join.Statement.{statement}
 use Rattle.joining.proofs.join.Tie as tie
 
@@ -28,9 +26,8 @@ join-spec =
     let j = r .before .before .before .before .pre .0 in
     let q = rw (r .relieve .ensures .1 .0) at (r2 .relieve2 .ensures .1) in
     rw (q .0) (linkable (joinable-last j) (q .1) (room-v j) (room-w j)))  -- link-requires
-    (λ c κs. tt)  -- switch-count-requires
-    (λ c κs. tt)  -- switch-count-requires-2
-    (λ c. omega arith)  -- add-t23
+    (λ c κs. tt)  -- both-reliefs-requires
+    (λ c κs. tt)  -- cut-off-requires
     (λ c. search needs)  -- same-length
     (λ c.
     let k = c .before .before .before .before in
@@ -41,9 +38,8 @@ join-spec =
     let q = rw (r .relieve .ensures .1 .0) at (r2 .relieve2 .ensures) in
     let l = rw (q .1 .0) at (k .link .ensures) in (
       (
-        ap₂ _+_ (c .before .switch-count .ensures .0 ∙ freed-count j (r .relieve .ensures .0))
-            (c .switch-count2 .ensures .0 ∙ freed-count (joinable-next j) (q .0)),
-        r .relieve .ensures .0,
+        c .before .both-reliefs .ensures ∙ reliefs-switches j (r .relieve .ensures .0) (q .0),
+        c .cut-off .ensures ∙ relief-freed j (r .relieve .ensures .0),
       ),
       (l .0, l .1 ∙ link-held (joinable-last j) (q .1 .1)),
     )))  -- returns

@@ -5,7 +5,7 @@ use native.Mathlib.Omega.{arith}
 use borrow.Author.Needs.{needs}
 use Rattle.joining.proofs.Held.{held-is}
 use Rattle.joining.proofs.Substitute.{class-below, end-within, substitute-in, room-in, full-in}
-use Rattle.joining.proofs.Relief.{switchable, shiftable, switch-freed, switch-bytes, switch-held}
+use Rattle.joining.proofs.Relieving.{switchable, shiftable, switch-relief, switch-bytes, switch-held}
 use Rattle.joining.proofs.relieve.Statement.{statement}
 use Rattle.joining.proofs.relieve.Tie as tie
 
@@ -49,7 +49,7 @@ relieve-spec =
     let at = held-is (s .args .n) (p .0 .few) (s .args .adjacency .now) (p .2) in
     let full = full-in (p .0) (p .1) _ at (i .if1 .left) in
     let chose = b .choose-substitute .ensures ∙ substitute-in (p .0) (p .1) _ at in (
-      t .neighbor-switch .ensures .0 .0 ∙ switch-freed (p .0) full chose,
+      rw (t .neighbor-switch .ensures .0 .0) (switch-relief (p .0) full chose),
       (
         t .neighbor-switch .ensures .1 ∙ switch-bytes (p .0) full chose,
         c .shift-edge .ensures ∙ switch-held (p .0) full chose (p .2),

@@ -13,9 +13,14 @@ use Rattle.graph.specs.Switch.{unsaturated}
 use Rattle.graph.specs.Tests.{degrees}
 use Rattle.layout.specs.Layout.{mostVertices}
 use Rattle.adjacency.specs.Adjacency.{adjacencySize, edge}
-use Rattle.joining.specs.Join.{own, transferAt}
+use Rattle.answer.specs.declared.switches.Switch.{Switch}
+use Rattle.answer.specs.declared.switches.Switches.{Switches}
+use Rattle.answer.specs.declared.switches.Switches.the-variants.{None, One, Two}
+use Rattle.joining.specs.Join.{own, transferAt, switchAt}
 use Rattle.classes.specs.Inner.Block.{Numbered, classFrom}
 use Rattle.joining.specs.declared.End.{End}
+use Rattle.joining.specs.declared.Relief.{Relief}
+use Rattle.joining.specs.declared.Relief.the-variants.{Room, Switched}
 
 -- how many bytes of a row are tested at once
 abbrev pub lanes : ℕ
@@ -45,6 +50,22 @@ pub record Placed (n : ℕ) (starts g : List ℕ) (a : End) (other : ℕ) : Type
 -- b, of a class with degree k, may stand in for a vertex of it; `held` says how many edges each has
 abbrev pub canStandIn : (ℕ → ℕ) → ℕ → ℕ → ℕ → Bool
 canStandIn held k other b = ltb (held b) k && not (eqb b other)
+
+-- what making room at a takes: nothing, or a switch
+abbrev pub reliefOf : ℕ → (ℕ → ℕ) → List ℕ → ℕ → ℕ → Relief
+reliefOf n cls g a other = cond (unsaturated n cls own (edge g) a) Room (Switched (switchAt n cls g a other))
+
+-- the switches of two reliefs, in the order made
+abbrev pub bothReliefs : Relief → Relief → Switches
+bothReliefs Room Room = None
+bothReliefs Room (Switched y) = One y
+bothReliefs (Switched x) Room = One x
+bothReliefs (Switched x) (Switched y) = Two x y
+
+-- the vertex that a relief cut off from its end; n where there was no switch
+abbrev pub cutOff : ℕ → Relief → ℕ
+cutOff n Room = n
+cutOff n (Switched x) = x .t
 
 -- the vertex that the switch of v cut off from v; n where v was not switched
 abbrev pub freed : ℕ → (ℕ → ℕ) → List ℕ → ℕ → ℕ → ℕ

@@ -1,10 +1,9 @@
 -- `joining::once::join_once` meets its contract: room is made at v, then at w, and then the edge is added.
 -- Assumes nothing.
-use mathlib.Core.Path.{ap₂, _∙_}
-use Prim.Native.Nat.{_+_}
+use mathlib.Core.Path.{_∙_}
 use native.Mathlib.Omega.{arith}
 use borrow.Author.Needs.{needs}
-use Rattle.joining.proofs.Relief.{freed-count, joinable-next, placed-next, joinable-last}
+use Rattle.joining.proofs.Relieving.{reliefs-switches, joinable-next, placed-next, joinable-last}
 use Rattle.joining.proofs.once.join_once.Statement.{statement}
 use Rattle.joining.proofs.once.join_once.Tie as tie
 
@@ -25,17 +24,14 @@ join-once-spec =
       omega (arith, j .few, j .pair .first),
       omega (arith, j .few, j .pair .second),
     ))  -- set-edge-requires
-    (λ c κs. tt)  -- switch-count-requires
-    (λ c κs. tt)  -- switch-count-requires-2
-    (λ c. omega arith)  -- add-result
+    (λ c κs. tt)  -- both-reliefs-requires
     (λ c. search needs)  -- same-length
     (λ c.
-    let e = c .before .before .before .before in
+    let e = c .before .before .before in
     let r2 = e .before .before .before .before in
     let r = r2 .before .before .before .before in
     let j = r .before .before .before .pre .0 in
     let q = rw (r .relieve .ensures .1) at (r2 .relieve2 .ensures) in (
-      ap₂ _+_ (c .before .switch-count .ensures .0 ∙ freed-count j (r .relieve .ensures .0))
-          (c .switch-count2 .ensures .0 ∙ freed-count (joinable-next j) (q .0)),
+      c .both-reliefs .ensures ∙ reliefs-switches j (r .relieve .ensures .0) (q .0),
       rw (q .1) at (e .set-edge .ensures),
     )))  -- returns

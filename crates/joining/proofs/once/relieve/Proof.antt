@@ -4,7 +4,7 @@ use mathlib.Core.Path.{refl, _∙_}
 use native.Mathlib.Omega.{arith}
 use borrow.Author.Needs.{needs}
 use Rattle.joining.proofs.Substitute.{class-below, end-within, substitute-in, room-in, full-in}
-use Rattle.joining.proofs.Relief.{switchable, switch-freed, switch-bytes}
+use Rattle.joining.proofs.Relieving.{switchable, switch-relief, switch-bytes}
 use Rattle.joining.proofs.once.relieve.Statement.{statement}
 use Rattle.joining.proofs.once.relieve.Tie as tie
 
@@ -39,6 +39,6 @@ relieve-spec =
     let p = d .before .before .before .pre in
     let full = full-in (p .0) (p .1) _ (λ i l. refl) (rw (d .degree-of .ensures .0) at (i .if1 .left)) in
     let chose = b .choose-substitute .ensures ∙ substitute-in (p .0) (p .1) _ (λ i l. refl) in (
-      s .neighbor-switch .ensures .0 .0 ∙ switch-freed (p .0) full chose,
+      rw (s .neighbor-switch .ensures .0 .0) (switch-relief (p .0) full chose),
       s .neighbor-switch .ensures .1 ∙ switch-bytes (p .0) full chose,
     )))  -- returns-2

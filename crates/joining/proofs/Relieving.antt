@@ -20,13 +20,37 @@ use Rattle.graph.proofs.Resume.{relief-degree}
 use Rattle.graph.proofs.Update.{degree-adds}
 use Rattle.adjacency.specs.Adjacency.{adjacencySize, side, edge, setEdge}
 use Rattle.adjacency.proofs.Set.{set-adds}
-use Rattle.joining.specs.Join.{own, substituteAt, transferAt, switchBytes, relieveBytes, relieveCount}
+use Rattle.joining.specs.Join.{own, substituteAt, transferAt, switchAt, switchBytes, relieveBytes, inOrder, joinSwitches}
 use Rattle.classes.specs.Inner.Block.{classFrom}
-use Rattle.joining.specs.Inner.Work.{degreesOf, Joinable, Placed, freed}
+use Rattle.joining.specs.Inner.Work.{degreesOf, Joinable, Placed, reliefOf, bothReliefs, cutOff, freed}
+use Rattle.answer.specs.declared.switches.Switch.{Switch}
 use Rattle.joining.specs.declared.End.{End}
+use Rattle.joining.specs.declared.Relief.{Relief}
+use Rattle.joining.specs.declared.Relief.the-variants.{Room, Switched}
 use Rattle.joining.proofs.Bytes.{relieve-bytes, ready-v, pair-w, sized-once}
 use Rattle.classes.proofs.Blocks.{start-most}
 use Rattle.joining.proofs.Held.{held-at, held-moved}
+
+-- x and y: what the reliefs of v and w took. Together they are the join's switches, and x tells what was cut off from v.
+module _ {n : ℕ} {cls : ℕ → ℕ} {g : List ℕ} {v w : ℕ} (j : Joinable n cls g v w) {x : Relief} (ex : x ≡ reliefOf n cls g v w) where
+  pub reliefs-switches : {y : Relief} → y ≡ reliefOf n cls (relieveBytes n cls g v w) w v → bothReliefs x y ≡ joinSwitches n cls g v w
+  reliefs-switches ey =
+      rw (ex, ey)
+      (go (unsaturated n cls own (edge g) v) (unsaturated n cls own (edge (relieveBytes n cls g v w)) w)
+      (switchAt n cls g v w) (switchAt n cls (relieveBytes n cls g v w) w v))
+    where
+      go : (p q : Bool) (x y : Switch) → bothReliefs (cond p Room (Switched x)) (cond q Room (Switched y)) ≡ inOrder p q x y
+      go true true x y = refl
+      go true false x y = refl
+      go false true x y = refl
+      go false false x y = refl
+
+  pub relief-freed : cutOff n x ≡ freed n cls g v w
+  relief-freed = rw ex (go (unsaturated n cls own (edge g) v))
+    where
+      go : (p : Bool) → cutOff n (cond p Room (Switched (switchAt n cls g v w))) ≡ cond p n (transferAt n cls g v w)
+      go true = refl
+      go false = refl
 
 module _ {n : ℕ} {cls : ℕ → ℕ} {g : List ℕ} {a o : ℕ} (j : Joinable n cls g a o) where
   abbrev b : ℕ
@@ -59,14 +83,6 @@ module _ {n : ℕ} {cls : ℕ → ℕ} {g : List ℕ} {a o : ℕ} (j : Joinable 
         (omega (arith, kept .from-a, held-at n (j .few) g a (j .pair .first)))
         (omega (arith, kept .to-b, held-at n (j .few) g b (chosen .b-vertex)))
         (kept .others)
-
-  -- the vertex cut off tells whether there was a switch
-  pub freed-count : {x : ℕ} → x ≡ freed n cls g a o → cond (ltb x n) 1 0 ≡ relieveCount n cls g a
-  freed-count h = rw h (go (unsaturated n cls own (edge g) a) refl)
-    where
-      go : (u : Bool) → unsaturated n cls own (edge g) a ≡ u → _≡_ {A = ℕ} (cond (ltb (cond u n t) n) 1 0) (cond u 0 1)
-      go true e = rw (le-ltb n n (omega arith))
-      go false e = rw (lt-ltb t n (chosen e .t-vertex))
 
   ready : Ready n degrees cls own (j .table) (edge g) a o (edge (relieveBytes n cls g a o))
   ready = ready-v n cls (j .table) g a o (j .sized) (j .few) (j .target) (j .partial) (j .pair)
@@ -120,8 +136,8 @@ module _ {n : ℕ} {cls : ℕ → ℕ} {g : List ℕ} {a o : ℕ} (j : Joinable 
     rw t-is (omega (arith, j .few, chosen j full .t-vertex)),
   )
 
-  pub switch-freed : transfer n (edge g) a b ≡ freed n cls g a o
-  switch-freed = rw full t-is
+  pub switch-relief : _≡_ {A = Relief} (Switched (record { a = a; b = b; t = transfer n (edge g) a b })) (reliefOf n cls g a o)
+  switch-relief = rw (t-is, chose, full)
 
   pub switch-bytes : switchBytes g a b (transfer n (edge g) a b) ≡ relieveBytes n cls g a o
   switch-bytes = rw (t-is, chose, full)

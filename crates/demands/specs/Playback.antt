@@ -1,0 +1,66 @@
+-- Playback (document 02, P2): "Playing the records onto the grid of before, each record's triples first and then its link, gives the grid of
+-- after." The player knows nothing of switching: it reads bytes, and removes and adds the edges that they name.
+-- Assumes nothing.
+use mathlib.Core.Path.{_≡_}
+use mathlib.Core.Bool.{Bool, true, _&&_, cond}
+use mathlib.Core.List.{List, [], _∷_}
+use Prim.Native.Nat.{ℕ, _+_, _*_, _/_, _≤_}
+use lib.Dec.{eqb}
+use lib.ListN.{length, getD, take}
+use Rattle.finite.specs.Range.{foldTo}
+use Rattle.answer.specs.Numbers.{addNumbers}
+use Rattle.answer.specs.declared.switches.Switches.{Switches}
+use Rattle.answer.specs.declared.AddAnswer.the-variants.{Added}
+use Rattle.answer.specs.declared.CompleteAnswer.the-variants.{Completed}
+use Rattle.journal.specs.Journal.{phase}
+use Rattle.adjacency.specs.Adjacency.{edge, setEdge}
+use Rattle.state.specs.Valid.{lengthsOk, valid}
+use Rattle.adding.specs.Add.{addAnswer, addAdjacency}
+use Rattle.completion.specs.Complete.{missing, completeAnswer, completeAdjacency, completeOutput}
+
+-- a matrix in play, and whether everything so far fitted it: an edge that was removed was there, one that was added was not
+pub record Played : Type 0 where
+  pub adjacency : List ℕ
+  pub fitted : Bool
+
+abbrev pub removeEdge : ℕ → ℕ → Played → Played
+removeEdge x y p = record { adjacency = setEdge (p .adjacency) x y 0; fitted = p .fitted && eqb (edge (p .adjacency) x y) 1 }
+
+abbrev pub addEdge : ℕ → ℕ → Played → Played
+addEdge x y p = record { adjacency = setEdge (p .adjacency) x y 1; fitted = p .fitted && eqb (edge (p .adjacency) x y) 0 }
+
+-- three bytes a, b, t: the edge a – t is removed, b – t added; unused bytes are 255
+abbrev pub playTriple : ℕ → ℕ → ℕ → Played → Played
+playTriple a b t p = cond (eqb a 255) p (addEdge b t (removeEdge a t p))
+
+-- record i, 8 bytes: its two triples, then its edge
+abbrev pub playRecord : List ℕ → ℕ → Played → Played
+playRecord records i p =
+    let at = λ (k : ℕ). getD records (8 * i + k) 0 in
+    addEdge (at 0) (at 1) (playTriple (at 5) (at 6) (at 7) (playTriple (at 2) (at 3) (at 4) p))
+
+-- all records, one after the other, onto the matrix g
+abbrev pub play : List ℕ → List ℕ → Played
+play records g = foldTo (length records / 8) (playRecord records) (record { adjacency = g; fitted = true })
+
+-- Completing a valid laid state into an output with room: it makes the missing joins, and its records, played onto the matrix of before, fit and give
+-- the matrix of after.
+pub record CompletingPlays (j g out : List ℕ) : Type 0 where
+  pub joins : ℕ
+  pub switches : ℕ
+  pub answer : completeAnswer j g (length out) ≡ Completed joins switches (8 * joins)
+  pub made : joins ≡ missing j g
+  pub played : play (take (8 * joins) (completeOutput (completeAnswer j g (length out)) j g out)) g
+      ≡ record { adjacency = completeAdjacency (completeAnswer j g (length out)) j g; fitted = true }
+
+-- an added edge as a record: its ends, and the triples that its answer hands back
+abbrev pub addedRecord : ℕ → ℕ → Switches → List ℕ
+addedRecord v w s =
+    let n = addNumbers (Added s) in
+    v ∷ w ∷ n .a1 ∷ n .b1 ∷ n .t1 ∷ n .a2 ∷ n .b2 ∷ n .t2 ∷ []
+
+pub record Playback : Type 0 where
+  pub completing : (j g out : List ℕ) → lengthsOk j g ≡ true → valid j g ≡ true → phase j ≡ 1 → 8 * missing j g ≤ length out →
+      CompletingPlays j g out
+  pub adding : (j g : List ℕ) (v w : ℕ) (s : Switches) → addAnswer j g v w ≡ Added s →
+      play (addedRecord v w s) g ≡ record { adjacency = addAdjacency (addAnswer j g v w) j g v w; fitted = true }
