@@ -8,6 +8,8 @@ use lib.Dec.{eqb, ltb}
 use lib.ListN.{length}
 use borrow.Author.Tests.{lt-ltb, eq-eqb, ne-eqb, ltb-true, eqb-true, eqb-false, not-true}
 use Rattle.answer.specs.declared.Refusal.{Refusal}
+use Rattle.answer.specs.declared.switches.Switches.{Switches}
+use Rattle.answer.specs.declared.switches.Switches.the-variants.{None}
 use Rattle.answer.specs.declared.AddAnswer.{AddAnswer}
 use Rattle.answer.specs.declared.AddAnswer.the-variants.{Added, Refused}
 use Rattle.answer.proofs.Checks.{unless-passed, unless-stopped-passed}
@@ -25,7 +27,7 @@ use Rattle.state.specs.Laid.{vertexCount, degreeAt, cellAt, isShort}
 use Rattle.state.proofs.Facts.{edgeTotal, StateFacts, Laid, valid-facts}
 use Rattle.state.proofs.Checks.{phase-passed, phase-go}
 use Rattle.state.proofs.Graph.{laid-valid}
-use Rattle.joining.specs.Join.{own, joinBytes, joinCount}
+use Rattle.joining.specs.Join.{own, joinBytes, joinSwitches}
 use Rattle.joining.proofs.Bytes.{join-bytes, join-length, join-outside}
 use Rattle.adding.specs.Add.{addAnswer}
 
@@ -40,11 +42,11 @@ abbrev IsAdded : AddAnswer → Type 0
 IsAdded (Added s) = Unit {0}
 IsAdded (Refused r) = ⊥
 
-refused-not-added : (s : ℕ) (r : Refusal) → Refused r ≡ Added s → ⊥
+refused-not-added : (s : Switches) (r : Refusal) → Refused r ≡ Added s → ⊥
 refused-not-added s r e = subst IsAdded (sym e) tt
 
 module _ (j g : List ℕ) (v w : ℕ) where
-  pub added-facts : (s : ℕ) → addAnswer j g v w ≡ Added s → AddFacts j g v w × (s ≡ joinCount (vertexCount j) (degreeAt j) g v w)
+  pub added-facts : (s : Switches) → addAnswer j g v w ≡ Added s → AddFacts j g v w × (s ≡ joinSwitches (vertexCount j) (degreeAt j) g v w)
   added-facts s e =
       let no = refused-not-added s in
       let p = unless-stopped-passed (phaseVerdict 1 j g) Refused _ (Added s) no e in
@@ -67,14 +69,14 @@ module _ (j g : List ℕ) (v w : ℕ) where
                 short = ltb-true (cellAt j g (degreeAt j v) (degreeAt j w)) (jdmOf j (degreeAt j v) (degreeAt j w)) (h .0);
               };
         },
-        ap count (sym (h .1)),
+        ap made (sym (h .1)),
       )
     where
-      count : AddAnswer → ℕ
-      count (Added n) = n
-      count (Refused r) = 0
+      made : AddAnswer → Switches
+      made (Added x) = x
+      made (Refused r) = None
 
-  pub facts-added : AddFacts j g v w → addAnswer j g v w ≡ Added (joinCount (vertexCount j) (degreeAt j) g v w)
+  pub facts-added : AddFacts j g v w → addAnswer j g v w ≡ Added (joinSwitches (vertexCount j) (degreeAt j) g v w)
   facts-added f =
       rw (
         phase-go 1 j g (f .lengths) (f .sound) (f .phased),

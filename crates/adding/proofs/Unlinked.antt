@@ -18,7 +18,7 @@ use Rattle.layout.proofs.Counted.{counted-total}
 use Rattle.journal.specs.Journal.{tableOf}
 use Rattle.adjacency.specs.Adjacency.{edge}
 use Rattle.classes.specs.Inner.Block.{startsOf, Numbered, classFrom, blockSum, BlockOf}
-use Rattle.joining.specs.Join.{joinBytes, joinCount}
+use Rattle.joining.specs.Join.{joinBytes, joinSwitches}
 use Rattle.joining.specs.Inner.Work.{Joinable, Placed}
 use Rattle.classes.proofs.Blocks.{start-rises, start-most, class-only, block-cell, table-numbered, table-classes}
 use Rattle.adding.specs.Add.{addAdjacency}
@@ -100,8 +100,8 @@ module _ (c : List ℕ) {counts s g : List ℕ} {v w : ℕ} (u : Unlinked (table
     pub join-read : joinBytes n (classFrom s) g v w ≡ joinBytes (vertices t) (vertexDegree t) g v w
     join-read = ap₂ (λ (m : ℕ) (cls : ℕ → ℕ). joinBytes m cls g v w) en (table-classes c ed es)
 
-    pub count-read : joinCount n (classFrom s) g v w ≡ joinCount (vertices t) (vertexDegree t) g v w
-    count-read = ap₂ (λ (m : ℕ) (cls : ℕ → ℕ). joinCount m cls g v w) en (table-classes c ed es)
+    pub switches-read : joinSwitches n (classFrom s) g v w ≡ joinSwitches (vertices t) (vertexDegree t) g v w
+    switches-read = ap₂ (λ (m : ℕ) (cls : ℕ → ℕ). joinSwitches m cls g v w) en (table-classes c ed es)
 
 -- on the table of a journal
 pub adjacency-of : (a : AddAnswer) (j g : List ℕ) (v w : ℕ) → addedAdjacency a (tableOf j) g v w ≡ addAdjacency a j g v w

@@ -8,7 +8,7 @@ use borrow.Author.Tests.{not-true, not-false, ltb-true}
 use Rattle.answer.specs.Refusals.{refusal}
 use Rattle.answer.specs.declared.Cause.the-variants.{CellFull}
 use Rattle.answer.specs.declared.AddAnswer.the-variants.{Added, Refused}
-use Rattle.adding.proofs.Unlinked.{starts-few, class-read, class-few, placed, block-of, short-read, joinable, join-read, count-read}
+use Rattle.adding.proofs.Unlinked.{starts-few, class-read, class-few, placed, block-of, short-read, joinable, join-read, switches-read}
 use Rattle.adding.proofs.add_unlinked.Statement.{statement}
 use Rattle.adding.proofs.add_unlinked.Tie as tie
 
@@ -116,6 +116,6 @@ add-unlinked-spec =
     let lw = class-read cells u ed es (s .args .w) ly in
     let e = short-read cells u ed es kd ld _ kv lw (h .is-short .ensures) ∙ not-false _ (i .if1 .left) in
     rw e (
-      ap Added (j .join-once .ensures .0 ∙ count-read cells u ed es (n .vertex-count .ensures)),
+      ap Added (j .join-once .ensures .0 ∙ switches-read cells u ed es (n .vertex-count .ensures)),
       j .join-once .ensures .1 ∙ join-read cells u ed es (n .vertex-count .ensures),
     )))  -- returns-2
