@@ -46,7 +46,7 @@ module _ (n : ℕ) (starts : List ℕ) (numbered : Numbered n starts) where
   ranged k l kC lC = record { first = kC; second = lC; rows = range k kC; columns = range l lC }
 
 -- a state of the work, and a cell of it
-module _ {n : ℕ} {cells starts held : List ℕ} {s : Ran} (p : Working n cells starts held s)
+module _ {n : ℕ} {cells starts held : List ℕ} {room : ℕ} {s : Ran} (p : Working n cells starts held room s)
     (k l : ℕ) (kC : k < degrees) (lC : l < degrees) where
   pub countable : Countable (s .adjacency) cells (cellIn starts k l)
   countable =
@@ -76,7 +76,7 @@ module _ {n : ℕ} {cells starts held : List ℕ} {s : Ran} (p : Working n cells
     missing-count : m ≡ cellMissing n (classFrom starts) (matrixOf cells) (s .adjacency) k l
     missing-count = rw (← (block-cell (p .arranged .numbered) (edge (s .adjacency)) k l kC lC)) e
 
-    pub fillable : Fillable n (classFrom starts) (cellIn starts k l) m s held
+    pub fillable : Fillable n (classFrom starts) (cellIn starts k l) m room s held
     fillable =
         record {
           table = matrixOf cells;
@@ -90,23 +90,23 @@ module _ {n : ℕ} {cells starts held : List ℕ} {s : Ran} (p : Working n cells
     cell-filled r er = er ∙ ap (λ (i : ℕ). foldTo i (λ i. cellStep n (classFrom starts) k l) s) missing-count
 
 -- the work goes on from any state that is sound
-module _ {n : ℕ} {cells starts held : List ℕ} {s : Ran} (p : Working n cells starts held s) where
-  pub working : (x : Ran) → Sound n (classFrom starts) (matrixOf cells) x → (h : List ℕ) → h ≡ degreesOf n (x .adjacency)
-      → Working n cells starts h x
-  working x sound h e = record { arranged = p .arranged; sound = sound; degrees-held = e }
+module _ {n : ℕ} {cells starts held : List ℕ} {room : ℕ} {s : Ran} (p : Working n cells starts held room s) where
+  pub working : (x : Ran) → Sound n (classFrom starts) (matrixOf cells) room x → (h : List ℕ) → h ≡ degreesOf n (x .adjacency)
+      → {left : ℕ} → left ≡ room → Working n cells starts h left x
+  working x sound h e er = record { arranged = p .arranged; sound = rw er sound; degrees-held = e }
 
-  pub working-sized : (x : Ran) → Sound n (classFrom starts) (matrixOf cells) x → length (x .adjacency) ≡ length (s .adjacency)
+  pub working-sized : (x : Ran) → Sound n (classFrom starts) (matrixOf cells) room x → length (x .adjacency) ≡ length (s .adjacency)
   working-sized x sound = sound .filling .sized ∙ sym (p .sound .filling .sized)
 
   -- x: the state after the first i cells of row k, and after the first i rows
   module _ (i : ℕ) (x : Ran) where
     pub cells-sound : (k : ℕ) → k + i ≤ degrees → x ≡ foldTo i (λ i. fillCell n (classFrom starts) (matrixOf cells) k (k + i)) s
-        → Sound n (classFrom starts) (matrixOf cells) x
-    cells-sound k h e = rw e (row-sound n (classFrom starts) (matrixOf cells) s (p .sound) k i h)
+        → Sound n (classFrom starts) (matrixOf cells) room x
+    cells-sound k h e = rw e (row-sound n (classFrom starts) (matrixOf cells) room s (p .sound) k i h)
 
     pub all-sound : i ≤ mostDegree → x ≡ foldTo i (λ i. fillRow n (classFrom starts) (matrixOf cells) (leastDegree + i)) s
-        → Sound n (classFrom starts) (matrixOf cells) x
-    all-sound h e = rw e (rows-sound n (classFrom starts) (matrixOf cells) s (p .sound) i h)
+        → Sound n (classFrom starts) (matrixOf cells) room x
+    all-sound h e = rw e (rows-sound n (classFrom starts) (matrixOf cells) room s (p .sound) i h)
 
   -- a class without vertices has no cell to fill
   module _ (k : ℕ) (kC : k < degrees) (empty : getD starts k 0 ≡ getD starts (k + 1) 0) where

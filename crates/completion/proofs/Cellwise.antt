@@ -129,13 +129,16 @@ module _ (n : ℕ) (cls : ℕ → ℕ) (T : ℕ → ℕ → ℕ) where
     part-short i h = count-short i h (part-filling i (omega arith) .1)
 
   -- no more edges than half the cells' sum
-  pub room : (fuel : ℕ) → allCells degrees T ≤ 2 * fuel → (g : List ℕ) → Filling n cls T g → edges n (edge g) ≤ fuel
-  room fuel enough g f =
+  pub edges-within : (g : List ℕ) → Filling n cls T g → 2 * edges n (edge g) ≤ allCells degrees T
+  edges-within g f =
       omega (
         arith,
         cells-twice n degrees cls (edge g) (f .partial .simple) (f .target .classed),
         sumTo-mono₂ degrees degrees (jdm n cls (edge g)) T (f .partial .within),
       )
+
+  pub room : (fuel : ℕ) → allCells degrees T ≤ 2 * fuel → (g : List ℕ) → Filling n cls T g → edges n (edge g) ≤ fuel
+  room fuel enough g f = omega (arith, edges-within g f)
 
   module _ (fuel : ℕ) (s₀ : Ran) (start : s₀ .joins ≡ 0) (enough : allCells degrees T ≤ 2 * fuel) where
     -- s is on the way of `run` from s₀

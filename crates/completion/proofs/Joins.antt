@@ -37,20 +37,20 @@ start-resumes n cls g c r =
     before-rows u h e = omega (arith, r .rows .only u (omega (arith, r .rows .ordered, r .rows .within)) e)
 
 -- x: the state after i of the joins
-module _ {n : ℕ} {cls : ℕ → ℕ} {c : Cell} {m : ℕ} {s : Ran} {held₀ : List ℕ} (p : Fillable n cls c m s held₀)
+module _ {n : ℕ} {cls : ℕ → ℕ} {c : Cell} {m room : ℕ} {s : Ran} {held₀ : List ℕ} (p : Fillable n cls c m room s held₀)
     (i : ℕ) (x : Ran) (e : x ≡ foldTo i (λ i. cellStep n cls (c .k) (c .l)) s) where
-  fill-sound : i ≤ m → Sound n cls (p .table) x
-  fill-sound h = rw e (part-sound n cls (p .table) s (p .sound) (c .k) (c .l) (p .ranged .first) (p .ranged .second) i (omega (arith, p .missing)))
+  fill-sound : i ≤ m → Sound n cls (p .table) room x
+  fill-sound h = rw e (part-sound n cls (p .table) room s (p .sound) (c .k) (c .l) (p .ranged .first) (p .ranged .second) i (omega (arith, p .missing)))
 
   pub fill-sized : i ≤ m → length (x .adjacency) ≡ length (s .adjacency)
   fill-sized h = fill-sound h .filling .sized ∙ sym (p .sound .filling .sized)
 
   pub fill-steppable : i < m → (u : Cursor) (held : List ℕ) → Resumes n cls (x .adjacency) c u → held ≡ degreesOf n (x .adjacency)
-      → Steppable n cls c u x held
-  fill-steppable h u held r d =
+      → {left : ℕ} → left ≡ room → Steppable n cls c u left x held
+  fill-steppable h u held r d er =
       record {
         table = p .table;
-        sound = fill-sound (omega arith);
+        sound = rw er (fill-sound (omega arith));
         short =
             rw e (part-short n cls (p .table) s (p .sound .filling) (c .k) (c .l) (p .ranged .first) (p .ranged .second) i (omega (arith, p .missing)));
         ranged = p .ranged;

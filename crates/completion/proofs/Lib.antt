@@ -1,7 +1,7 @@
 pub mod Chosen
 pub mod Cellwise
 pub mod Works
-pub mod Entry
+pub mod Recorded
 pub mod Cursor
 pub mod Search
 pub mod Sound

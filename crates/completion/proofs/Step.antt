@@ -3,34 +3,40 @@
 use mathlib.Core.Path.{_≡_, sym, ap, _∙_}
 use mathlib.Core.Bool.{false}
 use mathlib.Core.List.{List}
-use Prim.Native.Nat.{ℕ, _+_, _≤_, _<_, min}
+use Prim.Native.Nat.{ℕ, _+_, _*_, _≤_, _<_, min}
 use native.Mathlib.Decide.{decLt}
 use native.Mathlib.Omega.{arith}
 use lib.Dec.{ltb}
-use lib.ListN.{getD, length-replicate, replicate}
+use lib.ListN.{length, getD, take, length-replicate, replicate}
+use lib.Seq.{sets}
 use borrow.Author.Tests.{le-ltb, ltb-false}
 use Rattle.finite.specs.Range.{lowest}
 use Rattle.finite.proofs.Lowest.{lowest-le, lowest-ge, lowest-before}
 use Rattle.finite.proofs.Fold.{fillTo-at}
+use Rattle.answer.specs.Switches.{switchCount}
+use Rattle.answer.specs.declared.switches.Switches.{Switches}
 use Rattle.graph.specs.Graph.{degree}
 use Rattle.graph.specs.Switch.{unsaturated, Joined}
 use Rattle.graph.specs.Tests.{degrees}
 use Rattle.graph.proofs.Resume.{join-degree}
 use Rattle.layout.specs.Layout.{mostVertices}
 use Rattle.adjacency.specs.Adjacency.{edge}
-use Rattle.joining.specs.Join.{own, joinBytes, joinCount}
+use Rattle.joining.specs.Join.{own, joinBytes, joinSwitches}
 use Rattle.classes.specs.Inner.Block.{classFrom}
 use Rattle.joining.specs.Inner.Work.{degreesOf, Joinable, Placed, freed}
 use Rattle.joining.proofs.Bytes.{join-bytes}
 use Rattle.completion.specs.Choice.{openW, openV}
+use Rattle.completion.specs.Record.{recordSize, joinRecord}
 use Rattle.completion.specs.Complete.{Ran}
 use Rattle.completion.specs.Inner.Cellwise.{cellStep, Filling}
 use Rattle.completion.specs.Inner.Cursor.{ClassRange}
 use Rattle.completion.specs.Inner.Search.{lowestColumn, hasColumn, Searchable}
-use Rattle.completion.specs.Inner.Work.{Saturated, CellOf, Resumes, Steppable}
+use Rattle.completion.specs.Inner.Work.{Recorded, Saturated, CellOf, Resumes, Steppable}
 use Rattle.completion.specs.declared.pair.Cell.{Cell}
 use Rattle.completion.specs.declared.cell.Cursor.{Cursor}
-use Rattle.completion.proofs.Chosen.{Chosen, chosen}
+use Rattle.completion.proofs.Chosen.{Chosen, chosen, stepped}
+use Rattle.completion.proofs.Cellwise.{edges-within}
+use Rattle.completion.proofs.Recorded.{records-more, recorded-one}
 use Rattle.completion.proofs.Cursor.{rows-after, columns-after}
 use Rattle.completion.proofs.Search.{Found, found, searchable}
 
@@ -49,7 +55,7 @@ low-saturated n cls g held k from to low r few range eh lt sat er i ir ik = go (
         let i-to : i < to = omega (arith, lowest-le low to (λ i. ltb (getD held i 0) k) lt) in
         rw ik (rw (eh, held-at i-to) at passed)
 
-module _ {n : ℕ} {cls : ℕ → ℕ} {c : Cell} {u : Cursor} {s : Ran} {held : List ℕ} (p : Steppable n cls c u s held) where
+module _ {n : ℕ} {cls : ℕ → ℕ} {c : Cell} {u : Cursor} {room : ℕ} {s : Ran} {held : List ℕ} (p : Steppable n cls c u room s held) where
   abbrev g : List ℕ
   g = s .adjacency
 
@@ -93,6 +99,12 @@ module _ {n : ℕ} {cls : ℕ → ℕ} {c : Cell} {u : Cursor} {s : Ran} {held :
             (filling .partial) (chose .pair) (edge g′) joined i (omega arith),
       ))
 
+  -- there is an edge to add, so its record fits
+  pub step-room : recordSize * s .joins + recordSize ≤ room
+  step-room =
+      let st = stepped n cls (p .table) g filling k l (openV n cls g k l) (openW n cls g k l (openV n cls g k l)) chose in
+      omega (arith, p .sound .records-fit, st .one-more, edges-within n cls (p .table) g′ (st .filling))
+
   -- v and w: what the search for a pair found; x and y: what those for unsaturated vertices did
   module _ (v w : ℕ) (ev : v ≡ lowest (u .at .v) (c .rows .to) (hasColumn g c)) (ew : v < c .rows .to → w ≡ lowestColumn g c v) where
     pub pair-row : v ≡ openV n cls g k l
@@ -113,10 +125,26 @@ module _ {n : ℕ} {cls : ℕ → ℕ} {c : Cell} {u : Cursor} {s : Ran} {held :
           pair = chose .pair;
         })
 
-    -- the state after the join
-    pub step-ran : (g′ : List ℕ) (m : ℕ) → g′ ≡ joinBytes n cls g v w → m ≡ joinCount n cls g v w
-        → _≡_ {A = Ran} (record { adjacency = g′; joins = s .joins + 1; switches = s .switches + m }) (cellStep n cls k l s)
-    step-ran g′ m eg em = rw (eg, em, pair-row, pair-column)
+    -- what the step writes: the record of the pair with the join's switches x
+    module _ {x : Switches} (ex : x ≡ joinSwitches n cls g v w) where
+      -- the state after the join, its record being the last one in the output
+      pub step-ran : (out out′ g′ : List ℕ) → room ≡ length out → s .records ≡ take (recordSize * s .joins) out
+          → out′ ≡ sets out (recordSize * s .joins) (joinRecord v w x) → g′ ≡ joinBytes n cls g v w
+          → _≡_ {A = Ran}
+          (record {
+            adjacency = g′;
+            joins = s .joins + 1;
+            switches = s .switches + switchCount x;
+            records = take (recordSize * (s .joins + 1)) out′;
+          })
+          (cellStep n cls k l s)
+      step-ran out out′ g′ er es eo eg =
+          let fits : recordSize * s .joins + recordSize ≤ length out = omega (arith, step-room, er) in
+          rw (eo, records-more out (s .joins) v w x fits, ← es, eg, ex, pair-row, pair-column)
+
+      pub step-recorded : (out out′ : List ℕ) → room ≡ length out → out′ ≡ sets out (recordSize * s .joins) (joinRecord v w x)
+          → Recorded (s .joins) (s .joins + 1) out out′
+      step-recorded out out′ er eo = rw eo (recorded-one out (s .joins) v w x (omega (arith, step-room, er)))
 
     module _ (x y : ℕ) (ex : x ≡ lowest (u .low .v) (c .rows .to) (λ i. ltb (getD held i 0) (c .k)))
         (ey : y ≡ lowest (u .low .w) (c .columns .to) (λ i. ltb (getD held i 0) (c .l))) where
@@ -167,7 +195,8 @@ module _ {n : ℕ} {cls : ℕ → ℕ} {c : Cell} {u : Cursor} {s : Ran} {held :
           })
 
 -- both ends of the pair, with the classes as the starts have them
-module _ {n : ℕ} {starts : List ℕ} {c : Cell} {u : Cursor} {s : Ran} {held : List ℕ} (p : Steppable n (classFrom starts) c u s held)
+module _ {n : ℕ} {starts : List ℕ} {c : Cell} {u : Cursor} {room : ℕ} {s : Ran} {held : List ℕ}
+    (p : Steppable n (classFrom starts) c u room s held)
     (o : CellOf n starts c) (v w : ℕ) (ev : v ≡ lowest (u .at .v) (c .rows .to) (hasColumn (s .adjacency) c))
     (ew : v < c .rows .to → w ≡ lowestColumn (s .adjacency) c v)
     (x y : ℕ) (ex : x ≡ lowest (u .low .v) (c .rows .to) (λ i. ltb (getD held i 0) (c .k)))

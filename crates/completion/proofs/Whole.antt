@@ -2,33 +2,40 @@
 -- Assumes nothing.
 use mathlib.Core.Path.{_≡_, refl, sym, ap, ap₂, subst, _∙_}
 use mathlib.Core.List.{List}
-use Prim.Native.Nat.{ℕ, _≤_}
+use Prim.Native.Nat.{ℕ, _-_, _*_, _≤_, _<_}
 use native.Mathlib.Omega.{arith}
-use Rattle.graph.specs.Graph.{Simple, DegreeTable}
+use lib.ListN.{length, take}
+use lib.Seq.{sets}
+use borrow.Author.Tests.{le-leb, lt-leb}
+use Rattle.answer.specs.Refusals.{refusal}
+use Rattle.answer.specs.declared.Cause.the-variants.{OutputLength}
+use Rattle.answer.specs.declared.CompleteAnswer.the-variants.{Completed, Refused}
+use Rattle.graph.specs.Graph.{Simple, DegreeTable, edges}
+use Rattle.graph.specs.Theorems.{allCells}
 use Rattle.graph.specs.Numbering.{total}
 use Rattle.graph.specs.Tests.{degrees, vertices, vertexDegree}
 use Rattle.table.specs.Inner.Cells.{matrixOf}
-use Rattle.layout.specs.Layout.{mostVertices}
+use Rattle.layout.specs.Layout.{mostVertices, wanted}
 use Rattle.layout.specs.Inner.Arrays.{countIn, tableIn, Counts}
 use Rattle.layout.proofs.Counted.{counted-total}
-use Rattle.journal.specs.Journal.{tableOf}
+use Rattle.journal.specs.Journal.{tableOf, jdmOf}
 use Rattle.state.proofs.Facts.{StateFacts, Laid}
 use Rattle.answer.specs.declared.Verdict.the-variants.{Go}
 use Rattle.adjacency.specs.Adjacency.{edge}
+use Rattle.adjacency.proofs.Facts.{ZeroOutside}
 use Rattle.state.specs.Checks.{phaseVerdict}
+use Rattle.state.specs.Laid.{vertexCount, degreeAt}
 use Rattle.state.proofs.Checks.{phase-facts}
 use Rattle.joining.specs.Inner.Work.{degreesOf}
 use Rattle.classes.specs.Inner.Block.{startsOf, classFrom}
 use Rattle.classes.proofs.Blocks.{table-numbered, table-classes}
-use Rattle.completion.specs.Complete.{Ran, run, mostEdges, completed}
+use Rattle.completion.specs.Record.{recordSize}
+use Rattle.completion.specs.Complete.{Ran, fresh, run, mostEdges, completed, missing, completeLaid, completeAdjacency, completeOutput}
 use Rattle.completion.specs.Inner.Cellwise.{Filling, fillAll}
-use Rattle.completion.specs.Inner.Work.{Working}
-use Rattle.completion.proofs.Cellwise.{fill-all}
-use Rattle.completion.proofs.Works.{few-edges}
-
--- the matrix g, with nothing done yet
-abbrev fresh : List ℕ → Ran
-fresh g = record { adjacency = g; joins = 0; switches = 0 }
+use Rattle.completion.specs.Inner.Work.{Recorded, Working}
+use Rattle.completion.proofs.Cellwise.{edges-within, fill-all}
+use Rattle.completion.proofs.Recorded.{recorded-all}
+use Rattle.completion.proofs.Works.{few-edges, Finished, finishes}
 
 module _ (j g cells counts : List ℕ) (passed : phaseVerdict 1 j g ≡ Go) (ed : Counts cells counts)
     (said : tableIn cells (countIn counts 0) ≡ tableOf j) where
@@ -50,20 +57,47 @@ module _ (j g cells counts : List ℕ) (passed : phaseVerdict 1 j g ≡ Go) (ed 
   pub total-few : total degrees (countIn counts) ≤ mostVertices
   total-few = rw (counted-total cells counts ed) vertices-few
 
+  outside : ZeroOutside (vertices t) g
+  outside = subst (λ (u : DegreeTable). ZeroOutside (vertices u) g) (sym said) (laid .outside)
+
   filling : Filling (vertices t) (vertexDegree t) (t .cells) g
   filling =
       subst (λ (u : DegreeTable). Filling (vertices u) (vertexDegree u) (u .cells) g) (sym said)
       (record { sized = facts .adjacency-length; few = laid .vertices-le; target = laid .target; partial = laid .partial })
 
+  -- the cells' sum is twice the edges wanted
+  cells-sum : allCells degrees (t .cells) ≡ 2 * wanted (t .cells)
+  cells-sum = omega (arith, finishes (vertices t) (vertexDegree t) (t .cells) g filling outside .missing)
+
+  -- the missing edges, as the code counts them
+  module _ {n w e : ℕ} (en : n ≡ vertices t) (ew : w ≡ wanted (matrixOf cells)) (ee : e ≡ edges n (edge g)) where
+    laid-edges : e ≡ edges (vertices t) (edge g)
+    laid-edges = ee ∙ ap (λ (m : ℕ). edges m (edge g)) en
+
+    pub wanted-enough : e ≤ w
+    wanted-enough = omega (arith, laid-edges, cells-sum, edges-within (vertices t) (vertexDegree t) (t .cells) g filling)
+
+    pub wanted-most : w ≤ mostEdges
+    wanted-most = omega (arith, cells-sum, few-edges (vertices t) (vertexDegree t) (t .cells) (filling .target) (filling .few))
+
+    pub missing-is : w - e ≡ missing j g
+    missing-is = ap₂ _-_ ew laid-edges ∙ ap (λ (u : DegreeTable). wanted (u .cells) - edges (vertices u) (edge g)) said
+
   module _ (n : ℕ) (starts held : List ℕ) (en : n ≡ vertices t) (es : starts ≡ startsOf counts) (eh : held ≡ degreesOf n g) where
     classed-filling : Filling n (classFrom starts) (matrixOf cells) g
     classed-filling = rw (en, table-classes cells ed es) filling
 
-    pub working-start : Working n cells starts held (fresh g)
-    working-start =
+    pub working-start : (room : ℕ) → recordSize * missing j g ≤ room → Working n cells starts held room (fresh g)
+    working-start room fits =
         record {
           arranged = record { few = omega (arith, vertices-few); numbered = rw en (table-numbered cells ed es) };
-          sound = record { filling = classed-filling; joins-le = omega arith; switches-le = omega arith };
+          sound =
+              record {
+                filling = classed-filling;
+                joins-le = omega arith;
+                switches-le = omega arith;
+                records-fit = omega (arith, fits, cells-sum, missing-is en refl refl, wanted-enough en refl refl);
+              };
           degrees-held = eh;
         }
 
@@ -74,3 +108,47 @@ module _ (j g cells counts : List ℕ) (passed : phaseVerdict 1 j g ≡ Go) (ed 
         (few-edges n (classFrom starts) (matrixOf cells) (classed-filling .target) (classed-filling .few)) classed-filling)
         ∙ ap₂ (λ (m : ℕ) (cls : ℕ → ℕ). run mostEdges m cls (matrixOf cells) (fresh g)) en (table-classes cells ed es)
         ∙ ap (λ (u : DegreeTable). run mostEdges (vertices u) (vertexDegree u) (u .cells) (fresh g)) said
+
+-- what the answer says, by the room that there is
+module _ (j g : List ℕ) (m : ℕ) where
+  pub laid-short : m < recordSize * missing j g → completeLaid j g m ≡ Refused (refusal OutputLength 0 0)
+  laid-short h = rw (lt-leb (recordSize * missing j g) m h)
+
+  pub laid-roomy : recordSize * missing j g ≤ m
+      → completeLaid j g m ≡ Completed (completed j g .joins) (completed j g .switches) (length (completed j g .records))
+  laid-roomy h = rw (le-leb (recordSize * missing j g) m h)
+
+-- the work done, in the state r
+module _ (j g : List ℕ) (passed : phaseVerdict 1 j g ≡ Go) {r : Ran} (e : r ≡ completed j g) where
+  laid-filling : Filling (vertexCount j) (degreeAt j) (jdmOf j) g
+  laid-filling =
+      let f = phase-facts 1 j g passed in
+      let l = f .0 .laid (f .1) in
+      record { sized = f .0 .adjacency-length; few = l .vertices-le; target = l .target; partial = l .partial }
+
+  finished : Finished (vertexCount j) (degreeAt j) (jdmOf j) g (completed j g)
+  finished =
+      let f = phase-facts 1 j g passed in
+      finishes (vertexCount j) (degreeAt j) (jdmOf j) g laid-filling (f .0 .laid (f .1) .outside)
+
+  made : r .joins ≡ missing j g
+  made = omega (arith, ap (λ (s : Ran). s .joins) e, finished .counted, finished .missing)
+
+  pub joins-few : r .joins ≤ mostEdges
+  joins-few = omega (arith, made, few-edges (vertexCount j) (degreeAt j) (jdmOf j) (laid-filling .target) (laid-filling .few))
+
+  -- its records stand at the start of the output out′
+  pub work-done : (out out′ : List ℕ) → recordSize * missing j g ≤ length out → Recorded 0 (r .joins) out out′
+      → take (recordSize * r .joins) out′ ≡ r .records
+      → (Completed (r .joins) (r .switches) (recordSize * r .joins) ≡ completeLaid j g (length out))
+      × ((r .adjacency ≡ completeAdjacency (completeLaid j g (length out)) j g)
+      × (out′ ≡ completeOutput (completeLaid j g (length out)) j g out))
+  work-done out out′ fits recorded records =
+      let whole = recorded-all (r .joins) out out′ (r .records) recorded (omega (arith, made, fits)) records in
+      rw (laid-roomy j g (length out) fits) (
+        ap (Completed (r .joins) (r .switches)) (whole .1) ∙ ap (λ (s : Ran). Completed (s .joins) (s .switches) (length (s .records))) e,
+        (
+          ap (λ (s : Ran). s .adjacency) e,
+          whole .0 ∙ ap (λ (s : Ran). sets out 0 (s .records)) e,
+        ),
+      )

@@ -27,7 +27,7 @@ use Rattle.adjacency.proofs.Facts.{ZeroOutside}
 use Rattle.joining.specs.Join.{own, joinBytes}
 use Rattle.joining.proofs.Bytes.{join-bytes, join-outside}
 use Rattle.completion.specs.Choice.{shortCell, shortL, shortK, openW, openV}
-use Rattle.completion.specs.Complete.{Ran, next, isIncomplete, run, mostEdges}
+use Rattle.completion.specs.Complete.{Ran, fresh, next, isIncomplete, run, mostEdges}
 use Rattle.completion.specs.Inner.Cellwise.{Filling}
 use Rattle.completion.proofs.Chosen.{chosen, stepped}
 
@@ -167,7 +167,7 @@ module _ (n : ℕ) (cls : ℕ → ℕ) (T : ℕ → ℕ → ℕ) where
     pub missing : allCells degrees T ≡ 2 * edges n (edge (r .adjacency))
 
   pub finishes : (g : List ℕ) → Filling n cls T g → ZeroOutside n g
-      → Finished g (run mostEdges n cls T (record { adjacency = g; joins = 0; switches = 0 }))
+      → Finished g (run mostEdges n cls T (fresh g))
   finishes g f out =
       record {
         filling = r .good .0;
@@ -177,8 +177,5 @@ module _ (n : ℕ) (cls : ℕ → ℕ) (T : ℕ → ℕ → ℕ) where
         missing = r .missing;
       }
     where
-      start : Ran
-      start = record { adjacency = g; joins = 0; switches = 0 }
-
-      r : Ended n degrees cls own T lowest-pair start (run mostEdges n cls T start)
-      r = completes-by-any-rule n degrees cls own T (f .target) Ran lowest-pair mostEdges start (f, out) (omega (arith, few-edges (f .target) (f .few)))
+      r : Ended n degrees cls own T lowest-pair (fresh g) (run mostEdges n cls T (fresh g))
+      r = completes-by-any-rule n degrees cls own T (f .target) Ran lowest-pair mostEdges (fresh g) (f, out) (omega (arith, few-edges (f .target) (f .few)))

@@ -2,16 +2,19 @@
 ghost use mathlib.Core.Path.{_≡_};
 ghost use Prim.Native.Nat.{_+_, _≤_, _<_};
 ghost use lib.Dec.{ltb};
-ghost use lib.ListN.{getD};
+ghost use lib.ListN.{length, getD};
 ghost use Rattle.finite.specs.Range.{lowest, foldTo};
 ghost use Rattle.adjacency.specs.Adjacency.{side};
 ghost use Rattle.classes.specs.Inner.Block.{classFrom};
 ghost use Rattle.joining.specs.Inner.Work.{degreesOf};
 ghost use Rattle.completion.specs.Inner.Cellwise.{cellStep};
-ghost use Rattle.completion.specs.Inner.Work.{ran, CellOf, Resumes, Steppable, Fillable};
+ghost use Rattle.completion.specs.Inner.Work.{ran, Recorded, CellOf, Resumes, Steppable, Fillable};
 use crate::pair::Cell;
 use crate::pair::Pair;
 use crate::pair::open_pair;
+use crate::record::RECORD_SIZE;
+use crate::record::put_record;
+use answer::switches::switch_count;
 use classes::STARTS;
 use joining::End;
 use layout::MOST_VERTICES;
@@ -49,9 +52,10 @@ fn advance(held: &[usize; MOST_VERTICES], from: usize, to: usize, k: usize) -> u
     i
 }
 
-// The lowest open pair of the cell joined. A switch of v may free a column that was passed: the cursor falls to it.
+// The lowest open pair of the cell joined, and its record written. A switch of v may free a column that was passed: the cursor falls to it.
 fn fill_step(
     adjacency: &mut [u8],
+    output: &mut [u8],
     held: &mut [usize; MOST_VERTICES],
     starts: &[usize; STARTS],
     n: usize,
@@ -59,8 +63,9 @@ fn fill_step(
     cursor: Cursor,
     totals: Totals,
 ) -> Step
-    requires { ⌜ Steppable n (classFrom (now starts)) cell cursor (ran (now adjacency) totals) (now held) × CellOf n (now starts) cell ⌝ }
-    ensures { λ r. ⌜ (ran (now (adjacency .exit)) (r .totals) ≡ cellStep n (classFrom (now (starts .entry))) (cell .k) (cell .l) (ran (now (adjacency .entry)) totals)) × Resumes n (classFrom (now (starts .entry))) (now (adjacency .exit)) cell (r .cursor) ⌝ }
+    requires { ⌜ Steppable n (classFrom (now starts)) cell cursor (length (now output)) (ran (now adjacency) (now output) totals) (now held) × CellOf n (now starts) cell ⌝ }
+    ensures { λ r. ⌜ (ran (now (adjacency .exit)) (now (output .exit)) (r .totals) ≡ cellStep n (classFrom (now (starts .entry))) (cell .k) (cell .l) (ran (now (adjacency .entry)) (now (output .entry)) totals)) × Resumes n (classFrom (now (starts .entry))) (now (adjacency .exit)) cell (r .cursor) ⌝ }
+    ensures { λ r. ⌜ Recorded (totals .joins) (r .totals .joins) (now (output .entry)) (now (output .exit)) ⌝ }
     ensures { λ _. ⌜ now (held .exit) ≡ degreesOf n (now (adjacency .exit)) ⌝ }
 {
     let pair = open_pair(adjacency, cell, cursor.at.v, cursor.at.w);
@@ -77,6 +82,8 @@ fn fill_step(
         low: w,
     };
     let done = joining::join(adjacency, held, starts, n, row, column);
+    let made = done.switches;
+    put_record(output, RECORD_SIZE * totals.joins, pair.v, pair.w, made);
     let next = least(done.freed, pair.w + 1);
     Step {
         cursor: Cursor {
@@ -85,7 +92,7 @@ fn fill_step(
         },
         totals: Totals {
             joins: totals.joins + 1,
-            switches: totals.switches + done.switches,
+            switches: totals.switches + switch_count(made),
         },
     }
 }
@@ -93,6 +100,7 @@ fn fill_step(
 // m joins in the cell.
 pub fn fill_cell(
     adjacency: &mut [u8],
+    output: &mut [u8],
     held: &mut [usize; MOST_VERTICES],
     starts: &[usize; STARTS],
     n: usize,
@@ -100,8 +108,9 @@ pub fn fill_cell(
     m: usize,
     totals: Totals,
 ) -> Totals
-    requires { ⌜ Fillable n (classFrom (now starts)) cell m (ran (now adjacency) totals) (now held) × CellOf n (now starts) cell ⌝ }
-    ensures { λ r. ⌜ ran (now (adjacency .exit)) r ≡ foldTo m (λ i. cellStep n (classFrom (now (starts .entry))) (cell .k) (cell .l)) (ran (now (adjacency .entry)) totals) ⌝ }
+    requires { ⌜ Fillable n (classFrom (now starts)) cell m (length (now output)) (ran (now adjacency) (now output) totals) (now held) × CellOf n (now starts) cell ⌝ }
+    ensures { λ r. ⌜ ran (now (adjacency .exit)) (now (output .exit)) r ≡ foldTo m (λ i. cellStep n (classFrom (now (starts .entry))) (cell .k) (cell .l)) (ran (now (adjacency .entry)) (now (output .entry)) totals) ⌝ }
+    ensures { λ r. ⌜ Recorded (totals .joins) (r .joins) (now (output .entry)) (now (output .exit)) ⌝ }
     ensures { λ _. ⌜ now (held .exit) ≡ degreesOf n (now (adjacency .exit)) ⌝ }
 {
     let mut cursor = Cursor {
@@ -116,7 +125,7 @@ pub fn fill_cell(
     };
     let mut sum = totals;
     for _ in 0..m {
-        let step = fill_step(adjacency, held, starts, n, cell, cursor, sum);
+        let step = fill_step(adjacency, output, held, starts, n, cell, cursor, sum);
         cursor = step.cursor;
         sum = step.totals;
     }

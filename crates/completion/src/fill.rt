@@ -10,7 +10,7 @@ ghost use Rattle.adjacency.specs.Adjacency.{adjacencySize, edge};
 ghost use Rattle.joining.specs.Inner.Work.{degreesOf};
 ghost use Rattle.classes.specs.Inner.Block.{classFrom, blockSum};
 ghost use Rattle.completion.specs.Inner.Cellwise.{fillCell, fillRow, fillAll};
-ghost use Rattle.completion.specs.Inner.Work.{ran, cellIn, Countable, Working};
+ghost use Rattle.completion.specs.Inner.Work.{ran, Recorded, cellIn, Countable, Working};
 use crate::cell::Totals;
 use crate::cell::fill_cell;
 use crate::pair::Cell;
@@ -73,6 +73,7 @@ fn missing(adjacency: &[u8], cells: &[u32; CELLS], c: Cell) -> usize
 // Cell (k, l) filled.
 fn complete_cell(
     adjacency: &mut [u8],
+    output: &mut [u8],
     held: &mut [usize; MOST_VERTICES],
     cells: &[u32; CELLS],
     starts: &[usize; STARTS],
@@ -81,18 +82,20 @@ fn complete_cell(
     l: usize,
     totals: Totals,
 ) -> Totals
-    requires { ⌜ Working n (now cells) (now starts) (now held) (ran (now adjacency) totals) × (k < degrees) × (l < degrees) ⌝ }
-    ensures { λ r. ⌜ ran (now (adjacency .exit)) r ≡ fillCell n (classFrom (now (starts .entry))) (matrixOf (now (cells .entry))) k l (ran (now (adjacency .entry)) totals) ⌝ }
+    requires { ⌜ Working n (now cells) (now starts) (now held) (length (now output)) (ran (now adjacency) (now output) totals) × (k < degrees) × (l < degrees) ⌝ }
+    ensures { λ r. ⌜ ran (now (adjacency .exit)) (now (output .exit)) r ≡ fillCell n (classFrom (now (starts .entry))) (matrixOf (now (cells .entry))) k l (ran (now (adjacency .entry)) (now (output .entry)) totals) ⌝ }
+    ensures { λ r. ⌜ Recorded (totals .joins) (r .joins) (now (output .entry)) (now (output .exit)) ⌝ }
     ensures { λ _. ⌜ now (held .exit) ≡ degreesOf n (now (adjacency .exit)) ⌝ }
 {
     let c = cell_at(starts, k, l);
     let m = missing(adjacency, cells, c);
-    fill_cell(adjacency, held, starts, n, c, m, totals)
+    fill_cell(adjacency, output, held, starts, n, c, m, totals)
 }
 
 // The cells of row k, from the diagonal on. A class without vertices has none to fill.
 fn complete_row(
     adjacency: &mut [u8],
+    output: &mut [u8],
     held: &mut [usize; MOST_VERTICES],
     cells: &[u32; CELLS],
     starts: &[usize; STARTS],
@@ -100,8 +103,9 @@ fn complete_row(
     k: usize,
     totals: Totals,
 ) -> Totals
-    requires { ⌜ Working n (now cells) (now starts) (now held) (ran (now adjacency) totals) × (k < degrees) ⌝ }
-    ensures { λ r. ⌜ ran (now (adjacency .exit)) r ≡ fillRow n (classFrom (now (starts .entry))) (matrixOf (now (cells .entry))) k (ran (now (adjacency .entry)) totals) ⌝ }
+    requires { ⌜ Working n (now cells) (now starts) (now held) (length (now output)) (ran (now adjacency) (now output) totals) × (k < degrees) ⌝ }
+    ensures { λ r. ⌜ ran (now (adjacency .exit)) (now (output .exit)) r ≡ fillRow n (classFrom (now (starts .entry))) (matrixOf (now (cells .entry))) k (ran (now (adjacency .entry)) (now (output .entry)) totals) ⌝ }
+    ensures { λ r. ⌜ Recorded (totals .joins) (r .joins) (now (output .entry)) (now (output .exit)) ⌝ }
     ensures { λ _. ⌜ now (held .exit) ≡ degreesOf n (now (adjacency .exit)) ⌝ }
 {
     if starts[k] == starts[k + 1] {
@@ -109,7 +113,7 @@ fn complete_row(
     }
     let mut sum = totals;
     for i in 0..DEGREES - k {
-        sum = complete_cell(adjacency, held, cells, starts, n, k, k + i, sum);
+        sum = complete_cell(adjacency, output, held, cells, starts, n, k, k + i, sum);
     }
     sum
 }
@@ -117,18 +121,20 @@ fn complete_row(
 // All cells, row by row.
 pub fn complete_rows(
     adjacency: &mut [u8],
+    output: &mut [u8],
     held: &mut [usize; MOST_VERTICES],
     cells: &[u32; CELLS],
     starts: &[usize; STARTS],
     n: usize,
     totals: Totals,
 ) -> Totals
-    requires { ⌜ Working n (now cells) (now starts) (now held) (ran (now adjacency) totals) ⌝ }
-    ensures { λ r. ⌜ ran (now (adjacency .exit)) r ≡ fillAll n (classFrom (now (starts .entry))) (matrixOf (now (cells .entry))) (ran (now (adjacency .entry)) totals) ⌝ }
+    requires { ⌜ Working n (now cells) (now starts) (now held) (length (now output)) (ran (now adjacency) (now output) totals) ⌝ }
+    ensures { λ r. ⌜ ran (now (adjacency .exit)) (now (output .exit)) r ≡ fillAll n (classFrom (now (starts .entry))) (matrixOf (now (cells .entry))) (ran (now (adjacency .entry)) (now (output .entry)) totals) ⌝ }
+    ensures { λ r. ⌜ Recorded (totals .joins) (r .joins) (now (output .entry)) (now (output .exit)) ⌝ }
 {
     let mut sum = totals;
     for i in 0..DEGREES - 1 {
-        sum = complete_row(adjacency, held, cells, starts, n, 1 + i, sum);
+        sum = complete_row(adjacency, output, held, cells, starts, n, 1 + i, sum);
     }
     sum
 }

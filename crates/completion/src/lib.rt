@@ -1,50 +1,64 @@
-// Completing (document 01: finish): the checks 1, 2 and 3, then cell by cell each cell gets the joins that it misses.
+// Completing (document 01: finish): the checks 1, 2, 3 and 18, then cell by cell each cell gets the joins that it misses; for each join a record
+// is written.
 ghost use mathlib.Core.Path.{_≡_};
+ghost use Prim.Native.Nat.{_*_};
+ghost use lib.ListN.{length};
 ghost use Rattle.answer.specs.declared.Verdict.the-variants.{Go};
 ghost use Rattle.state.specs.Checks.{phaseVerdict};
-ghost use Rattle.completion.specs.Complete.{completed, completeAnswer, completeAdjacency};
-ghost use Rattle.completion.specs.Inner.Work.{ran};
+ghost use Rattle.completion.specs.Record.{recordSize};
+ghost use Rattle.completion.specs.Complete.{missing, completeLaid, completeAnswer, completeAdjacency, completeOutput};
 
 mod cell;
 mod fill;
 mod pair;
+pub mod record;
 
 use crate::cell::Totals;
 use crate::fill::complete_rows;
+use crate::record::RECORD_SIZE;
+use adjacency::edge_count;
+use answer::Cause;
 use answer::CompleteAnswer;
 use answer::Verdict;
+use answer::refuse;
+use layout::edges_wanted;
 use layout::vertex_count;
 use state::phase_check;
 use state::sum_table;
 use table::cells::CELLS;
 
-// On a valid laid state: the joins that are missing.
-fn complete_laid(journal: &[u8], adjacency: &mut [u8]) -> Totals
+// On a valid laid state: the check 18, then the joins that are missing.
+fn complete_laid(journal: &[u8], adjacency: &mut [u8], output: &mut [u8]) -> CompleteAnswer
     requires { ⌜ phaseVerdict 1 (now journal) (now adjacency) ≡ Go ⌝ }
-    ensures { λ r. ⌜ ran (now (adjacency .exit)) r ≡ completed (now (journal .entry)) (now (adjacency .entry)) ⌝ }
+    ensures { λ r. ⌜ r ≡ completeLaid (now (journal .entry)) (now (adjacency .entry)) (length (now (output .entry))) ⌝ }
+    ensures { λ _. ⌜ now (adjacency .exit) ≡ completeAdjacency (completeLaid (now (journal .entry)) (now (adjacency .entry)) (length (now (output .entry)))) (now (journal .entry)) (now (adjacency .entry)) ⌝ }
+    ensures { λ _. ⌜ now (output .exit) ≡ completeOutput (completeLaid (now (journal .entry)) (now (adjacency .entry)) (length (now (output .entry)))) (now (journal .entry)) (now (adjacency .entry)) (now (output .entry)) ⌝ }
 {
     let mut cells = [0u32; CELLS];
     let d = sum_table(journal, &mut cells);
     let n = vertex_count(&cells, &d);
+    let missing = edges_wanted(&cells) - edge_count(adjacency, n);
+    if output.len() < RECORD_SIZE * missing {
+        return CompleteAnswer::Refused(refuse(Cause::OutputLength, 0, 0));
+    }
     let s = classes::starts(&d);
     let mut held = joining::degrees(adjacency, n);
     let none = Totals {
         joins: 0,
         switches: 0,
     };
-    complete_rows(adjacency, &mut held, &cells, &s, n, none)
+    let done = complete_rows(adjacency, output, &mut held, &cells, &s, n, none);
+    CompleteAnswer::Completed(done.joins, done.switches, RECORD_SIZE * done.joins)
 }
 
-pub fn complete(journal: &[u8], adjacency: &mut [u8]) -> CompleteAnswer
-    ensures { λ r. ⌜ r ≡ completeAnswer (now (journal .entry)) (now (adjacency .entry)) ⌝ }
-    ensures { λ _. ⌜ now (adjacency .exit) ≡ completeAdjacency (completeAnswer (now (journal .entry)) (now (adjacency .entry))) (now (journal .entry)) (now (adjacency .entry)) ⌝ }
+pub fn complete(journal: &[u8], adjacency: &mut [u8], output: &mut [u8]) -> CompleteAnswer
+    ensures { λ r. ⌜ r ≡ completeAnswer (now (journal .entry)) (now (adjacency .entry)) (length (now (output .entry))) ⌝ }
+    ensures { λ _. ⌜ now (adjacency .exit) ≡ completeAdjacency (completeAnswer (now (journal .entry)) (now (adjacency .entry)) (length (now (output .entry)))) (now (journal .entry)) (now (adjacency .entry)) ⌝ }
+    ensures { λ _. ⌜ now (output .exit) ≡ completeOutput (completeAnswer (now (journal .entry)) (now (adjacency .entry)) (length (now (output .entry)))) (now (journal .entry)) (now (adjacency .entry)) (now (output .entry)) ⌝ }
 {
     let verdict = phase_check(journal, adjacency, 1);
     match verdict {
         Verdict::Stop(r) => CompleteAnswer::Refused(r),
-        Verdict::Go => {
-            let totals = complete_laid(journal, adjacency);
-            CompleteAnswer::Completed(totals.joins, totals.switches)
-        }
+        Verdict::Go => complete_laid(journal, adjacency, output),
     }
 }

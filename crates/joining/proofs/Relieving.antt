@@ -22,8 +22,10 @@ use Rattle.adjacency.specs.Adjacency.{adjacencySize, side, edge, setEdge}
 use Rattle.adjacency.proofs.Set.{set-adds}
 use Rattle.joining.specs.Join.{own, substituteAt, transferAt, switchAt, switchBytes, relieveBytes, inOrder, joinSwitches}
 use Rattle.classes.specs.Inner.Block.{classFrom}
-use Rattle.joining.specs.Inner.Work.{degreesOf, Joinable, Placed, reliefOf, bothReliefs, cutOff, freed}
+use Rattle.joining.specs.Inner.Work.{degreesOf, Joinable, Placed, InBytes, reliefOf, bothReliefs, cutOff, freed}
+use Rattle.answer.specs.Switches.{noSwitch, firstSwitch, secondSwitch}
 use Rattle.answer.specs.declared.switches.Switch.{Switch}
+use Rattle.answer.specs.declared.switches.Switches.{Switches}
 use Rattle.joining.specs.declared.End.{End}
 use Rattle.joining.specs.declared.Relief.{Relief}
 use Rattle.joining.specs.declared.Relief.the-variants.{Room, Switched}
@@ -164,6 +166,32 @@ module _ {n : ℕ} {cls : ℕ → ℕ} {g held : List ℕ} {a o : ℕ} (j : Join
 
   pub link-held : set (set held a (getD held a 0 + 1)) o (getD held o 0 + 1) ≡ degreesOf n (setEdge g a o 1)
   link-held = rw is (held-linked j)
+
+-- the vertices of a join's switches are bytes, as what stands for one that was not needed
+pub switches-bytes : {n : ℕ} {cls : ℕ → ℕ} {g : List ℕ} {v w : ℕ} → Joinable n cls g v w → {s : Switches} → s ≡ joinSwitches n cls g v w
+    → InBytes (firstSwitch s) × InBytes (secondSwitch s)
+switches-bytes {n} {cls} {g} {v} {w} j e =
+    rw e
+    (go (unsaturated n cls own (edge g) v) (unsaturated n cls own (edge (relieveBytes n cls g v w)) w) (switchAt n cls g v w)
+    (switchAt n cls (relieveBytes n cls g v w) w v) (at j) (at (joinable-next j)))
+  where
+    at : {g : List ℕ} {a o : ℕ} → Joinable n cls g a o → unsaturated n cls own (edge g) a ≡ false → InBytes (switchAt n cls g a o)
+    at i full =
+        record {
+          a = omega (arith, i .pair .first, i .few);
+          b = omega (arith, chosen i full .b-vertex, i .few);
+          t = omega (arith, chosen i full .t-vertex, i .few);
+        }
+
+    none : InBytes noSwitch
+    none = record { a = omega arith; b = omega arith; t = omega arith }
+
+    go : (p q : Bool) (x y : Switch) → (p ≡ false → InBytes x) → (q ≡ false → InBytes y)
+        → InBytes (firstSwitch (inOrder p q x y)) × InBytes (secondSwitch (inOrder p q x y))
+    go true true x y f h = (none, none)
+    go true false x y f h = (h refl, none)
+    go false true x y f h = (f refl, none)
+    go false false x y f h = (f refl, h refl)
 
 -- after room was made at v no vertex but v has lost an edge: w's substitutes are where they were
 pub placed-next : {n : ℕ} {starts g : List ℕ} (v w : End) → Joinable n (classFrom starts) g (v .at) (w .at) → Placed n starts g w (v .at)

@@ -6,9 +6,9 @@ use Prim.Native.Nat.{ℕ, zero, suc, _+_, _-_, _≤_, _<_, min}
 use native.Mathlib.Nat.{add-zero, zero-add}
 use native.Mathlib.Decide.{decLt}
 use native.Mathlib.Omega.{arith}
-use lib.ListN.{length, getD, set, take, drop, length-take, length-drop, length-set, List·getD-eq-default}
+use lib.ListN.{length, getD, set, take, drop, length-append, length-take, length-drop, length-set, List·getD-eq-default}
 use Rattle.slices.specs.Slices.{further}
-use lib.Seq.{sets, sets-eq, take-append-seam, drop-append-seam, getD-take, getD-drop, getD-set-same, getD-set-other, ext-getD}
+use lib.Seq.{sets, sets-eq, length-take-le, take-at, drop-at, drop-drop, getD-take, getD-drop, getD-set-same, getD-set-other, ext-getD}
 
 -- the n elements from place k on
 module _ (n k : ℕ) (l : List ℕ) where
@@ -58,16 +58,33 @@ getD-sets-in l i (v ∷ vs) (suc q) h m =
     let e : i + suc q ≡ suc i + q = omega arith in
     rw e (getD-sets-in (set l i v) (suc i) vs q (rw (length-set l i v) (omega arith)) (omega arith))
 
--- a list written at the start, and what is behind it
-module _ (l vs : List ℕ) (h : length vs ≤ length l) where
-  sets-start : sets l 0 vs ≡ vs ++ drop (length vs) l
-  sets-start = rw zero-add at (sets-eq vs l 0 (rw zero-add h))
+-- a list written from place i on: what is before and in it, and what is behind it
+module _ (l : List ℕ) (i : ℕ) (vs : List ℕ) (h : i + length vs ≤ length l) where
+  front : length (take i l ++ vs) ≡ i + length vs
+  front = length-append (take i l) vs ∙ ap (λ (n : ℕ). n + length vs) (length-take-le i l (omega arith))
 
+  split : sets l i vs ≡ (take i l ++ vs) ++ drop (i + length vs) l
+  split = sets-eq vs l i h
+
+  pub take-written : take (i + length vs) (sets l i vs) ≡ take i l ++ vs
+  take-written = rw split (take-at (take i l ++ vs) (drop (i + length vs) l) (i + length vs) front)
+
+  pub drop-written : drop (i + length vs) (sets l i vs) ≡ drop (i + length vs) l
+  drop-written = rw split (drop-at (take i l ++ vs) (drop (i + length vs) l) (i + length vs) front)
+
+-- and at the start
+module _ (l vs : List ℕ) (h : length vs ≤ length l) where
   pub take-sets : take (length vs) (sets l 0 vs) ≡ vs
-  take-sets = rw sets-start (take-append-seam vs (drop (length vs) l))
+  take-sets = rw zero-add at (take-written l 0 vs (rw zero-add h))
 
   pub drop-sets : drop (length vs) (sets l 0 vs) ≡ drop (length vs) l
-  drop-sets = rw sets-start (drop-append-seam vs (drop (length vs) l))
+  drop-sets = rw zero-add at (drop-written l 0 vs (rw zero-add h))
+
+-- what is the same behind a place is so behind a later one
+pub drop-later : (a b : ℕ) (l m : List ℕ) → a ≤ b → drop a l ≡ drop a m → drop b l ≡ drop b m
+drop-later a b l m h e =
+    let s : a + (b - a) ≡ b = omega arith in
+    rw s at (sym (drop-drop (b - a) a l) ∙ ap (drop (b - a)) e ∙ drop-drop (b - a) a m)
 
 -- a part that leaves out nothing begins where the slice does
 pub further-none : (start : ℕ × ℕ) → further start 0 ≡ start

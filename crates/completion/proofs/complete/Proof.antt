@@ -2,8 +2,6 @@
 -- Assumes nothing.
 use mathlib.Core.Path.{refl, sym, _∙_}
 use borrow.Author.Needs.{needs}
-use Rattle.state.proofs.Checks.{phase-passed}
-use Rattle.completion.proofs.Entry.{ran-answer}
 use Rattle.completion.proofs.complete.Statement.{statement}
 use Rattle.completion.proofs.complete.Tie as tie
 
@@ -14,16 +12,14 @@ complete-spec =
     (λ c. search needs)  -- enum-known-verdict
     (λ c. search needs)  -- enum-told
     (λ c κs.
-    let m = c .before in
+    let m = c .before .before in
     let p = m .before .before in
     sym (p .phase-check .ensures) ∙ m .enum-told .given .1)  -- complete-laid-requires
     (λ c. search needs)  -- same-length
-    (λ c. let v = c .before in rw (← (v .before .before .phase-check .ensures), v .verdict .given .1) (refl, refl))  -- returns
+    (λ c. let v = c .before in rw (← (v .before .before .phase-check .ensures), v .verdict .given .1) (refl, (refl, refl)))  -- returns
     (λ c. search needs)  -- same-length-2
+    (λ c. search needs)  -- same-length-3
     (λ c.
-    let d = c .before .before in
-    let m = d .before .before in
-    let p = m .before .before in
-    let a = p .before .before .before .before .args in
-    let f = phase-passed _ (a .journal .now) (a .adjacency .now) (sym (p .phase-check .ensures) ∙ m .enum-told .given .1) in
-    ran-answer (a .journal .now) (a .adjacency .now) (record { lengths = f .0; sound = f .1; phased = f .2 }) _ (d .complete-laid .ensures)))  -- returns-2
+    let d = c .before .before .before .before in
+    let m = d .before .before .before in
+    rw (← (m .before .before .phase-check .ensures), m .enum-told .given .1) (d .complete-laid .ensures)))  -- returns-2

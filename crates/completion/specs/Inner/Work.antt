@@ -4,16 +4,18 @@ use mathlib.Core.Path.{_≡_}
 use mathlib.Core.Bool.{false}
 use mathlib.Core.List.{List}
 use Prim.Native.Nat.{ℕ, _+_, _*_, _≤_, _<_}
-use lib.ListN.{getD}
+use lib.ListN.{length, getD, take, drop}
 use Rattle.graph.specs.Graph.{jdm, edges}
 use Rattle.graph.specs.Switch.{unsaturated}
 use Rattle.graph.specs.Tests.{degrees}
+use Rattle.graph.specs.Theorems.{allCells}
 use Rattle.adjacency.specs.Adjacency.{edge}
 use Rattle.table.specs.Inner.Cells.{matrixOf}
 use Rattle.layout.specs.Layout.{mostVertices}
 use Rattle.joining.specs.Join.{own}
 use Rattle.joining.specs.Inner.Work.{degreesOf}
 use Rattle.classes.specs.Inner.Block.{Numbered, classFrom, blockSum, BlockOf}
+use Rattle.completion.specs.Record.{recordSize}
 use Rattle.completion.specs.Complete.{Ran}
 use Rattle.completion.specs.Inner.Cellwise.{cellMissing, Filling}
 use Rattle.completion.specs.Inner.Cursor.{RowsDone, ColumnsDone}
@@ -22,15 +24,22 @@ use Rattle.completion.specs.declared.pair.Cell.{Cell}
 use Rattle.completion.specs.declared.cell.Cursor.{Cursor}
 use Rattle.completion.specs.declared.cell.Totals.{Totals}
 
--- the matrix with the totals beside it
-abbrev pub ran : List ℕ → Totals → Ran
-ran g t = record { adjacency = g; joins = t .joins; switches = t .switches }
+-- the matrix with the totals and the output beside it: as many records as joins stand at the output's start
+abbrev pub ran : List ℕ → List ℕ → Totals → Ran
+ran g out t = record { adjacency = g; joins = t .joins; switches = t .switches; records = take (recordSize * t .joins) out }
 
--- a partial graph, with totals that its edges bound
-pub record Sound (n : ℕ) (cls : ℕ → ℕ) (T : ℕ → ℕ → ℕ) (s : Ran) : Type 0 where
+-- from i joins on to j the output changed nowhere behind their records
+pub record Recorded (i j : ℕ) (out out′ : List ℕ) : Type 0 where
+  pub rises : i ≤ j
+  pub sized : length out′ ≡ length out
+  pub behind : drop (recordSize * j) out′ ≡ drop (recordSize * j) out
+
+-- a partial graph, with totals that its edges bound; an output of `room` bytes has room for the records made and those of the edges that are missing
+pub record Sound (n : ℕ) (cls : ℕ → ℕ) (T : ℕ → ℕ → ℕ) (room : ℕ) (s : Ran) : Type 0 where
   pub filling : Filling n cls T (s .adjacency)
   pub joins-le : s .joins ≤ edges n (edge (s .adjacency))
   pub switches-le : s .switches ≤ 2 * s .joins
+  pub records-fit : recordSize * (2 * s .joins + allCells degrees T) ≤ 2 * (room + recordSize * edges n (edge (s .adjacency)))
 
 -- the vertices of class k below `low` are saturated
 abbrev pub Saturated : ℕ → (ℕ → ℕ) → List ℕ → ℕ → ℕ → Type 0
@@ -50,17 +59,17 @@ pub record Resumes (n : ℕ) (cls : ℕ → ℕ) (g : List ℕ) (c : Cell) (u : 
   pub saturated-columns : Saturated n cls g (c .l) (u .low .w)
 
 -- m joins may be made in the cell: it misses as many
-pub record Fillable (n : ℕ) (cls : ℕ → ℕ) (c : Cell) (m : ℕ) (s : Ran) (held : List ℕ) : Type 0 where
+pub record Fillable (n : ℕ) (cls : ℕ → ℕ) (c : Cell) (m room : ℕ) (s : Ran) (held : List ℕ) : Type 0 where
   pub table : ℕ → ℕ → ℕ
-  pub sound : Sound n cls table s
+  pub sound : Sound n cls table room s
   pub missing : m ≤ cellMissing n cls table (s .adjacency) (c .k) (c .l)
   pub ranged : Ranged n cls c
   pub degrees-held : held ≡ degreesOf n (s .adjacency)
 
 -- one join may be made in the cell: it is short
-pub record Steppable (n : ℕ) (cls : ℕ → ℕ) (c : Cell) (u : Cursor) (s : Ran) (held : List ℕ) : Type 0 where
+pub record Steppable (n : ℕ) (cls : ℕ → ℕ) (c : Cell) (u : Cursor) (room : ℕ) (s : Ran) (held : List ℕ) : Type 0 where
   pub table : ℕ → ℕ → ℕ
-  pub sound : Sound n cls table s
+  pub sound : Sound n cls table room s
   pub short : jdm n cls (edge (s .adjacency)) (c .k) (c .l) < table (c .k) (c .l)
   pub ranged : Ranged n cls c
   pub resumes : Resumes n cls (s .adjacency) c u
@@ -87,9 +96,9 @@ pub record Arranged (n : ℕ) (starts : List ℕ) : Type 0 where
   pub numbered : Numbered n starts
 
 -- these, and beside them a partial graph of the table with its degrees
-pub record Working (n : ℕ) (cells starts held : List ℕ) (s : Ran) : Type 0 where
+pub record Working (n : ℕ) (cells starts held : List ℕ) (room : ℕ) (s : Ran) : Type 0 where
   pub arranged : Arranged n starts
-  pub sound : Sound n (classFrom starts) (matrixOf cells) s
+  pub sound : Sound n (classFrom starts) (matrixOf cells) room s
   pub degrees-held : held ≡ degreesOf n (s .adjacency)
 
 -- what a cell misses can be counted: its ranges are ranges of vertices, and it does not hold more than the table

@@ -10,49 +10,53 @@ use Rattle.table.specs.Inner.Cells.{matrixOf}
 use Rattle.classes.specs.Inner.Block.{classFrom}
 use Rattle.joining.specs.Inner.Work.{degreesOf}
 use Rattle.completion.specs.Inner.Cellwise.{fillRow}
-use Rattle.completion.specs.Inner.Work.{ran}
+use Rattle.completion.specs.Inner.Work.{ran, Recorded}
+use Rattle.completion.proofs.Recorded.{recorded-none, recorded-then}
 use Rattle.completion.proofs.Arranged.{working, working-sized, all-sound}
 use Rattle.completion.proofs.fill.complete_rows.Statement.{statement}
 use Rattle.completion.proofs.fill.complete_rows.Tie as tie
 
 abbrev Inv-loop : tie.InvT-loop
-Inv-loop adjacency₀ held₀ cells starts n sum₀ i₀ adjacency held sum i =
+Inv-loop adjacency₀ output₀ held₀ cells starts n sum₀ i₀ adjacency output held sum i =
     (i ≤ mostDegree)
-    × (ran adjacency sum ≡ foldTo i (λ i. fillRow n (classFrom starts) (matrixOf cells) (leastDegree + i)) (ran adjacency₀ sum₀))
+    × (ran adjacency output sum ≡ foldTo i (λ i. fillRow n (classFrom starts) (matrixOf cells) (leastDegree + i)) (ran adjacency₀ output₀ sum₀))
     × (held ≡ degreesOf n adjacency)
+    × Recorded (sum₀ .joins) (sum .joins) output₀ output
 
 abbrev μ-loop : tie.MeasureT-loop
-μ-loop adjacency₀ held₀ cells starts n sum₀ i₀ adjacency held sum i = mostDegree - i
+μ-loop adjacency₀ output₀ held₀ cells starts n sum₀ i₀ adjacency output held sum i = mostDegree - i
 
 pub complete-rows-spec : {M : Type 1} → statement M
 complete-rows-spec =
     tie.close (tie.spec Inv-loop μ-loop
-    (λ c. let f = c .before in (omega arith, sym (foldTo-none _ _), f .pre .degrees-held))  -- loop-holds
-    (λ c. let l = c .before .before .before in omega (arith, l .loop .inv .0))  -- add-complete-row
+    (λ c. let f = c .before .before in (omega arith, sym (foldTo-none _ _), f .pre .degrees-held, recorded-none _ _))  -- loop-holds
+    (λ c. let l = c .before .before .before .before in omega (arith, l .loop .inv .0))  -- add-complete-row
     (λ c κs.
-    let t = c .before .before in
+    let t = c .before .before .before in
     let l = t .before in
-    let f = l .before .before in (
-      working (f .pre) _ (all-sound (f .pre) (l .loop .i) _ (l .loop .inv .0) (l .loop .inv .1)) _ (l .loop .inv .2),
+    let f = l .before .before .before in (
+      working (f .pre) _ (all-sound (f .pre) (l .loop .i) _ (l .loop .inv .0) (l .loop .inv .1)) _ (l .loop .inv .2) (l .loop .inv .3 .sized),
       omega (arith, t .loop-test .taken),
     ))  -- complete-row-requires
-    (λ c. let l = c .before .before .before .before .before .before in omega (arith, l .loop .inv .0))  -- add-i
-    (λ c. let t = c .before .before .before .before .before in omega (arith, t .loop-test .taken))  -- loop-less
+    (λ c. let l = c .before .before .before .before .before .before .before .before .before in omega (arith, l .loop .inv .0))  -- add-i
+    (λ c. let t = c .before .before .before .before .before .before .before .before in omega (arith, t .loop-test .taken))  -- loop-less
     (λ c.
-    let d = c .before .before in
-    let t = d .before .before .before in
+    let d = c .before .before .before .before in
+    let t = d .before .before .before .before in
     let l = t .before in
-    let a = l .before .before .args in (
+    let a = l .before .before .before .args in (
       omega (arith, t .loop-test .taken),
       foldTo-after (λ i. fillRow (a .n) (classFrom (a .starts .now)) (matrixOf (a .cells .now)) (leastDegree + i))
           _ (l .loop .i) _ _ (l .loop .inv .1) (d .complete-row .ensures .0),
-      d .complete-row .ensures .1,
+      d .complete-row .ensures .1 .1,
+      recorded-then (l .loop .inv .3) (d .complete-row .ensures .1 .0),
     ))  -- loop-again
     (λ c.
     let l = c .before in
-    let f = l .before .before in
+    let f = l .before .before .before in
     working-sized (f .pre) _ (all-sound (f .pre) (l .loop .i) _ (l .loop .inv .0) (l .loop .inv .1)))  -- same-length
+    (λ c. c .before .loop .inv .3 .sized)  -- same-length-2
     (λ c.
     let l = c .before in
     let e : l .loop .i ≡ mostDegree = omega (arith, l .loop .inv .0) in
-    rw e at (l .loop .inv .1)))  -- returns
+    (rw e at (l .loop .inv .1), l .loop .inv .3)))  -- returns

@@ -1,0 +1,56 @@
+-- Records written one behind the other, from the output's start on.
+-- Assumes nothing.
+use mathlib.Core.Path.{_≡_, refl, sym, ap, ap₂, _∙_}
+use mathlib.Core.List.{List, _++_}
+use Prim.Native.Nat.{ℕ, _+_, _*_, _≤_}
+use native.Mathlib.Omega.{arith}
+use lib.ListN.{length, take, drop, take-append-drop}
+use lib.Seq.{sets, length-sets, length-take-le}
+use Rattle.slices.proofs.Part.{take-written, drop-written, take-sets, drop-sets, drop-later}
+use Rattle.answer.specs.declared.switches.Switches.{Switches}
+use Rattle.completion.specs.Record.{recordSize, joinRecord}
+use Rattle.completion.specs.Inner.Work.{Recorded}
+
+-- one record more, behind those of i joins
+module _ (out : List ℕ) (i v w : ℕ) (s : Switches) (fits : recordSize * i + recordSize ≤ length out) where
+  after : recordSize * i + recordSize ≡ recordSize * (i + 1)
+  after = omega arith
+
+  pub records-more : take (recordSize * (i + 1)) (sets out (recordSize * i) (joinRecord v w s)) ≡ take (recordSize * i) out ++ joinRecord v w s
+  records-more = rw after at (take-written out (recordSize * i) (joinRecord v w s) fits)
+
+  pub recorded-one : Recorded i (i + 1) out (sets out (recordSize * i) (joinRecord v w s))
+  recorded-one =
+      record {
+        rises = omega arith;
+        sized = length-sets out (recordSize * i) (joinRecord v w s);
+        behind = rw after at (drop-written out (recordSize * i) (joinRecord v w s) fits);
+      }
+
+pub recorded-none : (i : ℕ) (out : List ℕ) → Recorded i i out out
+recorded-none i out = record { rises = omega arith; sized = refl; behind = refl }
+
+pub recorded-then : {i j k : ℕ} {a b c : List ℕ} → Recorded i j a b → Recorded j k b c → Recorded i k a c
+recorded-then {i} {j} {k} {a} {b} {c} p q =
+    record {
+      rises = omega (arith, p .rises, q .rises);
+      sized = q .sized ∙ p .sized;
+      behind = q .behind ∙ drop-later (recordSize * j) (recordSize * k) b a (omega (arith, q .rises)) (p .behind);
+    }
+
+-- the records of all joins, from the first one on, and behind them what was there
+pub recorded-all : (j : ℕ) (out out′ records : List ℕ) → Recorded 0 j out out′ → recordSize * j ≤ length out → take (recordSize * j) out′ ≡ records
+    → (out′ ≡ sets out 0 records) × (recordSize * j ≡ length records)
+recorded-all j out out′ records p fits e = (
+  sym (take-append-drop (recordSize * j) out′)
+      ∙ ap₂ _++_ e (p .behind ∙ ap (λ (n : ℕ). drop n out) written)
+      ∙ ap₂ _++_ (sym (take-sets out records short)) (sym (drop-sets out records short))
+      ∙ take-append-drop (length records) (sets out 0 records),
+  written,
+)
+  where
+    written : recordSize * j ≡ length records
+    written = sym (length-take-le (recordSize * j) out′ (omega (arith, p .sized))) ∙ ap length e
+
+    short : length records ≤ length out
+    short = omega (arith, written)
