@@ -37,6 +37,16 @@ impl<const N: usize> PartialEq<[u64; N]> for Numbers {
     }
 }
 
+/// A refusal: its number and its places, and 0 in all others.
+impl PartialEq<Refused> for Numbers {
+    fn eq(&self, refused: &Refused) -> bool {
+        match self {
+            Numbers::Six(numbers) => *numbers == refusal(*refused),
+            Numbers::Nine(numbers) => *numbers == refusal(*refused),
+        }
+    }
+}
+
 impl fmt::Debug for Numbers {
     fn fmt(&self, f: &mut fmt::Formatter<'_>) -> fmt::Result {
         self[..].fmt(f)
@@ -44,7 +54,7 @@ impl fmt::Debug for Numbers {
 }
 
 /// The refusal's number and its two places; 0 in all others.
-fn refusal<const N: usize>(refused: Refused) -> [u64; N] {
+pub fn refusal<const N: usize>(refused: Refused) -> [u64; N] {
     let mut numbers = [0; N];
     numbers[..3].copy_from_slice(&[refused.number, refused.first, refused.second]);
     numbers
