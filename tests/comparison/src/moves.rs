@@ -132,7 +132,7 @@ mod tests {
     use super::*;
     use reference::{adjacency, ADJACENCY_LENGTH};
 
-    /// A join of 0 and 3 that says 0-2 went and 1-2 came, after what the bytes say instead.
+    /// A join of 0 and 3 for which 0-2 went and 1-2 came, and answers that say otherwise.
     #[test]
     fn wrong_moves_are_noticed() {
         let call = Call::AddEdge { v: 0, w: 3 };
