@@ -26,7 +26,7 @@
  *   2. replica_take_block  the matrix, block by block, numbered 0, 1, 2, ...
  *   3. replica_lay_out     tests that a graph exists and fixes the vertices
  *   4. replica_add_edge, replica_remove_edge   by hand, as often as you like
- *   5. replica_complete    adds all edges still missing
+ *   5. replica_complete    adds all edges still missing, and writes down which edges moved
  *   6. replica_edge_list   the graph as a list of edges
  *
  * A block that is sent again under its old number is recognised and not added twice. Vertices are
@@ -46,6 +46,18 @@
  * A block is 1 to 16 records, so 4 to 64 bytes.
  * An edge list is 2 bytes an edge, v then w, v < w, ascending by v and then w.
  *
+ * A switch moves an edge that nobody named. It is three vertices a, b, t: the edge a-t went and the
+ * edge b-t came. A join record is 8 bytes and tells of one edge added and what moved for it:
+ *
+ *   bytes 0, 1     v and w, the two vertices joined
+ *   bytes 2, 3, 4  a, b, t of the first switch made for it
+ *   bytes 5, 6, 7  a, b, t of the second
+ *
+ * A switch that was not needed has REPLICA_UNUSED in its bytes; a single one always stands first,
+ * whether v or w was in need of it. To play a join record onto a graph, do its switches in their
+ * order, each removing a-t and adding b-t, and then add v-w. What is removed is there when its turn
+ * comes, and what is added is not.
+ *
  * MEMORY
  *
  * The library owns no memory, allocates none, and keeps no pointer after a call. You own all buffers
@@ -62,11 +74,12 @@
  *
  * ANSWERS AND REFUSALS
  *
- * Every function returns a struct ReplicaAnswer by value. If `number` is 0, the call did its work,
- * and the fields named with the function hold its results; all others are 0. Otherwise `number`
- * says why the call was refused (the REPLICA_REFUSED_ constants below), `first` and `second` say
- * where if the constant's comment names a place, and EVERY byte of every buffer is as it was before
- * the call, outputs included.
+ * Every function returns a struct by value: replica_add_edge a struct ReplicaJoin, all others a
+ * struct ReplicaAnswer. If `number` is 0, the call did its work, and the fields named with the
+ * function hold its results; all others are 0. Otherwise `number` says why the call was refused
+ * (the REPLICA_REFUSED_ constants below), `first` and `second` say where if the constant's comment
+ * names a place, all other fields are 0, and EVERY byte of every buffer is as it was before the
+ * call, outputs included.
  *
  * When several reasons hold at once, the first in the order listed with the function is given.
  */
@@ -95,8 +108,14 @@ extern "C" {
 /* An output of this many bytes is never too short for replica_jdm_of_edges: 820 cells, and the
  * isolated vertices. */
 #define REPLICA_MOST_RECORDS 3284
+/* Bytes of a join record. */
+#define REPLICA_JOIN_RECORD_LENGTH 8
+/* An output of this many bytes is never too short for replica_complete: 4,000 join records. */
+#define REPLICA_MOST_JOIN_RECORDS 32000
+/* Stands for a, b and t of a switch that was not needed. No vertex has this number. */
+#define REPLICA_UNUSED 255
 
-/* What every function returns. */
+/* What every function but replica_add_edge returns. */
 struct ReplicaAnswer {
     uint64_t number; /* 0: done; else the refusal, one of the constants below */
     uint64_t first;
@@ -104,6 +123,15 @@ struct ReplicaAnswer {
     uint64_t third;
     uint64_t fourth;
     uint64_t fifth;
+};
+
+/* What replica_add_edge returns. */
+struct ReplicaJoin {
+    uint64_t number;     /* 0: done; else the refusal, one of the constants below */
+    uint64_t first;      /* done: switches made; refused: a place */
+    uint64_t second;     /* done: 0; refused: a place */
+    uint64_t a1, b1, t1; /* the first switch: edge a1-t1 went, edge b1-t1 came */
+    uint64_t a2, b2, t2; /* the second switch */
 };
 
 /* Why a call was refused. Places are in `first` and `second`; where none is named, both are 0. */
@@ -211,13 +239,18 @@ struct ReplicaAnswer replica_lay_out(uint8_t *journal, size_t journal_length,
  * pair the other way round may move other edges. No cell of the matrix changes by a switch. No edge
  * can be added at an isolated vertex: that is 16.
  *
- *   first   switches made, 0 to 2
+ *   first       switches made, 0 to 2
+ *   a1, b1, t1  the first switch made, REPLICA_UNUSED in all three if there was none
+ *   a2, b2, t2  the second switch made, REPLICA_UNUSED in all three if there was none
+ *
+ * The graph is then that of before with a1-t1 removed and b1-t1 added, a2-t2 removed and b2-t2
+ * added, and v-w added, in this order.
  *
  * Refused: 1, 2, 3 (not laid out yet), 13, 14, 15, 16.
  */
-struct ReplicaAnswer replica_add_edge(const uint8_t *journal, size_t journal_length,
-                                      uint8_t *adjacency, size_t adjacency_length,
-                                      uint64_t v, uint64_t w);
+struct ReplicaJoin replica_add_edge(const uint8_t *journal, size_t journal_length,
+                                    uint8_t *adjacency, size_t adjacency_length,
+                                    uint64_t v, uint64_t w);
 
 /*
  * Removes the edge between v and w.
@@ -233,13 +266,23 @@ struct ReplicaAnswer replica_remove_edge(const uint8_t *journal, size_t journal_
  * edges as are missing, from any start. The same start always gives the same graph. Isolated
  * vertices get none; all others have their degree at the end.
  *
+ * It writes one join record for each edge added, v < w, in the order added, from the start of the
+ * output. Played in this order onto the graph of before, they give the graph of after. Output bytes
+ * after the written part are untouched.
+ *
+ * The output needs REPLICA_JOIN_RECORD_LENGTH bytes for each missing edge: edges wanted less edges
+ * laid, as replica_figures reports them. On a complete state a length of 0 is enough; the pointer
+ * must not be NULL then either.
+ *
  *   first   edges added
  *   second  switches made for them
+ *   third   bytes written, 8 for each edge added
  *
- * Refused: 1, 2, 3 (not laid out yet).
+ * Refused: 1, 2, 3 (not laid out yet), 18 (before anything changes).
  */
 struct ReplicaAnswer replica_complete(const uint8_t *journal, size_t journal_length,
-                                      uint8_t *adjacency, size_t adjacency_length);
+                                      uint8_t *adjacency, size_t adjacency_length,
+                                      uint8_t *output, size_t output_length);
 
 /*
  * Writes the edges laid so far as an edge list. Output bytes after the written part are untouched.

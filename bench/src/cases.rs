@@ -1,6 +1,6 @@
 //! The calls that are measured, and the states they are made on.
 
-use comparison::call::{Call, Entry, Memory};
+use comparison::call::{room, Call, Entry, Memory};
 use reference::graphs::{self, Graph};
 use reference::journal::{self, record, LAID, TAKING};
 use reference::random::Random;
@@ -37,6 +37,12 @@ fn case(name: &str, call: Call, journal: Vec<u8>, adjacency: Vec<u8>) -> Case {
     }
 }
 
+/// Completing a state, with just the room that its records need.
+fn completion(name: &str, journal: Vec<u8>, adjacency: Vec<u8>) -> Case {
+    let output = vec![0; room(&journal, &adjacency)];
+    case(name, Call::Complete { output }, journal, adjacency)
+}
+
 /// All cases, entry by entry.
 pub fn all() -> Vec<Case> {
     let mut cases = Vec::new();
@@ -44,7 +50,7 @@ pub fn all() -> Vec<Case> {
         cases.extend(completions(size));
     }
     let ring = laid(&graphs::regular(200, 2).matrix());
-    cases.push(case("regular-2-200", Call::Complete, ring, no_edges()));
+    cases.push(completion("regular-2-200", ring, no_edges()));
     for size in SIZES {
         cases.extend(edges_by_hand(size));
     }
@@ -174,16 +180,16 @@ fn completions(size: usize) -> Vec<Case> {
         .iter()
         .map(|(name, graph)| {
             let name = format!("{name}-{size}");
-            case(&name, Call::Complete, laid(&graph.matrix()), no_edges())
+            completion(&name, laid(&graph.matrix()), no_edges())
         })
         .collect();
     let journal = laid(&regular(size).matrix());
     let start = four_cliques(size).adjacency();
     let name = format!("start-{size}");
-    cases.push(case(&name, Call::Complete, journal.clone(), start));
+    cases.push(completion(&name, journal.clone(), start));
     let name = format!("nothing-{size}");
     let complete = regular(size).adjacency();
-    cases.push(case(&name, Call::Complete, journal, complete));
+    cases.push(completion(&name, journal, complete));
     cases
 }
 
@@ -277,7 +283,7 @@ fn half_isolated() -> Vec<Case> {
     let name = "isolated-200";
     vec![
         case(name, Call::LayOut, taken, no_edges()),
-        case(name, Call::Complete, laid.clone(), no_edges()),
+        completion(name, laid.clone(), no_edges()),
         case(name, Call::Figures, laid.clone(), graph.adjacency()),
         case(name, survey, laid, graph.adjacency()),
     ]

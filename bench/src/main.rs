@@ -15,7 +15,7 @@ mod twin;
 
 use cases::Case;
 use comparison::call::{on_library, Call, Memory};
-use reference::six::Six;
+use reference::numbers::Numbers;
 use std::process::ExitCode;
 
 fn main() -> ExitCode {
@@ -48,7 +48,7 @@ fn list() {
 }
 
 /// The call on the library.
-fn once(call: &Call, memory: &mut Memory) -> Six {
+fn once(call: &Call, memory: &mut Memory) -> Numbers {
     on_library(
         call,
         &mut memory.journal,
@@ -59,14 +59,17 @@ fn once(call: &Call, memory: &mut Memory) -> Six {
 }
 
 /// The call on the twin, which has three of the entries.
-fn on_twin(call: &Call, memory: &mut Memory) -> Option<Six> {
+fn on_twin(call: &Call, memory: &mut Memory) -> Option<Numbers> {
     let (journal, adjacency) = (&memory.journal, &mut memory.adjacency);
-    match *call {
-        Call::AddEdge { v, w } => Some(twin::twin_add_edge(journal, adjacency, v, w)),
-        Call::RemoveEdge { v, w } => Some(twin::twin_remove_edge(journal, adjacency, v, w)),
-        Call::Complete => Some(twin::twin_complete(journal, adjacency)),
-        _ => None,
-    }
+    Some(match *call {
+        Call::AddEdge { v, w } => Numbers::Nine(twin::twin_add_edge(journal, adjacency, v, w)),
+        Call::RemoveEdge { v, w } => Numbers::Six(twin::twin_remove_edge(journal, adjacency, v, w)),
+        Call::Complete { .. } => {
+            let output = &mut memory.output;
+            Numbers::Six(twin::twin_complete(journal, adjacency, output))
+        }
+        _ => return None,
+    })
 }
 
 fn found(entry: &str, name: &str) -> Option<Case> {
@@ -78,7 +81,7 @@ fn found(entry: &str, name: &str) -> Option<Case> {
 fn call_once(
     entry: &str,
     name: &str,
-    side: impl Fn(&Call, &mut Memory) -> Option<Six>,
+    side: impl Fn(&Call, &mut Memory) -> Option<Numbers>,
 ) -> ExitCode {
     let Some(case) = found(entry, name) else {
         eprintln!("there is no case {entry} {name}; try: bench list");
@@ -99,6 +102,7 @@ fn call_once(
 #[cfg(test)]
 mod tests {
     use super::*;
+    use comparison::call::{any_output, room};
     use reference::journal::LAID;
     use reference::random::Random;
     use reference::{adjacency, graphs};
@@ -121,48 +125,57 @@ mod tests {
         }
     }
 
-    /// Parts of random graphs, some with isolated vertices, some damaged: every answer is reached.
+    /// A part of a random graph's edges laid, and the bytes damaged in some cases.
+    fn any_state(random: &mut Random) -> (Vec<u8>, Vec<u8>) {
+        let most = *random.pick(&[4, 10, 60, 200]);
+        let graph = graphs::any(most, random).by_rising_degree();
+        let percent = random.between(0, 100);
+        let mut part = graphs::Graph::new(graph.vertices());
+        for &(v, w) in graph.edges() {
+            if random.chance(percent) {
+                part.join(v, w);
+            }
+        }
+        let mut journal = cases::journal_of(LAID, &graph.table().records());
+        let mut adjacency = part.adjacency();
+        match random.below(12) {
+            0 => journal[random.below(200)] ^= 1 << random.below(8),
+            1 => adjacency[random.below(40_000)] ^= 1 << random.below(8),
+            2 => drop(adjacency.pop()),
+            3 => drop(journal.pop()),
+            4 => journal[0] = 0,
+            5 => adjacency[random.below(graph.vertices().max(1) * 200)] ^= 1,
+            6 => {
+                let (v, w) = (random.below(200), random.below(graph.isolated().max(1)));
+                adjacency::insert(&mut adjacency, v, w);
+            }
+            _ => {}
+        }
+        (journal, adjacency)
+    }
+
+    /// Random states, and outputs with room for the records of completing or without: every answer is
+    /// reached.
     #[test]
     fn the_twin_on_random_states() {
         let mut random = Random::new(8);
         let mut answered = BTreeSet::new();
         for number in 0..3_000 {
-            let most = *random.pick(&[4, 10, 60, 200]);
-            let graph = graphs::any(most, &mut random).by_rising_degree();
-            let percent = random.between(0, 100);
-            let mut part = graphs::Graph::new(graph.vertices());
-            for &(v, w) in graph.edges() {
-                if random.chance(percent) {
-                    part.join(v, w);
-                }
-            }
-            let mut journal = cases::journal_of(LAID, &graph.table().records());
-            let mut adjacency = part.adjacency();
-            match random.below(12) {
-                0 => journal[random.below(200)] ^= 1 << random.below(8),
-                1 => adjacency[random.below(40_000)] ^= 1 << random.below(8),
-                2 => drop(adjacency.pop()),
-                3 => drop(journal.pop()),
-                4 => journal[0] = 0,
-                5 => adjacency[random.below(graph.vertices().max(1) * 200)] ^= 1,
-                6 => {
-                    let (v, w) = (random.below(200), random.below(graph.isolated().max(1)));
-                    adjacency::insert(&mut adjacency, v, w);
-                }
-                _ => {}
-            }
-            let mut vertex = || random.below(graph.vertices() + 2) as u64;
+            let (journal, adjacency) = any_state(&mut random);
+            let vertices = reference::figures(&journal, &adjacency).map_or(9, |f| f.vertices);
+            let mut vertex = || random.below(vertices as usize + 2) as u64;
             let (v, w) = (vertex(), vertex());
+            let output = any_output(room(&journal, &adjacency), &mut random);
             for call in [
                 Call::AddEdge { v, w },
                 Call::RemoveEdge { v, w },
-                Call::Complete,
+                Call::Complete { output },
             ] {
                 let memory = Memory::of(&journal, &adjacency, &call);
                 answered.extend(compare(&call, memory, &format!("state {number}, {call:?}")));
             }
         }
-        let refusals = [1, 2, 3, 13, 14, 15, 16, 17];
+        let refusals = [1, 2, 3, 13, 14, 15, 16, 17, 18];
         assert!([0].iter().chain(&refusals).eq(&answered), "{answered:?}");
     }
 }

@@ -2,6 +2,7 @@
 
 use crate::cases::Case;
 use comparison::call::{on_library, on_reference, Memory};
+use reference::numbers::Numbers;
 use std::hint::black_box;
 use std::time::{Duration, Instant};
 
@@ -38,7 +39,7 @@ pub fn print(cases: &[Case]) {
 
 /// The shortest time of one call, of many: other work on the machine only ever adds to it. Copies
 /// are made outside of it.
-fn time(case: &Case, call: impl Fn(&mut Memory) -> [u64; 6]) -> Duration {
+fn time(case: &Case, call: impl Fn(&mut Memory) -> Numbers) -> Duration {
     let mut shortest = Duration::MAX;
     let mut spent = Duration::ZERO;
     let mut calls = 0;

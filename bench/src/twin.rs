@@ -1,8 +1,10 @@
 //! add_edge, remove_edge and complete written by hand to be fast, to hold the library's instructions
 //! against. It makes the library's savings (docs/DECISIONS.md 17 and 21), and what the check of a
-//! state has counted is handed on. Answers are the six numbers of the C interface.
+//! state has counted is handed on. Answers are the numbers of the C interface.
 
-use reference::six::Six;
+use reference::join_record::{self, UNUSED};
+use reference::numbers::{refusal, Nine, Six};
+use reference::{refused, refused_at, Refused};
 use reference::{BLOCK_LENGTH, JOURNAL_LENGTH, MOST_BLOCKS, MOST_DEGREE, MOST_VERTICES};
 
 const DEGREES: usize = MOST_DEGREE + 1;
@@ -12,9 +14,11 @@ const SLOT_LENGTH: usize = 1 + BLOCK_LENGTH;
 /// The adjacency matrix, row by row.
 type Rows = [[u8; SIDE]; SIDE];
 
-fn refused(number: u64) -> Six {
-    [number, 0, 0, 0, 0, 0]
-}
+/// a, b and t in the three low bytes, as in a record: edge a-t went, edge b-t came.
+type Switch = u32;
+const NO_SWITCH: Switch = u32::from_le_bytes([UNUSED, UNUSED, UNUSED, 0]);
+
+type JoinRecord = [u8; join_record::LENGTH];
 
 /// What the check of a laid state finds out about it.
 struct Laid {
@@ -28,6 +32,15 @@ struct Laid {
     short: [[u32; DEGREES]; DEGREES],
     /// The edges at each vertex.
     held: [u8; SIDE],
+}
+
+impl Laid {
+    /// Edges wanted and not laid. A cell (k, k) is short of two for each.
+    fn missing(&self) -> usize {
+        let all: u32 = self.short.as_flattened().iter().sum();
+        let diagonal: u32 = (0..DEGREES).map(|k| self.short[k][k]).sum();
+        (all - diagonal / 2) as usize
+    }
 }
 
 /// The sum of the blocks. Row and column 0 stay 0: isolated vertices are in no cell.
@@ -176,7 +189,7 @@ fn rows_of(adjacency: &mut [u8]) -> Option<&mut Rows> {
 }
 
 /// Checks 1, 2 and 3.
-fn check<'a>(journal: &[u8], adjacency: &'a mut [u8]) -> Result<(Laid, &'a mut Rows), Six> {
+fn check<'a>(journal: &[u8], adjacency: &'a mut [u8]) -> Result<(Laid, &'a mut Rows), Refused> {
     let journal: &[u8; JOURNAL_LENGTH] = journal.try_into().map_err(|_| refused(1))?;
     let rows = rows_of(adjacency).ok_or(refused(1))?;
     let table = table_of(journal).ok_or(refused(2))?;
@@ -190,7 +203,7 @@ fn check<'a>(journal: &[u8], adjacency: &'a mut [u8]) -> Result<(Laid, &'a mut R
 }
 
 /// Checks 13 and 14.
-fn pair_of(laid: &Laid, v: u64, w: u64) -> Result<(usize, usize), Six> {
+fn pair_of(laid: &Laid, v: u64, w: u64) -> Result<(usize, usize), Refused> {
     if v >= laid.vertices as u64 || w >= laid.vertices as u64 {
         return Err(refused(13));
     }
@@ -236,13 +249,13 @@ fn unsaturated(held: &[u8; SIDE], from: usize, to: usize, k: u8) -> usize {
     v
 }
 
-/// Makes room at `a`; the vertex that a switch cut off from it. No unsaturated vertex of its class,
-/// the other named one apart, is below `from`.
+/// Makes room at `a`, by a switch if it has none. No unsaturated vertex of its class, the other named
+/// one apart, is below `from`.
 #[inline(always)]
-fn relieve(laid: &mut Laid, rows: &mut Rows, a: usize, other: usize, from: usize) -> Option<usize> {
+fn relieve(laid: &mut Laid, rows: &mut Rows, a: usize, other: usize, from: usize) -> Switch {
     let k = laid.classes[a];
     if laid.held[a] < k {
-        return None;
+        return NO_SWITCH;
     }
     let end = laid.starts[k as usize + 1];
     let mut b = unsaturated(&laid.held, from, end, k);
@@ -257,33 +270,48 @@ fn relieve(laid: &mut Laid, rows: &mut Rows, a: usize, other: usize, from: usize
     set(rows, b, t, 1);
     laid.held[a] -= 1;
     laid.held[b] += 1;
-    Some(t)
+    a as u32 | (b as u32) << 8 | (t as u32) << 16
 }
 
-/// Joins v and w: the switches, and the vertex cut off from v.
+/// Joins v and w: the switch of v and that of w.
 fn join(
     laid: &mut Laid,
     rows: &mut Rows,
     (v, w): (usize, usize),
     (from_v, from_w): (usize, usize),
-) -> (u64, Option<usize>) {
-    let cut_v = relieve(laid, rows, v, w, from_v);
-    let cut_w = relieve(laid, rows, w, v, from_w);
+) -> [Switch; 2] {
+    let of_v = relieve(laid, rows, v, w, from_v);
+    let of_w = relieve(laid, rows, w, v, from_w);
     set(rows, v, w, 1);
     laid.held[v] += 1;
     laid.held[w] += 1;
-    (cut_v.is_some() as u64 + cut_w.is_some() as u64, cut_v)
+    [of_v, of_w]
 }
 
-/// Joins until cell (k, l) is not short; joins and switches. The row of the pair, the column, and the
-/// lowest unsaturated vertex of either class are resumed.
-fn fill_cell(laid: &mut Laid, rows: &mut Rows, k: usize, l: usize) -> (u64, u64) {
-    let joins = laid.short[k][l] / if k == l { 2 } else { 1 };
+/// How many of two switches were made, and their record, those made first.
+#[inline(always)]
+fn told((v, w): (usize, usize), [of_v, of_w]: [Switch; 2]) -> (u64, JoinRecord) {
+    let (by_v, by_w) = (of_v != NO_SWITCH, of_w != NO_SWITCH);
+    let (first, second) = if by_v { (of_v, of_w) } else { (of_w, of_v) };
+    let triples = u64::from(first) << 16 | u64::from(second) << 40;
+    let record = v as u64 | (w as u64) << 8 | triples;
+    (u64::from(by_v) + u64::from(by_w), record.to_le_bytes())
+}
+
+/// Joins until cell (k, l) is not short, which takes as many joins as there are records to write; the
+/// switches. The row of the pair, the column, and the lowest unsaturated vertex of either class are
+/// resumed.
+fn fill_cell(
+    laid: &mut Laid,
+    rows: &mut Rows,
+    (k, l): (usize, usize),
+    records: &mut [JoinRecord],
+) -> u64 {
     let (rows_end, columns_end) = (laid.starts[k + 1], laid.starts[l + 1]);
     let mut switches = 0;
     let (mut v, mut w) = (laid.starts[k], 0);
     let (mut low_v, mut low_w) = (laid.starts[k], laid.starts[l]);
-    for _ in 0..joins {
+    for record in records {
         loop {
             let first = if k == l { v + 1 } else { laid.starts[l] };
             w = w.max(first);
@@ -298,15 +326,17 @@ fn fill_cell(laid: &mut Laid, rows: &mut Rows, k: usize, l: usize) -> (u64, u64)
         }
         low_v = unsaturated(&laid.held, low_v, rows_end, k as u8);
         low_w = unsaturated(&laid.held, low_w, columns_end, l as u8);
-        let (made, cut) = join(laid, rows, (v, w), (low_v, low_w));
+        let [of_v, of_w] = join(laid, rows, (v, w), (low_v, low_w));
+        let (made, written) = told((v, w), [of_v, of_w]);
         switches += made;
-        // What the switch of v freed in its row is open again.
-        w = cut.map_or(w + 1, |t| t.min(w + 1));
+        *record = written;
+        // What the switch of v freed in its row is open again; 255 is beyond it.
+        w = (of_v as usize >> 16).min(w + 1);
     }
-    (u64::from(joins), switches)
+    switches
 }
 
-fn add(journal: &[u8], adjacency: &mut [u8], v: u64, w: u64) -> Result<Six, Six> {
+fn add(journal: &[u8], adjacency: &mut [u8], v: u64, w: u64) -> Result<Nine, Refused> {
     let (mut laid, rows) = check(journal, adjacency)?;
     let (v, w) = pair_of(&laid, v, w)?;
     if rows[v][w] == 1 {
@@ -314,15 +344,17 @@ fn add(journal: &[u8], adjacency: &mut [u8], v: u64, w: u64) -> Result<Six, Six>
     }
     let (k, l) = (laid.classes[v.min(w)], laid.classes[v.max(w)]);
     if laid.short[k as usize][l as usize] == 0 {
-        return Err([16, u64::from(k), u64::from(l), 0, 0, 0]);
+        return Err(refused_at(16, u64::from(k), u64::from(l)));
     }
     let start = |laid: &Laid, vertex: usize| laid.starts[laid.classes[vertex] as usize];
     let from = (start(&laid, v), start(&laid, w));
-    let (switches, _) = join(&mut laid, rows, (v, w), from);
-    Ok([0, switches, 0, 0, 0, 0])
+    let switches = join(&mut laid, rows, (v, w), from);
+    let (made, [_, _, triples @ ..]) = told((v, w), switches);
+    let [a1, b1, t1, a2, b2, t2] = triples.map(u64::from);
+    Ok([0, made, 0, a1, b1, t1, a2, b2, t2])
 }
 
-fn remove(journal: &[u8], adjacency: &mut [u8], v: u64, w: u64) -> Result<Six, Six> {
+fn remove(journal: &[u8], adjacency: &mut [u8], v: u64, w: u64) -> Result<Six, Refused> {
     let (laid, rows) = check(journal, adjacency)?;
     let (v, w) = pair_of(&laid, v, w)?;
     if rows[v][w] == 0 {
@@ -332,37 +364,42 @@ fn remove(journal: &[u8], adjacency: &mut [u8], v: u64, w: u64) -> Result<Six, S
     Ok([0; 6])
 }
 
-fn fill(journal: &[u8], adjacency: &mut [u8]) -> Result<Six, Six> {
+fn fill(journal: &[u8], adjacency: &mut [u8], output: &mut [u8]) -> Result<Six, Refused> {
     let (mut laid, rows) = check(journal, adjacency)?;
-    let (mut joins, mut switches) = (0, 0);
+    let missing = laid.missing();
+    let (records, _) = output.as_chunks_mut();
+    let mut records = records.get_mut(..missing).ok_or(refused(18))?;
+    let mut switches = 0;
     for k in 1..DEGREES {
         for l in k..DEGREES {
             if laid.short[k][l] > 0 {
-                let (joined, switched) = fill_cell(&mut laid, rows, k, l);
-                joins += joined;
-                switches += switched;
+                let joins = laid.short[k][l] / if k == l { 2 } else { 1 };
+                let (now, later) = records.split_at_mut(joins as usize);
+                switches += fill_cell(&mut laid, rows, (k, l), now);
+                records = later;
             }
         }
     }
-    Ok([0, joins, switches, 0, 0, 0])
+    let written = join_record::LENGTH * missing;
+    Ok([0, missing as u64, switches, written as u64, 0, 0])
 }
 
 // Callgrind finds these three by their names.
 
 #[no_mangle]
 #[inline(never)]
-pub fn twin_add_edge(journal: &[u8], adjacency: &mut [u8], v: u64, w: u64) -> Six {
-    add(journal, adjacency, v, w).unwrap_or_else(|refusal| refusal)
+pub fn twin_add_edge(journal: &[u8], adjacency: &mut [u8], v: u64, w: u64) -> Nine {
+    add(journal, adjacency, v, w).unwrap_or_else(refusal)
 }
 
 #[no_mangle]
 #[inline(never)]
 pub fn twin_remove_edge(journal: &[u8], adjacency: &mut [u8], v: u64, w: u64) -> Six {
-    remove(journal, adjacency, v, w).unwrap_or_else(|refusal| refusal)
+    remove(journal, adjacency, v, w).unwrap_or_else(refusal)
 }
 
 #[no_mangle]
 #[inline(never)]
-pub fn twin_complete(journal: &[u8], adjacency: &mut [u8]) -> Six {
-    fill(journal, adjacency).unwrap_or_else(|refusal| refusal)
+pub fn twin_complete(journal: &[u8], adjacency: &mut [u8], output: &mut [u8]) -> Six {
+    fill(journal, adjacency, output).unwrap_or_else(refusal)
 }

@@ -1,6 +1,7 @@
 /*
- * Lays out the table of document 004 - cells (1, 3) = 1, (2, 2) = 2, (2, 3) = 2 - and one isolated
- * vertex, completes it, prints its four edges, and counts the table of the graph it got.
+ * Lays out six vertices of degree 2 and one isolated vertex, adds three edges by hand and completes
+ * the rest. A copy of the graph, as a patch frame would keep one, follows by what each join says has
+ * moved. Prints what moved and the edges, and counts the table of the graph it got.
  */
 #include <inttypes.h>
 #include <stdio.h>
@@ -11,46 +12,103 @@
 
 static uint8_t journal[REPLICA_JOURNAL_LENGTH];
 static uint8_t adjacency[REPLICA_ADJACENCY_LENGTH];
+static uint8_t copy[REPLICA_ADJACENCY_LENGTH];
+static uint8_t joins[REPLICA_MOST_JOIN_RECORDS];
 static uint8_t edges[REPLICA_MOST_EDGE_LIST];
 static uint8_t records[REPLICA_MOST_RECORDS];
 
 static const uint8_t block[] = {
-    0, 0, 1, 0, /* one vertex without an edge: it is vertex 0 */
-    1, 3, 1, 0,
-    2, 2, 2, 0,
-    2, 3, 2, 0,
+    0, 0, 1, 0,  /* one vertex without an edge: it is vertex 0 */
+    2, 2, 12, 0, /* six edges among vertices of degree 2, counted twice */
 };
 
 /* Ends the program on a refusal. */
-static struct ReplicaAnswer done(const char *what, struct ReplicaAnswer answer)
+static void check(const char *what, uint64_t number, uint64_t first, uint64_t second)
 {
-    if (answer.number != 0) {
+    if (number != 0) {
         fprintf(stderr, "%s: refused %" PRIu64 " %" PRIu64 " %" PRIu64 "\n",
-                what, answer.number, answer.first, answer.second);
+                what, number, first, second);
         exit(1);
     }
+}
+
+static struct ReplicaAnswer done(const char *what, struct ReplicaAnswer answer)
+{
+    check(what, answer.number, answer.first, answer.second);
     return answer;
 }
 
-int main(void)
+static void set(int v, int w, uint8_t joined)
 {
-    struct ReplicaAnswer laid, list, survey;
+    copy[v * REPLICA_MOST_VERTICES + w] = joined;
+    copy[w * REPLICA_MOST_VERTICES + v] = joined;
+}
 
+/* Plays a join record onto the copy: what moved first, then the edge itself. */
+static void play(const uint8_t *join)
+{
+    for (int i = 2; i < REPLICA_JOIN_RECORD_LENGTH && join[i] != REPLICA_UNUSED; i += 3) {
+        int a = join[i], b = join[i + 1], t = join[i + 2];
+        set(a, t, 0);
+        set(b, t, 1);
+        printf("%d-%d became %d-%d, ", a, t, b, t);
+    }
+    set(join[0], join[1], 1);
+    printf("%d-%d came\n", join[0], join[1]);
+}
+
+/* Adds an edge by hand. The pair and the triples of the answer are a join record. */
+static void add(uint8_t v, uint8_t w)
+{
+    struct ReplicaJoin join = replica_add_edge(journal, sizeof journal,
+                                               adjacency, sizeof adjacency, v, w);
+    uint8_t record[REPLICA_JOIN_RECORD_LENGTH] = {
+        v, w, (uint8_t)join.a1, (uint8_t)join.b1, (uint8_t)join.t1,
+        (uint8_t)join.a2, (uint8_t)join.b2, (uint8_t)join.t2,
+    };
+
+    check("add_edge", join.number, join.first, join.second);
+    play(record);
+}
+
+/* Takes the table and fixes the vertices. Returns their number. */
+static uint64_t lay_out(void)
+{
     done("clear", replica_clear(journal, sizeof journal, adjacency, sizeof adjacency));
     done("take_block", replica_take_block(journal, sizeof journal, adjacency, sizeof adjacency,
                                           0, block, sizeof block));
     /* Sent again after a time-out: held, and not added twice. */
     done("take_block", replica_take_block(journal, sizeof journal, adjacency, sizeof adjacency,
                                           0, block, sizeof block));
-    laid = done("lay_out", replica_lay_out(journal, sizeof journal, adjacency, sizeof adjacency));
-    done("complete", replica_complete(journal, sizeof journal, adjacency, sizeof adjacency));
+    return done("lay_out", replica_lay_out(journal, sizeof journal,
+                                           adjacency, sizeof adjacency)).first;
+}
+
+int main(void)
+{
+    struct ReplicaAnswer completed, list, survey;
+    uint64_t vertices = lay_out();
+
+    add(1, 2);
+    add(1, 3);
+    add(1, 4); /* vertex 1 has its two edges already and gives one of them away */
+    completed = done("complete", replica_complete(journal, sizeof journal,
+                                                  adjacency, sizeof adjacency,
+                                                  joins, sizeof joins));
+    for (uint64_t i = 0; i < completed.third; i += REPLICA_JOIN_RECORD_LENGTH)
+        play(joins + i);
+    if (memcmp(copy, adjacency, sizeof copy) != 0) {
+        fprintf(stderr, "the copy has other edges\n");
+        return 1;
+    }
+
     list = done("edge_list", replica_edge_list(journal, sizeof journal, adjacency, sizeof adjacency,
                                                edges, sizeof edges));
     for (uint64_t i = 0; i < list.first; i += 2)
         printf("%d %d\n", edges[i], edges[i + 1]);
 
     /* A list of edges does not show isolated vertices: the total of all vertices goes with it. */
-    survey = done("jdm_of_edges", replica_jdm_of_edges(edges, list.first, laid.first,
+    survey = done("jdm_of_edges", replica_jdm_of_edges(edges, list.first, vertices,
                                                        records, sizeof records));
     if (survey.first != sizeof block || memcmp(records, block, sizeof block) != 0) {
         fprintf(stderr, "the graph has another table\n");

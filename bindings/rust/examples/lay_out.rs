@@ -1,4 +1,5 @@
-//! Loads a table from a file of records, drags some edges by hand, completes and prints.
+//! Loads a table from a file of records, drags some edges by hand, completes and prints what moved
+//! and what came out.
 //!
 //!     cargo run -p replica --example lay_out -- RECORDS [V-W ...]
 //!
@@ -6,7 +7,7 @@
 //! vertices). Each V-W joins two vertices before the rest is completed; -V-W removes an edge again.
 //! Without a file, the table of document 004 is laid.
 
-use replica::{State, BLOCK_LENGTH};
+use replica::{State, Switch, Switches, BLOCK_LENGTH};
 use std::error::Error;
 
 const DOCUMENT_004: [u8; 12] = [1, 3, 1, 0, 2, 2, 2, 0, 2, 3, 2, 0];
@@ -25,6 +26,10 @@ fn main() -> Result<(), Box<dyn Error>> {
     }
     let done = state.complete()?;
     println!("{} joins, {} switches", done.joins, done.switches);
+    for join in done.records() {
+        println!("{}-{}{}", join.v, join.w, moved(join.switches));
+    }
+    println!("edges:");
     for (v, w) in state.edges()? {
         println!("{v} {w}");
     }
@@ -59,11 +64,17 @@ fn by_hand(state: &mut State, drag: &str) -> Result<(), Box<dyn Error>> {
     } else {
         state
             .add_edge(v, w)
-            .map(|switches| format!("joined, {switches} switches"))
+            .map(|switches| format!("joined{}", moved(switches)))
     };
     match answer {
         Ok(text) => println!("{drag}: {text}"),
         Err(refusal) => println!("{drag}: refused, {refusal}"),
     }
     Ok(())
+}
+
+/// The edges that a join moved.
+fn moved(switches: Switches) -> String {
+    let told = |Switch { a, b, t }| format!(", {a}-{t} became {b}-{t}");
+    switches.into_iter().map(told).collect()
 }

@@ -31,15 +31,21 @@
 //! # }
 //! ```
 //!
+//! Joining two vertices that have all their edges moves others: a [`Switch`] says which. Adding an
+//! edge hands its switches back, and completing gives a record of each join, so that a copy of the
+//! graph can follow by playing them ([`Completion`]).
+//!
 //! [`raw`] has the same entries over slices of any length, answering with the plain numbers of the
 //! C interface.
 
 mod iterators;
+mod joins;
 pub mod raw;
 mod refusal;
 mod state;
 
 pub use iterators::{block, Cell, Cells, Edges, Record, Records};
+pub use joins::{Join, Joins, Switch, Switches};
 pub use refusal::{Cause, Refusal};
 pub use state::{jdm_of_edges, Completion, Figures, Phase, State, Take};
 
@@ -51,6 +57,8 @@ pub const ADJACENCY_LENGTH: usize = 40_000;
 pub const BLOCK_LENGTH: usize = 64;
 /// Bytes of a record.
 pub const RECORD_LENGTH: usize = 4;
+/// Bytes of a join record, which completing writes for each edge it adds.
+pub const JOIN_RECORD_LENGTH: usize = 8;
 /// Highest degree.
 pub const MOST_DEGREE: usize = 40;
 /// Most vertices in a state.

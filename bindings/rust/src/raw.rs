@@ -1,7 +1,7 @@
 //! The ten exports of the C interface, over slices of any length.
 //!
 //! These functions are safe: a slice is passed as its pointer and its length, and the library
-//! checks lengths itself. They answer with the six numbers of the C interface as they are.
+//! checks lengths itself. They answer with the numbers of the C interface as they are.
 //!
 //! ```
 //! use replica::raw;
@@ -14,8 +14,8 @@
 //! assert_eq!(raw::figures(&journal[1..], &adjacency).number, 1); // another length
 //! ```
 
-/// What every export returns: `number` is 0 when the call did its work, else the number of the
-/// refusal, with its two places in `first` and `second`. What is not named is 0.
+/// What every export but that of [`add_edge`] returns: `number` is 0 when the call did its work, else
+/// the number of the refusal, with its two places in `first` and `second`. What is not named is 0.
 #[repr(C)]
 #[derive(Clone, Copy, Debug, Default, PartialEq, Eq)]
 pub struct ReplicaAnswer {
@@ -41,8 +41,43 @@ impl ReplicaAnswer {
     }
 }
 
+/// What [`add_edge`] returns. When the call did its work, `number` and `second` are 0, `first` is the
+/// switches made, and each switch is a triple: edge a-t went, edge b-t came; one that was not needed
+/// has 255 in its numbers. Refused, `number` says why, `first` and `second` are its places, and all
+/// others are 0.
+#[repr(C)]
+#[derive(Clone, Copy, Debug, Default, PartialEq, Eq)]
+pub struct ReplicaJoin {
+    pub number: u64,
+    pub first: u64,
+    pub second: u64,
+    pub a1: u64,
+    pub b1: u64,
+    pub t1: u64,
+    pub a2: u64,
+    pub b2: u64,
+    pub t2: u64,
+}
+
+impl ReplicaJoin {
+    /// The nine numbers in their order.
+    pub fn numbers(self) -> [u64; 9] {
+        [
+            self.number,
+            self.first,
+            self.second,
+            self.a1,
+            self.b1,
+            self.t1,
+            self.a2,
+            self.b2,
+            self.t2,
+        ]
+    }
+}
+
 mod exports {
-    use super::ReplicaAnswer;
+    use super::{ReplicaAnswer, ReplicaJoin};
 
     extern "C" {
         pub fn replica_clear(
@@ -84,7 +119,7 @@ mod exports {
             adjacency_length: usize,
             v: u64,
             w: u64,
-        ) -> ReplicaAnswer;
+        ) -> ReplicaJoin;
 
         pub fn replica_remove_edge(
             journal: *const u8,
@@ -100,6 +135,8 @@ mod exports {
             journal_length: usize,
             adjacency: *mut u8,
             adjacency_length: usize,
+            output: *mut u8,
+            output_length: usize,
         ) -> ReplicaAnswer;
 
         pub fn replica_edge_list(
@@ -191,8 +228,9 @@ pub fn lay_out(journal: &mut [u8], adjacency: &[u8]) -> ReplicaAnswer {
     }
 }
 
-/// Joins two vertices: `first` is the switches made. Refused: 1, 2, 3, 13, 14, 15, 16.
-pub fn add_edge(journal: &[u8], adjacency: &mut [u8], v: u64, w: u64) -> ReplicaAnswer {
+/// Joins two vertices: `first` is the switches made, and then they follow.
+/// Refused: 1, 2, 3, 13, 14, 15, 16.
+pub fn add_edge(journal: &[u8], adjacency: &mut [u8], v: u64, w: u64) -> ReplicaJoin {
     unsafe {
         exports::replica_add_edge(
             journal.as_ptr(),
@@ -219,15 +257,17 @@ pub fn remove_edge(journal: &[u8], adjacency: &mut [u8], v: u64, w: u64) -> Repl
     }
 }
 
-/// Joins until no cell is short: `first` is the joins made, `second` the switches.
-/// Refused: 1, 2, 3.
-pub fn complete(journal: &[u8], adjacency: &mut [u8]) -> ReplicaAnswer {
+/// Joins until no cell is short and writes a record of 8 bytes for each join: `first` is the joins
+/// made, `second` the switches, `third` the written length. Refused: 1, 2, 3, 18.
+pub fn complete(journal: &[u8], adjacency: &mut [u8], output: &mut [u8]) -> ReplicaAnswer {
     unsafe {
         exports::replica_complete(
             journal.as_ptr(),
             journal.len(),
             adjacency.as_mut_ptr(),
             adjacency.len(),
+            output.as_mut_ptr(),
+            output.len(),
         )
     }
 }

@@ -159,14 +159,20 @@ pub struct Refusal {
 impl Refusal {
     /// The refusal in an answer, or the answer itself when the call did its work.
     pub(crate) fn unless_done(answer: ReplicaAnswer) -> Result<ReplicaAnswer, Refusal> {
-        if answer.number == 0 {
-            return Ok(answer);
+        Refusal::unless_zero(answer.number, answer.first, answer.second)?;
+        Ok(answer)
+    }
+
+    /// The refusal with this number and these places; 0 is none.
+    pub(crate) fn unless_zero(number: u64, first: u64, second: u64) -> Result<(), Refusal> {
+        if number == 0 {
+            return Ok(());
         }
-        let cause = Cause::from_number(answer.number)
-            .unwrap_or_else(|| panic!("the library has no refusal number {}", answer.number));
+        let cause = Cause::from_number(number)
+            .unwrap_or_else(|| panic!("the library has no refusal number {number}"));
         Err(Refusal {
             cause,
-            places: (answer.first, answer.second),
+            places: (first, second),
         })
     }
 

@@ -2,7 +2,8 @@
 
 use crate::raw::{self, ReplicaAnswer};
 use crate::{
-    Cells, Edges, Records, Refusal, ADJACENCY_LENGTH, JOURNAL_LENGTH, MOST_EDGES, MOST_VERTICES,
+    Cells, Edges, Joins, Records, Refusal, Switches, ADJACENCY_LENGTH, JOIN_RECORD_LENGTH,
+    JOURNAL_LENGTH, MOST_EDGES, MOST_VERTICES,
 };
 use std::fmt;
 
@@ -15,11 +16,52 @@ pub enum Take {
     Held,
 }
 
-/// What [`State::complete`] did.
+/// What completing did: the edges it added, the switches made for them, and a record of each join.
+/// The bytes of the records are its own, from [`State::complete`], or lent to it, from
+/// [`State::complete_into`].
+///
+/// Played onto the graph of before, the records give the graph of after:
+///
+/// ```
+/// use replica::{State, Switch};
+/// use std::collections::BTreeSet;
+///
+/// let mut state = State::new();
+/// state.take_block(0, &[2, 2, 8, 0]).unwrap(); // four vertices in a ring
+/// state.lay_out().unwrap();
+/// state.add_edge(0, 1).unwrap();
+///
+/// let mut copy: BTreeSet<(u8, u8)> = state.edges().unwrap().collect();
+/// let pair = |v: u8, w: u8| (v.min(w), v.max(w));
+/// let done = state.complete().unwrap();
+/// assert_eq!((done.joins, done.switches), (3, 2));
+/// for join in done.records() {
+///     for Switch { a, b, t } in join.switches {
+///         assert!(copy.remove(&pair(a, t)));
+///         assert!(copy.insert(pair(b, t)));
+///     }
+///     assert!(copy.insert((join.v, join.w)));
+/// }
+/// assert!(copy.into_iter().eq(state.edges().unwrap()));
+/// ```
 #[derive(Clone, Copy, Debug, PartialEq, Eq)]
-pub struct Completion {
+pub struct Completion<Bytes = Vec<u8>> {
     pub joins: u64,
     pub switches: u64,
+    bytes: Bytes,
+}
+
+impl<Bytes: AsRef<[u8]>> Completion<Bytes> {
+    /// The joins with their switches, in the order made; v is below w in each.
+    pub fn records(&self) -> Joins<'_> {
+        Joins::new(self.as_bytes())
+    }
+
+    /// The bytes of the records, 8 for each join: v, w, then a, b, t of each switch in the order
+    /// made, unused ones 255.
+    pub fn as_bytes(&self) -> &[u8] {
+        self.bytes.as_ref()
+    }
 }
 
 /// The two phases of a state.
@@ -48,7 +90,7 @@ pub struct Figures {
 /// A refused call changes nothing.
 ///
 /// ```
-/// use replica::{Cause, State, Take};
+/// use replica::{Cause, State, Switch, Take};
 ///
 /// let mut state = State::new();
 /// assert_eq!(state.take_block(0, &[2, 2, 8, 0]), Ok(Take::Taken(1))); // four vertices in a ring
@@ -57,9 +99,10 @@ pub struct Figures {
 ///
 /// // A triangle by hand leaves vertex 3 alone; joining 0 and 3 moves one edge away from 0.
 /// for (v, w) in [(0, 1), (0, 2), (1, 2)] {
-///     assert_eq!(state.add_edge(v, w), Ok(0));
+///     assert!(state.add_edge(v, w).unwrap().is_empty());
 /// }
-/// assert_eq!(state.add_edge(0, 3), Ok(1));
+/// let switches = state.add_edge(0, 3).unwrap();
+/// assert_eq!(*switches, [Switch { a: 0, b: 3, t: 1 }]); // 0-1 became 3-1
 /// let edges: Vec<_> = state.edges().unwrap().collect();
 /// assert_eq!(edges, [(0, 2), (0, 3), (1, 2), (1, 3)]);
 /// ```
@@ -226,16 +269,17 @@ impl State {
     }
 
     /// Joins v and w. A vertex that has all its edges already gives one to another vertex of its
-    /// degree first; returns how many of the two had to, 0 to 2. Naming the pair the other way
+    /// degree first; returns these switches in the order made, 0 to 2. Naming the pair the other way
     /// round may move other edges. An isolated vertex takes no edge.
     ///
     /// ```
-    /// # use replica::{Cause, State};
+    /// # use replica::{Cause, State, Switch};
     /// let mut state = State::new();
     /// state.take_block(0, &[1, 1, 4, 0]).unwrap(); // four vertices, two edges
     /// state.lay_out().unwrap();
-    /// assert_eq!(state.add_edge(0, 1), Ok(0));
-    /// assert_eq!(state.add_edge(0, 2), Ok(1)); // 0-1 becomes 1-3
+    /// assert_eq!(state.add_edge(0, 1).unwrap().len(), 0);
+    /// let switches = state.add_edge(0, 2).unwrap();
+    /// assert_eq!(*switches, [Switch { a: 0, b: 3, t: 1 }]); // 0-1 became 3-1
     /// let edges: Vec<_> = state.edges().unwrap().collect();
     /// assert_eq!(edges, [(0, 2), (1, 3)]);
     /// assert_eq!(state.add_edge(0, 1).unwrap_err().cause, Cause::CellNotShort);
@@ -246,9 +290,10 @@ impl State {
     /// let refusal = state.add_edge(2, 0).unwrap_err();
     /// assert_eq!((refusal.cause, refusal.places), (Cause::CellNotShort, (0, 1)));
     /// ```
-    pub fn add_edge(&mut self, v: u64, w: u64) -> Result<u64, Refusal> {
-        let answer = raw::add_edge(&self.journal, &mut self.adjacency, v, w);
-        Ok(Refusal::unless_done(answer)?.first)
+    pub fn add_edge(&mut self, v: u64, w: u64) -> Result<Switches, Refusal> {
+        let join = raw::add_edge(&self.journal, &mut self.adjacency, v, w);
+        Refusal::unless_zero(join.number, join.first, join.second)?;
+        Ok(Switches::of(join))
     }
 
     /// Removes the edge between v and w.
@@ -269,22 +314,64 @@ impl State {
     }
 
     /// Adds edges until every cell has its count. From any start it makes exactly as many joins as
-    /// edges are missing.
+    /// edges are missing. Returns how many, the switches made for them, and a record of each join.
     ///
     /// ```
-    /// # use replica::{Completion, State};
+    /// # use replica::{State, Switch};
     /// let mut state = State::new();
     /// state.take_block(0, &[2, 2, 8, 0]).unwrap();
     /// state.lay_out().unwrap();
-    /// assert_eq!(state.complete(), Ok(Completion { joins: 4, switches: 2 }));
-    /// assert_eq!(state.complete(), Ok(Completion { joins: 0, switches: 0 }));
+    /// let done = state.complete().unwrap();
+    /// assert_eq!((done.joins, done.switches), (4, 2));
+    /// let pairs: Vec<_> = done.records().map(|join| (join.v, join.w)).collect();
+    /// assert_eq!(pairs, [(0, 1), (0, 2), (0, 3), (0, 2)]); // a switch took 0-2 away in between
+    /// let last = done.records().last().unwrap();
+    /// assert_eq!(*last.switches, [Switch { a: 0, b: 3, t: 1 }]);
+    ///
+    /// assert_eq!(state.complete().unwrap().joins, 0); // nothing is missing any more
     /// ```
     pub fn complete(&mut self) -> Result<Completion, Refusal> {
-        let answer = raw::complete(&self.journal, &mut self.adjacency);
+        let mut bytes = vec![0; JOIN_RECORD_LENGTH * MOST_EDGES];
+        let done = self.complete_into(&mut bytes)?;
+        let (joins, switches, length) = (done.joins, done.switches, done.bytes.len());
+        bytes.truncate(length);
+        Ok(Completion {
+            joins,
+            switches,
+            bytes,
+        })
+    }
+
+    /// The same, writing the records into an output, 8 bytes for each edge that is missing. 32,000
+    /// bytes always do; on a complete state none are needed. Refused when it is shorter, and then
+    /// nothing is added either.
+    ///
+    /// ```
+    /// # use replica::{Cause, State};
+    /// let mut state = State::new();
+    /// state.take_block(0, &[1, 1, 4, 0]).unwrap();
+    /// state.lay_out().unwrap();
+    /// let mut output = [9; 20];
+    /// let refusal = state.complete_into(&mut output[..15]).unwrap_err();
+    /// assert_eq!(refusal.cause, Cause::OutputTooShort);
+    ///
+    /// let done = state.complete_into(&mut output).unwrap();
+    /// assert_eq!((done.joins, done.switches, done.as_bytes().len()), (2, 1, 16));
+    /// assert_eq!(output[..8], [0, 1, 255, 255, 255, 255, 255, 255]);
+    /// assert_eq!(output[8..], [0, 2, 0, 3, 1, 255, 255, 255, 9, 9, 9, 9]);
+    ///
+    /// assert_eq!(state.complete_into(&mut []).unwrap().joins, 0);
+    /// ```
+    pub fn complete_into<'a>(
+        &mut self,
+        output: &'a mut [u8],
+    ) -> Result<Completion<&'a [u8]>, Refusal> {
+        let answer = raw::complete(&self.journal, &mut self.adjacency, output);
         let answer = Refusal::unless_done(answer)?;
         Ok(Completion {
             joins: answer.first,
             switches: answer.second,
+            bytes: &output[..answer.third as usize],
         })
     }
 

@@ -3,8 +3,8 @@
 use crate::call::{on_library, on_reference, Call, Memory};
 use crate::count::Count;
 use crate::lent::Lent;
-use reference::six::Six;
-use reference::{journal, ADJACENCY_LENGTH, JOURNAL_LENGTH};
+use reference::numbers::Numbers;
+use reference::{join_record, journal, refused, ADJACENCY_LENGTH, JOURNAL_LENGTH};
 
 /// One state for both sides: they are equal after every call, or the test has failed.
 pub struct Both {
@@ -32,8 +32,9 @@ impl Both {
         }
     }
 
-    /// Makes the call on both sides and compares answers and bytes. Returns the six numbers.
-    pub fn call(&mut self, call: Call) -> Six {
+    /// Makes the call on both sides, compares answers and bytes, and plays what has moved. Returns the
+    /// numbers of the answer.
+    pub fn call(&mut self, call: Call) -> Numbers {
         self.calls += 1;
         if self.trace {
             println!("{}", self.place(&call));
@@ -51,16 +52,37 @@ impl Both {
             self.compare(&call, "the bytes before the refusal", &after, &before);
         }
         self.compare_inputs(&call, &after);
+        let moves = &mut self.count.moves;
+        if let Err(wrong) = moves.follow(&call, &numbers, &before, &after) {
+            panic!("{}: {wrong}", self.place(&call));
+        }
         self.journal = after.journal;
         self.adjacency = after.adjacency;
         self.output = after.output;
-        self.count.answered(call.entry(), numbers);
-        self.count_isolated(&call, numbers);
+        self.count.answered(call.entry(), &numbers);
+        self.count_isolated(&call, &numbers);
+        numbers
+    }
+
+    /// Completes a laid state in which so many edges are missing: refused for want of one byte, then
+    /// with just the room it needs.
+    pub fn complete(&mut self, missing: u64) -> Numbers {
+        let needed = join_record::LENGTH * missing as usize;
+        let filled = |length| vec![0xee; length];
+        if needed > 0 {
+            let output = filled(needed - 1);
+            let numbers = self.call(Call::Complete { output });
+            assert_eq!(numbers, refused(18), "{}", self.label);
+        }
+        let output = filled(needed);
+        let numbers = self.call(Call::Complete { output });
+        let expected = [0, missing, numbers[2], needed as u64, 0, 0];
+        assert_eq!(numbers, expected, "{}", self.label);
         numbers
     }
 
     /// Counts the answers in which isolated vertices or a survey's total have a part.
-    fn count_isolated(&mut self, call: &Call, numbers: Six) {
+    fn count_isolated(&mut self, call: &Call, numbers: &Numbers) {
         let count = &mut self.count.isolated;
         match (call, numbers[0]) {
             (Call::LayOut, 0 | 12) => {
@@ -86,7 +108,7 @@ impl Both {
     }
 
     /// The same on other buffers, which are dropped afterwards; the state stays as it is.
-    pub fn call_on(&mut self, journal: Vec<u8>, adjacency: Vec<u8>, call: Call) -> Six {
+    pub fn call_on(&mut self, journal: Vec<u8>, adjacency: Vec<u8>, call: Call) -> Numbers {
         let journal = std::mem::replace(&mut self.journal, journal);
         let adjacency = std::mem::replace(&mut self.adjacency, adjacency);
         let numbers = self.call(call);
@@ -99,11 +121,11 @@ impl Both {
     pub fn read_back(&mut self, number: u64, sent: &[u8]) {
         let numbers = self.call(Call::HeldBlock { number });
         assert_eq!(numbers[0], 0, "{}: block {number}", self.label);
-        self.compare_held(numbers, number, sent);
+        self.compare_held(&numbers, number, sent);
     }
 
     /// The same for a call that was made already and not refused.
-    pub fn compare_held(&mut self, numbers: Six, number: u64, sent: &[u8]) {
+    pub fn compare_held(&mut self, numbers: &Numbers, number: u64, sent: &[u8]) {
         let (start, length) = (numbers[1] as usize, numbers[2] as usize);
         assert_eq!(
             self.journal.get(start..start + length),
@@ -120,7 +142,7 @@ impl Both {
         format!("{}, call {}, {call:?}", self.label, self.calls)
     }
 
-    fn on_library_between_guards(&self, call: &Call) -> (Six, Memory) {
+    fn on_library_between_guards(&self, call: &Call) -> (Numbers, Memory) {
         // Every slice begins at an alignment of its own, another one in each call.
         let shift = self.calls;
         let mut journal = Lent::new(&self.journal, shift);
@@ -175,7 +197,7 @@ impl Both {
         let writes_journal = matches!(call, Call::Clear | Call::TakeBlock { .. } | Call::LayOut);
         let writes_adjacency = matches!(
             call,
-            Call::Clear | Call::AddEdge { .. } | Call::RemoveEdge { .. } | Call::Complete
+            Call::Clear | Call::AddEdge { .. } | Call::RemoveEdge { .. } | Call::Complete { .. }
         );
         let kept = (writes_journal || same_journal) && (writes_adjacency || same_adjacency);
         assert!(kept, "{}: a byte lent to read changed", self.place(call));

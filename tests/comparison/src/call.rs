@@ -1,6 +1,8 @@
 //! One call of an entry, with all it is given besides journal and adjacency.
 
-use reference::six::{self, Six};
+use reference::join_record;
+use reference::numbers::{self, Numbers};
+use reference::random::Random;
 use std::fmt;
 
 /// The ten entries.
@@ -56,7 +58,7 @@ impl Entry {
             Entry::LayOut => &[1, 2, 3, 9, 10, 11, 12],
             Entry::AddEdge => &[1, 2, 3, 13, 14, 15, 16],
             Entry::RemoveEdge => &[1, 2, 3, 13, 14, 17],
-            Entry::Complete => &[1, 2, 3],
+            Entry::Complete => &[1, 2, 3, 18],
             Entry::EdgeList => &[1, 2, 3, 18],
             Entry::JdmOfEdges => &[19, 20, 18],
             Entry::Figures => &[1, 2],
@@ -84,7 +86,9 @@ pub enum Call {
         v: u64,
         w: u64,
     },
-    Complete,
+    Complete {
+        output: Vec<u8>,
+    },
     EdgeList {
         output: Vec<u8>,
     },
@@ -105,7 +109,7 @@ impl Call {
             Call::LayOut => Entry::LayOut,
             Call::AddEdge { .. } => Entry::AddEdge,
             Call::RemoveEdge { .. } => Entry::RemoveEdge,
-            Call::Complete => Entry::Complete,
+            Call::Complete { .. } => Entry::Complete,
             Call::EdgeList { .. } => Entry::EdgeList,
             Call::JdmOfEdges { .. } => Entry::JdmOfEdges,
             Call::Figures => Entry::Figures,
@@ -124,7 +128,9 @@ impl Call {
     /// The bytes of its output before the call.
     pub fn output(&self) -> &[u8] {
         match self {
-            Call::EdgeList { output } | Call::JdmOfEdges { output, .. } => output,
+            Call::Complete { output }
+            | Call::EdgeList { output }
+            | Call::JdmOfEdges { output, .. } => output,
             _ => &[],
         }
     }
@@ -137,7 +143,9 @@ impl fmt::Debug for Call {
             Call::TakeBlock { number, block } => write!(f, "({number}, {block:?})"),
             Call::HeldBlock { number } => write!(f, "({number})"),
             Call::AddEdge { v, w } | Call::RemoveEdge { v, w } => write!(f, "({v}, {w})"),
-            Call::EdgeList { output } => write!(f, "({} bytes)", output.len()),
+            Call::Complete { output } | Call::EdgeList { output } => {
+                write!(f, "({} bytes)", output.len())
+            }
             Call::JdmOfEdges {
                 edges,
                 total,
@@ -146,6 +154,28 @@ impl fmt::Debug for Call {
             _ => Ok(()),
         }
     }
+}
+
+/// The bytes that completing needs for its records: 8 for each edge wanted and not laid. None where
+/// the bytes are no valid state.
+pub fn room(journal: &[u8], adjacency: &[u8]) -> usize {
+    match reference::figures(journal, adjacency) {
+        Ok(figures) => join_record::LENGTH * (figures.edges_wanted - figures.edges_laid) as usize,
+        Err(_) => 0,
+    }
+}
+
+/// An output about as long as needed, filled with any bytes.
+pub fn any_output(needed: usize, random: &mut Random) -> Vec<u8> {
+    let length = match random.below(8) {
+        0 => 0,
+        1 => needed.saturating_sub(1),
+        2 => needed.saturating_sub(4),
+        3 => random.below(needed + 1),
+        4 => needed + random.between(1, 70),
+        _ => needed,
+    };
+    random.bytes(length)
 }
 
 /// All bytes lent to a call.
@@ -176,39 +206,43 @@ pub fn on_library(
     adjacency: &mut [u8],
     input: &[u8],
     output: &mut [u8],
-) -> Six {
+) -> Numbers {
     use replica::raw;
-    match *call {
+    let answer = match *call {
         Call::Clear => raw::clear(journal, adjacency),
         Call::TakeBlock { number, .. } => raw::take_block(journal, adjacency, number, input),
         Call::HeldBlock { number } => raw::held_block(journal, adjacency, number),
         Call::LayOut => raw::lay_out(journal, adjacency),
-        Call::AddEdge { v, w } => raw::add_edge(journal, adjacency, v, w),
+        Call::AddEdge { v, w } => {
+            return Numbers::Nine(raw::add_edge(journal, adjacency, v, w).numbers());
+        }
         Call::RemoveEdge { v, w } => raw::remove_edge(journal, adjacency, v, w),
-        Call::Complete => raw::complete(journal, adjacency),
+        Call::Complete { .. } => raw::complete(journal, adjacency, output),
         Call::EdgeList { .. } => raw::edge_list(journal, adjacency, output),
         Call::JdmOfEdges { total, .. } => raw::jdm_of_edges(input, total, output),
         Call::Figures => raw::figures(journal, adjacency),
-    }
-    .numbers()
+    };
+    Numbers::Six(answer.numbers())
 }
 
 /// Makes the call on the reference.
-pub fn on_reference(call: &Call, memory: &mut Memory) -> Six {
+pub fn on_reference(call: &Call, memory: &mut Memory) -> Numbers {
     let journal = &mut memory.journal;
     let adjacency = &mut memory.adjacency;
     let input = &memory.input;
     let output = &mut memory.output;
-    match *call {
-        Call::Clear => six::clear(journal, adjacency),
-        Call::TakeBlock { number, .. } => six::take_block(journal, adjacency, number, input),
-        Call::HeldBlock { number } => six::held_block(journal, adjacency, number),
-        Call::LayOut => six::lay_out(journal, adjacency),
-        Call::AddEdge { v, w } => six::add_edge(journal, adjacency, v, w),
-        Call::RemoveEdge { v, w } => six::remove_edge(journal, adjacency, v, w),
-        Call::Complete => six::complete(journal, adjacency),
-        Call::EdgeList { .. } => six::edge_list(journal, adjacency, output),
-        Call::JdmOfEdges { total, .. } => six::jdm_of_edges(input, total, output),
-        Call::Figures => six::figures(journal, adjacency),
-    }
+    Numbers::Six(match *call {
+        Call::Clear => numbers::clear(journal, adjacency),
+        Call::TakeBlock { number, .. } => numbers::take_block(journal, adjacency, number, input),
+        Call::HeldBlock { number } => numbers::held_block(journal, adjacency, number),
+        Call::LayOut => numbers::lay_out(journal, adjacency),
+        Call::AddEdge { v, w } => {
+            return Numbers::Nine(numbers::add_edge(journal, adjacency, v, w));
+        }
+        Call::RemoveEdge { v, w } => numbers::remove_edge(journal, adjacency, v, w),
+        Call::Complete { .. } => numbers::complete(journal, adjacency, output),
+        Call::EdgeList { .. } => numbers::edge_list(journal, adjacency, output),
+        Call::JdmOfEdges { total, .. } => numbers::jdm_of_edges(input, total, output),
+        Call::Figures => numbers::figures(journal, adjacency),
+    })
 }

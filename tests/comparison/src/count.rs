@@ -1,6 +1,8 @@
 //! How many calls, tables and refusals were tried.
 
 use crate::call::Entry;
+use crate::moves::Moves;
+use reference::numbers::Numbers;
 
 const REFUSALS: usize = 20;
 
@@ -19,6 +21,7 @@ pub struct Count {
     /// Held blocks compared with what was sent.
     pub read_back: u64,
     pub isolated: Isolated,
+    pub moves: Moves,
 }
 
 /// Answers in which isolated vertices or a survey's total have a part.
@@ -67,7 +70,7 @@ impl Count {
     }
 
     /// Counts one answer.
-    pub fn answered(&mut self, entry: Entry, numbers: [u64; 6]) {
+    pub fn answered(&mut self, entry: Entry, numbers: &Numbers) {
         let number = numbers[0] as usize;
         assert!(number <= REFUSALS, "refusal {number} does not exist");
         self.answers[entry as usize][number] += 1;
@@ -100,6 +103,7 @@ impl Count {
         self.pairs_joined += other.pairs_joined;
         self.read_back += other.read_back;
         self.isolated.add(&other.isolated);
+        self.moves.add(&other.moves);
     }
 
     pub fn calls(&self) -> u64 {
@@ -128,9 +132,14 @@ impl Count {
         if self.read_back == 0 {
             missing.push("no block was read back".to_string());
         }
-        for (name, count) in self.isolated.named() {
+        let isolated = self
+            .isolated
+            .named()
+            .map(|named| ("isolated vertices", named));
+        let moves = self.moves.named().map(|named| ("what moved", named));
+        for (of, (name, count)) in isolated.into_iter().chain(moves) {
             if count == 0 {
-                missing.push(format!("isolated vertices, never: {name}"));
+                missing.push(format!("{of}, never: {name}"));
             }
         }
         missing
@@ -166,10 +175,15 @@ impl Count {
             self.joins, self.switches, self.completions
         );
         println!("blocks        {} read back as sent", self.read_back);
-        print!("isolated     ");
-        for (name, count) in self.isolated.named() {
-            print!(" {name}:{count}");
-        }
-        println!();
+        print_named("isolated", &self.isolated.named());
+        print_named("what moved", &self.moves.named());
     }
+}
+
+fn print_named(title: &str, counts: &[(&'static str, u64)]) {
+    print!("{title:<13}");
+    for (name, count) in counts {
+        print!(" {name}:{count}");
+    }
+    println!();
 }

@@ -3,11 +3,12 @@
 
 use crate::blocks::{self, Size};
 use crate::both::Both;
-use crate::call::Call;
+use crate::call::{any_output, Call};
 use crate::tables::{simple, sum_of, sum_of_graph, Cells, Sum};
+use reference::numbers::Numbers;
 use reference::random::Random;
 use reference::search::find_graph;
-use reference::Table;
+use reference::{join_record, refused, refused_at, Table};
 
 /// The tally of document 01, with the blocks it has counted.
 struct Tally {
@@ -34,7 +35,12 @@ impl Tally {
         self.sum().table()
     }
 
-    fn fed(&mut self, call: &Call, numbers: [u64; 6]) {
+    /// Edges wanted and not laid.
+    fn missing(&self) -> u64 {
+        self.sum().edges() - self.edges
+    }
+
+    fn fed(&mut self, call: &Call, numbers: &Numbers) {
         let done = numbers[0] == 0;
         match call {
             Call::TakeBlock { number, block } => {
@@ -46,7 +52,7 @@ impl Tally {
             Call::LayOut if !self.laid => self.laid = self.table().check().is_ok(),
             Call::AddEdge { .. } if done => self.edges += 1,
             Call::RemoveEdge { .. } if done => self.edges -= 1,
-            Call::Complete if done => self.edges += numbers[1],
+            Call::Complete { .. } if done => self.edges += numbers[1],
             _ => {}
         }
     }
@@ -73,7 +79,7 @@ pub fn run(seed: u64, both: &mut Both) {
     for _ in 0..2 * plan.len() + random.between(5, 25) {
         let call = next_call(&plan, &tally, &mut random);
         let numbers = both.call(call.clone());
-        tally.fed(&call, numbers);
+        tally.fed(&call, &numbers);
         if tally.laid {
             check_laid(&tally, both);
         } else {
@@ -113,7 +119,12 @@ fn next_call(plan: &[Vec<u8>], tally: &Tally, random: &mut Random) -> Call {
             v: any(random),
             w: any(random),
         },
-        5 if tally.laid && random.chance(30) => Call::Complete,
+        5 if tally.laid && random.chance(30) => {
+            let needed = join_record::LENGTH * tally.missing() as usize;
+            Call::Complete {
+                output: any_output(needed, random),
+            }
+        }
         _ if tally.laid => Call::AddEdge {
             v: any(random),
             w: any(random),
@@ -149,14 +160,15 @@ fn check_taking(tally: &Tally, both: &mut Both) {
 }
 
 /// Once laid: figures agree with the tally, every short pair can be joined, there is one while a
-/// cell is short, and completing makes exactly as many joins as edges are missing.
+/// cell is short, and completing makes exactly as many joins as edges are missing, if there is room
+/// for their records.
 fn check_laid(tally: &Tally, both: &mut Both) {
     let (table, wanted) = (tally.table(), tally.sum());
     let (vertices, edges) = (table.vertex_count(), wanted.edges());
     let figures = both.call(Call::Figures);
     let blocks = tally.blocks.len() as u64;
     assert_eq!(figures, [0, 1, blocks, vertices, edges, tally.edges]);
-    let missing = edges - tally.edges;
+    let missing = tally.missing();
 
     let degrees = table.degrees();
     if vertices <= 10 {
@@ -170,8 +182,7 @@ fn check_laid(tally: &Tally, both: &mut Both) {
     }
     let journal = both.journal.clone();
     let before = both.adjacency.clone();
-    let numbers = both.call(Call::Complete);
-    assert_eq!((numbers[0], numbers[1]), (0, missing));
+    both.complete(missing);
     assert!(simple(&both.adjacency));
     assert_eq!(sum_of_graph(&both.adjacency, vertices as usize), wanted);
     both.journal = journal;
@@ -208,9 +219,10 @@ fn check_isolated(degrees: &[usize], both: &mut Both) {
     for (other, &degree) in (0..).zip(degrees).skip(1) {
         for (v, w) in [(0, other), (other, 0)] {
             let answer = both.call(Call::AddEdge { v, w });
-            assert_eq!(answer, [16, 0, degree as u64, 0, 0, 0], "joining {v}, {w}");
+            let expected = refused_at(16, 0, degree as u64);
+            assert_eq!(answer, expected, "joining {v}, {w}");
             let answer = both.call(Call::RemoveEdge { v, w });
-            assert_eq!(answer, [17, 0, 0, 0, 0, 0], "removing {v}, {w}");
+            assert_eq!(answer, refused(17), "removing {v}, {w}");
         }
     }
 }

@@ -4,6 +4,7 @@
 //! * [`call`]: one call of an entry, with all it is given
 //! * [`lent`]: slices lent between guard bytes
 //! * [`both`]: makes a call on both sides and compares
+//! * [`moves`]: what joins and completions say has moved, played
 //! * [`count`]: how many calls, tables and refusals were tried
 //! * [`blocks`]: tables cut into blocks, whole and spoiled
 //! * [`lists`]: long random call lists
@@ -18,5 +19,6 @@ pub mod count;
 pub mod joins;
 pub mod lent;
 pub mod lists;
+pub mod moves;
 pub mod program;
 pub mod tables;

@@ -1,9 +1,10 @@
 //! Long random call lists: blocks new, resent and spoiled, layings-out, joins, removals and
-//! completions in any order, damaged journals and matrices, outputs of every length.
+//! completions in any order, damaged journals and matrices, outputs too short, just long enough and
+//! longer.
 
 use crate::blocks::{self, Size};
 use crate::both::Both;
-use crate::call::Call;
+use crate::call::{any_output, room, Call};
 use reference::graphs::{self, Graph};
 use reference::random::Random;
 use reference::{adjacency, journal, validity, Matrix};
@@ -11,6 +12,8 @@ use reference::{ADJACENCY_LENGTH, JOURNAL_LENGTH, MOST_VERTICES};
 
 /// The isolated vertices and 820 cells: no survey writes more.
 const MOST_RECORD_BYTES: usize = 4 * 821;
+/// 4,000 edges: no completion writes more.
+const MOST_JOIN_RECORD_BYTES: usize = 8 * 4_000;
 
 /// Runs the call list of this seed.
 pub fn run(seed: u64, size: Size, both: &mut Both) {
@@ -30,7 +33,8 @@ pub fn run(seed: u64, size: Size, both: &mut Both) {
     }
     // Whatever the list left behind, its end is a full one if it can be.
     list.call(Call::LayOut);
-    list.call(Call::Complete);
+    let output = list.random.bytes(MOST_JOIN_RECORD_BYTES);
+    list.call(Call::Complete { output });
     list.list_edges();
     list.read_all_back();
     list.both.count.call_lists += 1;
@@ -88,7 +92,7 @@ impl List<'_> {
             }
             (Call::HeldBlock { number }, Some(sent)) => {
                 let block = sent.get(number as usize).expect("held, but not sent");
-                self.both.compare_held(numbers, number, block);
+                self.both.compare_held(&numbers, number, block);
             }
             (Call::LayOut, _) => self.read_all_back(),
             _ => {}
@@ -129,7 +133,7 @@ impl List<'_> {
         match self.random.below(20) {
             0..=8 => self.join(),
             9..=13 => self.removal(),
-            14 => Call::Complete,
+            14 => self.completion(),
             15 => self.other_block(),
             16 if self.random.chance(30) => Call::LayOut,
             _ => self.at_any_time(),
@@ -284,24 +288,19 @@ impl List<'_> {
         }
     }
 
-    fn edge_list(&mut self) -> Call {
-        let edges = adjacency::edges(&self.both.adjacency).len();
-        Call::EdgeList {
-            output: self.output(2 * edges),
+    /// With room for its records or without.
+    fn completion(&mut self) -> Call {
+        let needed = room(&self.both.journal, &self.both.adjacency);
+        Call::Complete {
+            output: any_output(needed, &mut self.random),
         }
     }
 
-    /// An output about as long as needed, filled with any bytes.
-    fn output(&mut self, needed: usize) -> Vec<u8> {
-        let length = match self.random.below(8) {
-            0 => 0,
-            1 => needed.saturating_sub(1),
-            2 => needed.saturating_sub(4),
-            3 => self.random.below(needed + 1),
-            4 => needed + self.random.between(1, 70),
-            _ => needed,
-        };
-        self.random.bytes(length)
+    fn edge_list(&mut self) -> Call {
+        let edges = adjacency::edges(&self.both.adjacency).len();
+        Call::EdgeList {
+            output: any_output(2 * edges, &mut self.random),
+        }
     }
 
     fn jdm_of_edges(&mut self) -> Call {
@@ -312,7 +311,7 @@ impl List<'_> {
         let total = self.total(&edges);
         let mut probe = vec![0; MOST_RECORD_BYTES];
         let needed = reference::jdm_of_edges(&edges, total, &mut probe).unwrap_or(0);
-        let output = self.output(needed as usize);
+        let output = any_output(needed as usize, &mut self.random);
         Call::JdmOfEdges {
             edges,
             total,
@@ -457,7 +456,7 @@ impl List<'_> {
             3 => Call::LayOut,
             4 => Call::AddEdge { v: 0, w: 1 },
             5 => Call::RemoveEdge { v: 0, w: 1 },
-            6 => Call::Complete,
+            6 => self.completion(),
             7 => Call::EdgeList {
                 output: self.random.bytes(9),
             },

@@ -2,8 +2,9 @@
 
 use comparison::tables::every_cell;
 use reference::Table;
-use replica::{block, jdm_of_edges, Cause, Completion, Record, Records, State, Take};
-use replica::{BLOCK_LENGTH, MOST_RECORDS, RECORD_LENGTH};
+use replica::{block, jdm_of_edges, Cause, Join, Joins, Record, Records, State, Switch, Take};
+use replica::{BLOCK_LENGTH, JOIN_RECORD_LENGTH, MOST_EDGES, MOST_RECORDS, RECORD_LENGTH};
+use std::collections::BTreeSet;
 
 fn state_of(cells: &[(u8, u8, u16)]) -> State {
     let mut state = State::new();
@@ -32,8 +33,24 @@ fn edges(state: &State) -> Vec<(u8, u8)> {
     state.edges().unwrap().collect()
 }
 
-fn done(joins: u64, switches: u64) -> Completion {
-    Completion { joins, switches }
+/// Joins and switches of completing. Its records are as many, and played they give the same edges.
+fn complete(state: &mut State) -> (u64, u64) {
+    let mut played: BTreeSet<(u8, u8)> = edges(state).into_iter().collect();
+    let pair = |v: u8, w: u8| (v.min(w), v.max(w));
+    let done = state.complete().unwrap();
+    let mut switches = 0;
+    for join in done.records() {
+        switches += join.switches.len() as u64;
+        for Switch { a, b, t } in join.switches {
+            assert!(played.remove(&pair(a, t)), "{join:?}");
+            assert!(played.insert(pair(b, t)), "{join:?}");
+        }
+        assert!(played.insert((join.v, join.w)), "{join:?}");
+    }
+    assert!(played.into_iter().eq(edges(state)));
+    assert_eq!(done.records().len() as u64, done.joins);
+    assert_eq!(switches, done.switches);
+    (done.joins, done.switches)
 }
 
 const SQUARE: [(u8, u8, u16); 1] = [(2, 2, 8)];
@@ -43,41 +60,107 @@ const SQUARE_EDGES: [(u8, u8); 4] = [(0, 2), (0, 3), (1, 2), (1, 3)];
 fn no_blocks() {
     let mut state = State::new();
     assert_eq!(state.lay_out(), Ok(0));
-    assert_eq!(state.complete(), Ok(done(0, 0)));
+    assert_eq!(complete(&mut state), (0, 0));
     assert_eq!(edges(&state), []);
 }
 
 #[test]
 fn one_edge() {
     let mut state = laid(&[(1, 1, 2)]);
-    assert_eq!(state.complete(), Ok(done(1, 0)));
+    assert_eq!(complete(&mut state), (1, 0));
     assert_eq!(edges(&state), [(0, 1)]);
 }
 
 #[test]
 fn the_table_of_document_004() {
     let mut state = laid(&[(1, 3, 1), (2, 2, 2), (2, 3, 2)]);
-    assert_eq!(state.complete(), Ok(done(4, 0)));
+    assert_eq!(complete(&mut state), (4, 0));
     assert_eq!(edges(&state), [(0, 3), (1, 2), (1, 3), (2, 3)]);
 }
 
 #[test]
 fn a_square() {
     let mut state = laid(&SQUARE);
-    assert_eq!(state.complete(), Ok(done(4, 2)));
+    assert_eq!(complete(&mut state), (4, 2));
     assert_eq!(edges(&state), SQUARE_EDGES);
+}
+
+/// The records of the square, as bytes and as values, owned and lent.
+#[test]
+fn records_of_a_square() {
+    const U: u8 = 255;
+    let records = [
+        [0, 1, U, U, U, U, U, U],
+        [0, 2, U, U, U, U, U, U],
+        [0, 3, 0, 1, 2, U, U, U],
+        [0, 2, 0, 3, 1, U, U, U],
+    ];
+    let mut state = laid(&SQUARE);
+    let mut output = [7; 40];
+    for length in 0..4 * JOIN_RECORD_LENGTH {
+        let refusal = state.complete_into(&mut output[..length]).unwrap_err();
+        assert_eq!(refusal.cause, Cause::OutputTooShort);
+    }
+    let done = state.clone().complete().unwrap();
+    assert_eq!(done.as_bytes(), records.concat());
+    let lent = state.complete_into(&mut output).unwrap();
+    assert_eq!((lent.joins, lent.switches), (done.joins, done.switches));
+    assert_eq!(lent.as_bytes(), done.as_bytes());
+    assert_eq!(output[32..], [7; 8]);
+    assert_eq!(Joins::new(&output[..32]).len(), 4);
+    for (join, record) in done.records().zip(records) {
+        assert_eq!(join, Join::from_bytes(record));
+        assert_eq!(join.to_bytes(), record);
+        assert_eq!(join.switches.len(), usize::from(record[2] != U));
+    }
+    let last = done.records().last().unwrap().switches;
+    assert_eq!(format!("{last:?}"), "[Switch { a: 0, b: 3, t: 1 }]");
+    assert_eq!(state.complete_into(&mut []).unwrap().joins, 0);
+}
+
+/// Two switches, of the first named vertex and then of the second.
+#[test]
+fn switches_of_a_join() {
+    let mut state = laid(&[(1, 1, 6)]);
+    for (v, w) in [(0, 2), (1, 3)] {
+        assert!(state.add_edge(v, w).unwrap().is_empty());
+    }
+    let switch = |a, b, t| Switch { a, b, t };
+    let switches = state.clone().add_edge(0, 1).unwrap();
+    assert_eq!(*switches, [switch(0, 4, 2), switch(1, 5, 3)]);
+    let switches = state.clone().add_edge(1, 0).unwrap();
+    assert_eq!(*switches, [switch(1, 4, 3), switch(0, 5, 2)]);
+    let in_turn: Vec<Switch> = switches.into_iter().collect();
+    assert_eq!(in_turn, *switches);
+    let switches = state.add_edge(4, 1).unwrap();
+    assert_eq!(*switches, [switch(1, 5, 3)]);
+}
+
+/// As many joins as there can be fill the longest output.
+#[test]
+fn the_most_records_of_completing() {
+    let mut state = laid(&[(40, 40, 8_000)]);
+    let mut output = vec![0; MOST_EDGES * JOIN_RECORD_LENGTH];
+    let last = output.len() - 1;
+    let refusal = state.complete_into(&mut output[..last]).unwrap_err();
+    assert_eq!(refusal.cause, Cause::OutputTooShort);
+    assert_eq!(state.figures().unwrap().edges_laid, 0);
+    let done = state.complete_into(&mut output).unwrap();
+    assert_eq!(done.as_bytes().len(), 32_000);
+    assert_eq!((done.joins, done.switches), (4_000, 7_139));
 }
 
 #[test]
 fn a_square_from_a_triangle() {
     let mut state = laid(&SQUARE);
     for (v, w) in [(0, 1), (0, 2), (1, 2)] {
-        assert_eq!(state.add_edge(v, w), Ok(0));
+        assert!(state.add_edge(v, w).unwrap().is_empty());
     }
     let mut by_hand = state.clone();
-    assert_eq!(by_hand.add_edge(0, 3), Ok(1));
+    let switches = by_hand.add_edge(0, 3).unwrap();
+    assert_eq!(*switches, [Switch { a: 0, b: 3, t: 1 }]);
     assert_eq!(edges(&by_hand), SQUARE_EDGES);
-    assert_eq!(state.complete(), Ok(done(1, 1)));
+    assert_eq!(complete(&mut state), (1, 1));
     assert_eq!(edges(&state), SQUARE_EDGES);
 }
 
@@ -120,7 +203,7 @@ fn isolated_vertices() {
         state.remove_edge(0, 1).unwrap_err().cause,
         Cause::EdgeAbsent
     );
-    assert_eq!(state.complete(), Ok(done(4, 0)));
+    assert_eq!(complete(&mut state), (4, 0));
     assert_eq!(edges(&state), [(3, 6), (4, 5), (4, 6), (5, 6)]);
     assert_eq!(state_of(&[(0, 0, 200)]).lay_out(), Ok(200));
     assert_eq!(refusal_of_lay_out(201), Cause::TooManyVertices);
@@ -201,23 +284,23 @@ fn totals_of_a_survey() {
 
 #[test]
 fn figures_checked_by_hand() {
-    type Case = (&'static [(u8, u8, u16)], u64, Completion);
+    type Case = (&'static [(u8, u8, u16)], u64, (u64, u64));
     let cases: [Case; 7] = [
-        (&[(1, 1, 4)], 4, done(2, 1)),
-        (&[(1, 1, 6)], 6, done(3, 3)),
-        (&[(2, 2, 12)], 6, done(6, 6)),
-        (&[(1, 2, 4), (2, 2, 2)], 7, done(5, 5)),
-        (&[(3, 3, 18)], 6, done(9, 8)),
-        (&[(1, 1, 200)], 200, done(100, 197)),
-        (&[(40, 40, 8_000)], 200, done(4_000, 7_139)),
+        (&[(1, 1, 4)], 4, (2, 1)),
+        (&[(1, 1, 6)], 6, (3, 3)),
+        (&[(2, 2, 12)], 6, (6, 6)),
+        (&[(1, 2, 4), (2, 2, 2)], 7, (5, 5)),
+        (&[(3, 3, 18)], 6, (9, 8)),
+        (&[(1, 1, 200)], 200, (100, 197)),
+        (&[(40, 40, 8_000)], 200, (4_000, 7_139)),
     ];
-    for (cells, vertices, completion) in cases {
+    for (cells, vertices, (joins, switches)) in cases {
         let mut state = state_of(cells);
         assert_eq!(state.lay_out(), Ok(vertices), "{cells:?}");
-        assert_eq!(state.complete(), Ok(completion), "{cells:?}");
+        assert_eq!(complete(&mut state), (joins, switches), "{cells:?}");
         let figures = state.figures().unwrap();
-        assert_eq!(figures.edges_laid, completion.joins);
-        assert_eq!(figures.edges_wanted, completion.joins);
+        assert_eq!(figures.edges_laid, joins);
+        assert_eq!(figures.edges_wanted, joins);
     }
 }
 

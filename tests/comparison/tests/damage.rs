@@ -4,9 +4,7 @@
 use comparison::both::Both;
 use comparison::call::{on_library, Call};
 use reference::journal::{record, slot_start};
-use reference::{validity, ADJACENCY_LENGTH, JOURNAL_LENGTH};
-
-const NOT_VALID: [u64; 6] = [2, 0, 0, 0, 0, 0];
+use reference::{refused, validity, ADJACENCY_LENGTH, JOURNAL_LENGTH};
 
 /// A call of each entry that checks validity. On a valid state none of them is refused with 2.
 fn calls() -> [Call; 8] {
@@ -20,7 +18,7 @@ fn calls() -> [Call; 8] {
         Call::LayOut,
         Call::AddEdge { v, w },
         Call::RemoveEdge { v, w },
-        Call::Complete,
+        Call::Complete { output: vec![9; 8] },
         Call::EdgeList { output: vec![9; 8] },
         Call::Figures,
     ]
@@ -60,7 +58,7 @@ fn every_byte_of_the_matrix() {
                 let mut output = call.output().to_vec();
                 let input = call.input().to_vec();
                 let numbers = on_library(&call, &mut journal, &mut adjacency, &input, &mut output);
-                assert_eq!(numbers, NOT_VALID, "byte {place}, {call:?}");
+                assert_eq!(numbers, refused(2), "byte {place}, {call:?}");
                 assert_eq!(output, call.output(), "byte {place}, {call:?}");
             }
             assert!(journal == before && adjacency == damaged, "byte {place}");
@@ -81,7 +79,7 @@ fn bytes_of_the_matrix_on_both_sides() {
             adjacency[place % 200 * 200 + place / 200] = 1;
             for call in calls() {
                 let answer = both.call_on(both.journal.clone(), adjacency.clone(), call);
-                assert_eq!(answer, NOT_VALID, "byte {place}");
+                assert_eq!(answer, refused(2), "byte {place}");
             }
         }
     }

@@ -4,7 +4,9 @@
 use comparison::both::Both;
 use comparison::call::Call;
 use reference::journal::record;
+use reference::numbers::Numbers;
 use reference::random::Random;
+use reference::refused_at as refused;
 use reference::{Matrix, BLOCK_LENGTH, MOST_BLOCKS, MOST_DEGREE};
 
 const MOST_RECORDS: u64 = (MOST_BLOCKS * BLOCK_LENGTH / 4) as u64;
@@ -15,7 +17,7 @@ const MOST_SUM: u64 = MOST_RECORDS * MOST_COUNT;
 type Cells = [(usize, usize, u64)];
 
 /// Takes the cells in as many full records as they need, in full blocks, and lays out.
-fn answer(cells: &Cells) -> [u64; 6] {
+fn answer(cells: &Cells) -> Numbers {
     let mut records = Vec::new();
     for &(k, l, count) in cells {
         let mut left = count;
@@ -31,10 +33,6 @@ fn answer(cells: &Cells) -> [u64; 6] {
         assert_eq!(answer, [0, 0, number + 1, 0, 0, 0]);
     }
     both.call(Call::LayOut)
-}
-
-fn refused(number: u64, first: u64, second: u64) -> [u64; 6] {
-    [number, first, second, 0, 0, 0]
 }
 
 /// The first cell that test 11 would refuse if its products were kept in 32 bits.

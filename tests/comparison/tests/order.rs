@@ -1,35 +1,40 @@
 //! Directed cases for the order of checks, on both sides and against numbers written down here.
 
 use comparison::both::Both;
-use comparison::call::Call;
+use comparison::call::{room, Call};
 use reference::journal::record;
+use reference::numbers::Numbers;
+use reference::refused_at as refused;
 use reference::{ADJACENCY_LENGTH, JOURNAL_LENGTH};
 
 const DONE: [u64; 6] = [0; 6];
+/// An edge added without a switch.
+const JOINED: [u64; 9] = [0, 0, 0, 255, 255, 255, 255, 255, 255];
 
-fn refused(number: u64, first: u64, second: u64) -> [u64; 6] {
-    [number, first, second, 0, 0, 0]
-}
-
-fn take(both: &mut Both, number: u64, block: &[u8]) -> [u64; 6] {
+fn take(both: &mut Both, number: u64, block: &[u8]) -> Numbers {
     let block = block.to_vec();
     both.call(Call::TakeBlock { number, block })
 }
 
-fn add(both: &mut Both, v: u64, w: u64) -> [u64; 6] {
+fn add(both: &mut Both, v: u64, w: u64) -> Numbers {
     both.call(Call::AddEdge { v, w })
 }
 
-fn remove(both: &mut Both, v: u64, w: u64) -> [u64; 6] {
+fn remove(both: &mut Both, v: u64, w: u64) -> Numbers {
     both.call(Call::RemoveEdge { v, w })
 }
 
-fn list(both: &mut Both, length: usize) -> [u64; 6] {
+fn complete(both: &mut Both, length: usize) -> Numbers {
+    let output = vec![0xee; length];
+    both.call(Call::Complete { output })
+}
+
+fn list(both: &mut Both, length: usize) -> Numbers {
     let output = vec![0xee; length];
     both.call(Call::EdgeList { output })
 }
 
-fn jdm(both: &mut Both, edges: &[u8], total: u64, length: usize) -> [u64; 6] {
+fn jdm(both: &mut Both, edges: &[u8], total: u64, length: usize) -> Numbers {
     both.call(Call::JdmOfEdges {
         edges: edges.to_vec(),
         total,
@@ -189,7 +194,7 @@ fn joining_and_removing() {
     assert_eq!(add(&mut both, 4, 4), refused(13, 0, 0));
     assert_eq!(add(&mut both, 3, 4), refused(13, 0, 0));
     assert_eq!(add(&mut both, 3, 3), refused(14, 0, 0));
-    assert_eq!(add(&mut both, 0, 3), DONE);
+    assert_eq!(add(&mut both, 0, 3), JOINED);
     // Joined already comes before a cell that has all its edges.
     assert_eq!(add(&mut both, 3, 0), refused(15, 0, 0));
     assert_eq!(add(&mut both, 2, 0), refused(16, 1, 2));
@@ -199,7 +204,7 @@ fn joining_and_removing() {
     assert_eq!(remove(&mut both, 1, 2), refused(17, 0, 0));
     assert_eq!(remove(&mut both, 3, 0), DONE);
     assert_eq!(both.call(Call::LayOut), refused(3, 0, 0));
-    assert_eq!(both.call(Call::Complete), [0, 4, 0, 0, 0, 0]);
+    assert_eq!(complete(&mut both, 32), [0, 4, 0, 32, 0, 0]);
     assert_eq!(add(&mut both, 0, 1), refused(16, 1, 2));
 }
 
@@ -222,9 +227,9 @@ fn joining_and_removing_at_isolated_vertices() {
     assert_eq!(add(&mut both, 0, 0), refused(14, 0, 0));
     assert_eq!(remove(&mut both, 7, 0), refused(13, 0, 0));
     assert_eq!(remove(&mut both, 2, 2), refused(14, 0, 0));
-    assert_eq!(add(&mut both, 3, 6), DONE);
+    assert_eq!(add(&mut both, 3, 6), JOINED);
     assert_eq!(add(&mut both, 6, 3), refused(15, 0, 0));
-    assert_eq!(both.call(Call::Complete), [0, 3, 0, 0, 0, 0]);
+    assert_eq!(complete(&mut both, 24), [0, 3, 0, 24, 0, 0]);
     assert_eq!(add(&mut both, 2, 3), refused(16, 0, 1));
     assert_eq!(both.call(Call::Figures), [0, 1, 4, 7, 4, 4]);
     assert_eq!(list(&mut both, 8), [0, 8, 0, 0, 0, 0]);
@@ -241,7 +246,7 @@ fn only_isolated_vertices() {
     for isolated in [1, 2, 199, 200] {
         let mut both = laid("only isolated vertices", &[(0, 0, isolated)]);
         assert_eq!(both.call(Call::Figures), [0, 1, 1, isolated, 0, 0]);
-        assert_eq!(both.call(Call::Complete), DONE);
+        assert_eq!(complete(&mut both, 0), DONE);
         assert_eq!(list(&mut both, 0), DONE);
         let last = isolated - 1;
         let expected = match last {
@@ -262,16 +267,123 @@ fn before_laying_out() {
     take(&mut both, 0, &[1, 1, 2, 0]);
     assert_eq!(add(&mut both, 9, 9), refused(3, 0, 0));
     assert_eq!(remove(&mut both, 9, 9), refused(3, 0, 0));
-    assert_eq!(both.call(Call::Complete), refused(3, 0, 0));
+    assert_eq!(complete(&mut both, 0), refused(3, 0, 0));
+    assert_eq!(complete(&mut both, 7), refused(3, 0, 0));
+    assert_eq!(complete(&mut both, 8), refused(3, 0, 0));
     assert_eq!(list(&mut both, 0), refused(3, 0, 0));
     assert_eq!(both.call(Call::Figures), [0, 0, 1, 0, 0, 0]);
+}
+
+/// The records of completing need 8 bytes for each edge that is missing: fewer are refused before
+/// anything changes, more are left as they were.
+#[test]
+fn room_for_join_records() {
+    let mut both = laid("room for join records", &PAPER);
+    for (v, w, missing) in [(0, 3, 4), (1, 2, 3), (3, 2, 2), (1, 3, 1)] {
+        for length in 0..8 * missing {
+            assert_eq!(complete(&mut both, length), refused(18, 0, 0));
+        }
+        for more in [0, 1, 8, 9, 40_000] {
+            let length = 8 * missing;
+            let output = vec![7; length + more];
+            let (journal, adjacency) = (both.journal.clone(), both.adjacency.clone());
+            let answer = both.call_on(journal, adjacency, Call::Complete { output });
+            assert_eq!(answer, [0, missing as u64, 0, length as u64, 0, 0]);
+            assert_eq!(both.output[length..], vec![7; more]);
+        }
+        assert_eq!(add(&mut both, v, w), JOINED);
+    }
+    // Nothing is missing: no room is needed, and none is used.
+    for length in [0, 1, 7, 8, 32_000] {
+        assert_eq!(complete(&mut both, length), DONE);
+        assert!(both.output.iter().all(|&byte| byte == 0xee));
+    }
+    assert_eq!(remove(&mut both, 0, 3), DONE);
+    assert_eq!(complete(&mut both, 7), refused(18, 0, 0));
+    assert_eq!(complete(&mut both, 8), [0, 1, 0, 8, 0, 0]);
+    assert_eq!(both.output, [0, 3, 255, 255, 255, 255, 255, 255]);
+}
+
+/// 1, 2 and 3 come before 18, also where no output would be long enough.
+#[test]
+fn checks_before_the_room_for_join_records() {
+    let mut both = laid("before the room", &[(2, 2, 8)]);
+    assert_eq!(complete(&mut both, 31), refused(18, 0, 0));
+    let (journal, adjacency) = (both.journal.clone(), both.adjacency.clone());
+    let mut taking = journal.clone();
+    taking[0] = 0;
+    let mut looped = adjacency.clone();
+    looped[0] = 1;
+    for length in [0, 31, 32] {
+        let mut answer = |journal: &[u8], adjacency: &[u8]| {
+            let output = vec![9; length];
+            both.call_on(
+                journal.to_vec(),
+                adjacency.to_vec(),
+                Call::Complete { output },
+            )
+        };
+        assert_eq!(answer(&journal[1..], &looped), refused(1, 0, 0));
+        assert_eq!(answer(&journal, &adjacency[1..]), refused(1, 0, 0));
+        assert_eq!(answer(&journal, &looped), refused(2, 0, 0));
+        assert_eq!(answer(&taking, &looped), refused(2, 0, 0));
+        assert_eq!(answer(&taking, &adjacency), refused(3, 0, 0));
+    }
+    assert_eq!(complete(&mut both, 32), [0, 4, 2, 32, 0, 0]);
+}
+
+/// One switch: nobody is left to take the edge but the other named vertex.
+#[test]
+fn what_moved_in_a_square() {
+    const U: u64 = 255;
+    let mut both = laid("a square", &[(2, 2, 8)]);
+    for (v, w) in [(0, 1), (0, 2), (1, 2)] {
+        assert_eq!(add(&mut both, v, w), JOINED);
+    }
+    let triangle = both.adjacency.clone();
+    for (v, w) in [(0, 3), (3, 0)] {
+        both.adjacency = triangle.clone();
+        assert_eq!(add(&mut both, v, w), [0, 1, 0, 0, 3, 1, U, U, U]);
+    }
+    both.adjacency = triangle;
+    assert_eq!(complete(&mut both, 8), [0, 1, 1, 8, 0, 0]);
+    assert_eq!(both.output, [0, 3, 0, 3, 1, 255, 255, 255]);
+}
+
+/// Two switches, in the order of the vertices named, and one of the second vertex.
+#[test]
+fn what_moved_among_three_edges() {
+    let mut both = laid("three edges", &[(1, 1, 6)]);
+    assert_eq!(add(&mut both, 0, 2), JOINED);
+    assert_eq!(add(&mut both, 1, 3), JOINED);
+    let two = both.adjacency.clone();
+    assert_eq!(add(&mut both, 0, 1), [0, 2, 0, 0, 4, 2, 1, 5, 3]);
+    both.adjacency = two.clone();
+    assert_eq!(add(&mut both, 1, 0), [0, 2, 0, 1, 4, 3, 0, 5, 2]);
+    both.adjacency = two;
+    assert_eq!(add(&mut both, 4, 1), [0, 1, 0, 1, 5, 3, 255, 255, 255]);
+}
+
+/// The records of a square from empty, behind two isolated vertices.
+#[test]
+fn what_moved_in_completing() {
+    let mut both = laid("a square from empty", &[(0, 0, 2), (2, 2, 8)]);
+    assert_eq!(complete(&mut both, 33), [0, 4, 2, 32, 0, 0]);
+    let records = [
+        [2, 3, 255, 255, 255, 255, 255, 255],
+        [2, 4, 255, 255, 255, 255, 255, 255],
+        [2, 5, 2, 3, 4, 255, 255, 255],
+        [2, 4, 2, 5, 3, 255, 255, 255],
+    ];
+    assert_eq!(both.output[..32], records.concat());
+    assert_eq!(both.output[32], 0xee);
 }
 
 #[test]
 fn outputs() {
     let mut both = laid("outputs", &PAPER);
     assert_eq!(list(&mut both, 0), DONE);
-    both.call(Call::Complete);
+    complete(&mut both, 32);
     for length in 0..8 {
         assert_eq!(list(&mut both, length), refused(18, 0, 0));
     }
@@ -392,7 +504,7 @@ fn lengths() {
         Call::LayOut,
         Call::AddEdge { v: 9, w: 9 },
         Call::RemoveEdge { v: 9, w: 9 },
-        Call::Complete,
+        Call::Complete { output: vec![1; 3] },
         Call::EdgeList { output: vec![1; 3] },
         Call::Figures,
     ];
@@ -413,12 +525,11 @@ fn lengths() {
                 assert_eq!(answer, refused(1, 0, 0), "{call:?}");
             }
         }
-        let expected = match call {
-            Call::Clear => DONE,
-            _ => refused(2, 0, 0),
-        };
         let (journal, adjacency) = (vec![7; JOURNAL_LENGTH], vec![7; ADJACENCY_LENGTH]);
-        assert_eq!(both.call_on(journal, adjacency, call), expected);
+        match call {
+            Call::Clear => assert_eq!(both.call_on(journal, adjacency, call), DONE),
+            _ => assert_eq!(both.call_on(journal, adjacency, call), refused(2, 0, 0)),
+        }
     }
 }
 
@@ -443,7 +554,11 @@ fn damage(both: &mut Both) {
             let mut journal = both.journal.clone();
             journal[place] = byte;
             both.call_on(journal.clone(), both.adjacency.clone(), Call::Figures);
-            both.call_on(journal, both.adjacency.clone(), Call::Complete);
+            for length in [0, room(&journal, &both.adjacency)] {
+                let output = vec![9; length];
+                let call = Call::Complete { output };
+                both.call_on(journal.clone(), both.adjacency.clone(), call);
+            }
         }
     }
     for v in [0, 1, 2, 3, 4, 5, 6, 199] {
@@ -497,13 +612,13 @@ fn edges_at_isolated_vertices() {
         Call::LayOut,
         Call::AddEdge { v: 3, w: 6 },
         Call::RemoveEdge { v: 0, w: 1 },
-        Call::Complete,
+        Call::Complete { output: vec![9; 8] },
         Call::EdgeList { output: vec![9; 8] },
         Call::Figures,
     ];
-    for complete in [false, true] {
-        if complete {
-            assert_eq!(both.call(Call::Complete)[0], 0);
+    for missing in [4, 0] {
+        if missing == 0 {
+            both.complete(4);
         }
         for (v, w) in [
             (0, 1),
@@ -542,10 +657,9 @@ fn laid_journals_with_other_counts() {
         let mut journal = both.journal.clone();
         journal[3..7].copy_from_slice(&record(0, 0, count));
         let answer = both.call_on(journal, both.adjacency.clone(), Call::Figures);
-        let expected = match valid {
-            true => [0, 1, 2, count + 2, 1, 0],
-            false => refused(2, 0, 0),
-        };
-        assert_eq!(answer, expected, "{count} isolated");
+        match valid {
+            true => assert_eq!(answer, [0, 1, 2, count + 2, 1, 0]),
+            false => assert_eq!(answer, refused(2, 0, 0), "{count} isolated"),
+        }
     }
 }

@@ -1,8 +1,9 @@
 //! The ten entries. Each runs its checks in the order of document 01's table and writes only when
 //! all of them have passed, so that a refusal leaves every byte as it was.
 
+use crate::switching::{self, Switch};
 use crate::{
-    adjacency, journal, refused, refused_at, switching, validity, Matrix, Refused, Table,
+    adjacency, join_record, journal, refused, refused_at, validity, Matrix, Refused, Table,
     ADJACENCY_LENGTH, JOURNAL_LENGTH, MOST_BLOCKS, MOST_DEGREE, MOST_VERTICES,
 };
 
@@ -13,6 +14,15 @@ pub enum Take {
     Taken(u64),
     /// The same block was taken before.
     Held,
+}
+
+/// What completing did.
+#[derive(Clone, Copy, Debug, PartialEq, Eq)]
+pub struct Completion {
+    pub joins: u64,
+    pub switches: u64,
+    /// Bytes of the output written.
+    pub written: u64,
 }
 
 /// Phase, blocks, N, edges wanted, edges laid.
@@ -132,8 +142,13 @@ pub fn lay_out(journal: &mut [u8], adjacency: &[u8]) -> Result<u64, Refused> {
     Ok(vertices)
 }
 
-/// Joins v and w. Returns the switches made.
-pub fn add_edge(journal: &[u8], adjacency: &mut [u8], v: u64, w: u64) -> Result<u64, Refused> {
+/// Joins v and w. Returns the switches made, in the order made.
+pub fn add_edge(
+    journal: &[u8],
+    adjacency: &mut [u8],
+    v: u64,
+    w: u64,
+) -> Result<Vec<Switch>, Refused> {
     check_laid(journal, adjacency)?;
     let wanted = journal::summed_table(journal);
     let degrees = wanted.degrees();
@@ -146,7 +161,7 @@ pub fn add_edge(journal: &[u8], adjacency: &mut [u8], v: u64, w: u64) -> Result<
     if adjacency::counted_at(adjacency, &degrees).cell(k, l) >= wanted.matrix.cell(k, l) {
         return Err(refused_at(16, k as u64, l as u64));
     }
-    Ok(switching::join(adjacency, &degrees, v, w))
+    Ok(switching::join(adjacency, &degrees, v, w).switches)
 }
 
 /// Removes the edge between v and w.
@@ -161,11 +176,26 @@ pub fn remove_edge(journal: &[u8], adjacency: &mut [u8], v: u64, w: u64) -> Resu
     Ok(())
 }
 
-/// Joins until no cell is short. Returns joins and switches.
-pub fn complete(journal: &[u8], adjacency: &mut [u8]) -> Result<(u64, u64), Refused> {
+/// Joins until no cell is short, and writes a record of each join. The output needs room for a record
+/// of each missing edge: those wanted less those laid.
+pub fn complete(
+    journal: &[u8],
+    adjacency: &mut [u8],
+    output: &mut [u8],
+) -> Result<Completion, Refused> {
     check_laid(journal, adjacency)?;
     let wanted = journal::summed_table(journal);
-    Ok(switching::complete(adjacency, &wanted))
+    let missing = wanted.matrix.edge_count() as usize - adjacency::edges(adjacency).len();
+    if output.len() < join_record::LENGTH * missing {
+        return Err(refused(18));
+    }
+    let joins = switching::complete(adjacency, &wanted);
+    let records: Vec<u8> = joins.iter().flat_map(join_record::of).collect();
+    Ok(Completion {
+        joins: joins.len() as u64,
+        switches: joins.iter().map(|join| join.switches.len() as u64).sum(),
+        written: write(&records, output).expect("no more joins than edges were missing"),
+    })
 }
 
 /// Writes the edges, 2 bytes each. Returns the written length.

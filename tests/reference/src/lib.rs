@@ -1,4 +1,5 @@
-//! A second implementation of document 01 and of document 02's P1, written from the documents alone.
+//! A second implementation of document 01 and of document 02's P1 and P2, written from the documents
+//! alone.
 //!
 //! It is meant to be read and believed, not to be fast: every call recounts everything from the
 //! bytes it is lent. It shares nothing with the library it is compared with.
@@ -9,8 +10,10 @@
 //! * [`adjacency`]: the adjacency matrix and its counts
 //! * [`validity`]: when journal and adjacency together are a valid state
 //! * [`switching`]: the neighbour switch, adding one edge, completing
+//! * [`join_record`]: the record that completing writes of a join
+//! * [`player`]: plays such records onto an adjacency matrix, knowing nothing of switching
 //! * [`entries`]: the ten entries, in document 01's order of checks
-//! * [`six`]: the same ten entries, answering with the six numbers of the C interface
+//! * [`numbers`]: the same ten entries, answering with the numbers of the C interface
 //! * [`program`]: what the program prints for an input
 //! * [`search`]: a second builder, by exhaustive search instead of switching
 //! * [`graphs`], [`random`]: graphs whose matrix is known, and reproducible random numbers
@@ -18,18 +21,21 @@
 pub mod adjacency;
 pub mod entries;
 pub mod graphs;
+pub mod join_record;
 pub mod journal;
 pub mod matrix;
+pub mod numbers;
+pub mod player;
 pub mod program;
 pub mod random;
 pub mod search;
-pub mod six;
 pub mod switching;
 pub mod table;
 pub mod validity;
 
 pub use entries::*;
 pub use matrix::Matrix;
+pub use switching::Switch;
 pub use table::Table;
 
 /// Bytes of a journal: phase, block count, and 64 slots of one length byte and 64 bytes.
@@ -44,6 +50,8 @@ pub const BLOCK_LENGTH: usize = 64;
 pub const MOST_VERTICES: usize = 200;
 /// Highest degree.
 pub const MOST_DEGREE: usize = 40;
+/// Most edges in a state: 200 vertices of degree 40.
+pub const MOST_EDGES: usize = MOST_VERTICES * MOST_DEGREE / 2;
 
 /// A refusal: its number in document 01 and its two places, 0 where none is named.
 #[derive(Clone, Copy, Debug, PartialEq, Eq)]

@@ -1,8 +1,8 @@
 //! What the program prints for an input.
 
 use crate::{
-    add_edge, adjacency, complete, lay_out, take_block, Refused, ADJACENCY_LENGTH, BLOCK_LENGTH,
-    JOURNAL_LENGTH,
+    add_edge, adjacency, complete, join_record, lay_out, take_block, Refused, ADJACENCY_LENGTH,
+    BLOCK_LENGTH, JOURNAL_LENGTH, MOST_EDGES,
 };
 
 /// The text on standard output, every line ended by one newline.
@@ -37,9 +37,10 @@ pub struct Laid {
     pub journal: Vec<u8>,
     pub adjacency: Vec<u8>,
     pub vertices: u64,
-    /// Joins and switches of the completion alone.
+    /// Joins and switches of the completion alone, and its records.
     pub joins: u64,
     pub switches: u64,
+    pub records: Vec<u8>,
 }
 
 /// Takes all records, lays out, adds the given edges by hand, and completes.
@@ -53,12 +54,16 @@ pub fn lay(records: &[u8], by_hand: &[(u64, u64)]) -> Result<Laid, Refused> {
     for &(v, w) in by_hand {
         add_edge(&journal, &mut adjacency, v, w)?;
     }
-    let (joins, switches) = complete(&journal, &mut adjacency)?;
+    // Room for any completion.
+    let mut records = vec![0; join_record::LENGTH * MOST_EDGES];
+    let done = complete(&journal, &mut adjacency, &mut records)?;
+    records.truncate(done.written as usize);
     Ok(Laid {
         journal,
         adjacency,
         vertices,
-        joins,
-        switches,
+        joins: done.joins,
+        switches: done.switches,
+        records,
     })
 }

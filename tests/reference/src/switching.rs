@@ -2,13 +2,29 @@
 
 use crate::{adjacency, Matrix, Table, MOST_DEGREE};
 
+/// A neighbour switch that was made: edge a-t was removed and edge b-t added.
+#[derive(Clone, Copy, Debug, PartialEq, Eq)]
+pub struct Switch {
+    pub a: usize,
+    pub b: usize,
+    pub t: usize,
+}
+
+/// An edge that was added, and the switches made for it, in the order made.
+#[derive(Clone, Debug, PartialEq, Eq)]
+pub struct Join {
+    pub v: usize,
+    pub w: usize,
+    pub switches: Vec<Switch>,
+}
+
 /// Whether v has as many edges as its degree (document 01: full).
 fn saturated(adjacency: &[u8], degrees: &[usize], v: usize) -> bool {
     adjacency::edges_at(adjacency, v) == degrees[v]
 }
 
 /// Frees one edge place of `a`, which is about to be joined to `other`.
-fn neighbor_switch(adjacency: &mut [u8], degrees: &[usize], a: usize, other: usize) {
+fn neighbor_switch(adjacency: &mut [u8], degrees: &[usize], a: usize, other: usize) -> Switch {
     let b = (0..degrees.len())
         .find(|&b| degrees[b] == degrees[a] && b != other && !saturated(adjacency, degrees, b))
         .unwrap_or(other);
@@ -19,21 +35,19 @@ fn neighbor_switch(adjacency: &mut [u8], degrees: &[usize], a: usize, other: usi
         .expect("a saturated vertex has a neighbour that an unsaturated one of its degree lacks");
     adjacency::remove(adjacency, a, t);
     adjacency::insert(adjacency, b, t);
+    Switch { a, b, t }
 }
 
-/// Joins two vertices that are not joined and whose cell is short. Returns the switches made.
-pub fn join(adjacency: &mut [u8], degrees: &[usize], v: usize, w: usize) -> u64 {
-    let mut switches = 0;
-    if saturated(adjacency, degrees, v) {
-        neighbor_switch(adjacency, degrees, v, w);
-        switches += 1;
-    }
-    if saturated(adjacency, degrees, w) {
-        neighbor_switch(adjacency, degrees, w, v);
-        switches += 1;
+/// Joins two vertices that are not joined and whose cell is short.
+pub fn join(adjacency: &mut [u8], degrees: &[usize], v: usize, w: usize) -> Join {
+    let mut switches = Vec::new();
+    for (a, other) in [(v, w), (w, v)] {
+        if saturated(adjacency, degrees, a) {
+            switches.push(neighbor_switch(adjacency, degrees, a, other));
+        }
     }
     adjacency::insert(adjacency, v, w);
-    switches
+    Join { v, w, switches }
 }
 
 /// The lowest cell (k, l), k at most l, that counts fewer edges than wanted.
@@ -66,20 +80,19 @@ fn lowest_open_pair(
     None
 }
 
-/// Joins the lowest open pair of the lowest short cell until no cell is short.
-/// Returns joins and switches.
-pub fn complete(adjacency: &mut [u8], wanted: &Table) -> (u64, u64) {
+/// Joins the lowest open pair of the lowest short cell until no cell is short. Returns the joins in
+/// the order made.
+pub fn complete(adjacency: &mut [u8], wanted: &Table) -> Vec<Join> {
     let degrees = wanted.degrees();
-    let (mut joins, mut switches) = (0, 0);
+    let mut joins = Vec::new();
     loop {
         // Recounted before every join: a switch must not change any cell, so it is not trusted to.
         let counted = adjacency::counted_at(adjacency, &degrees);
         let Some((k, l)) = lowest_short_cell(&counted, &wanted.matrix) else {
-            return (joins, switches);
+            return joins;
         };
         let (v, w) = lowest_open_pair(adjacency, &degrees, k, l)
             .expect("a short cell of a realizable matrix has a pair that is not joined");
-        switches += join(adjacency, &degrees, v, w);
-        joins += 1;
+        joins.push(join(adjacency, &degrees, v, w));
     }
 }

@@ -4,7 +4,7 @@ use reference::journal::record;
 use reference::program::{lay, output, Laid};
 use reference::{
     add_edge, adjacency, clear, complete, edge_list, figures, held_block, jdm_of_edges, lay_out,
-    refused, refused_at, remove_edge, take_block, Refused, Table, Take, ADJACENCY_LENGTH,
+    refused, refused_at, remove_edge, take_block, Refused, Switch, Table, Take, ADJACENCY_LENGTH,
     JOURNAL_LENGTH,
 };
 
@@ -71,10 +71,11 @@ fn a_square_from_empty() {
 #[test]
 fn a_square_from_a_triangle() {
     let (journal, mut adjacency) = empty(&SQUARE);
+    let mut add = |v, w| add_edge(&journal, &mut adjacency, v, w);
     for (v, w) in [(0, 1), (0, 2), (1, 2)] {
-        assert_eq!(add_edge(&journal, &mut adjacency, v, w), Ok(0));
+        assert_eq!(add(v, w), Ok(vec![]));
     }
-    assert_eq!(add_edge(&journal, &mut adjacency, 0, 3), Ok(1));
+    assert_eq!(add(0, 3), Ok(vec![Switch { a: 0, b: 3, t: 1 }]));
     assert_eq!(adjacency::edges(&adjacency), SQUARE_EDGES);
 }
 
@@ -146,9 +147,13 @@ fn the_other_named_vertex_may_take_the_edge() {
     for (v, w) in [(0, 1), (0, 2), (1, 2)] {
         add_edge(&journal, &mut adjacency, v, w).unwrap();
     }
-    assert_eq!(add_edge(&journal, &mut adjacency.clone(), 0, 3), Ok(1));
-    assert_eq!(add_edge(&journal, &mut adjacency, 3, 0), Ok(1));
-    assert_eq!(adjacency::edges(&adjacency), SQUARE_EDGES);
+    let switch = Switch { a: 0, b: 3, t: 1 };
+    for (v, w) in [(0, 3), (3, 0)] {
+        let mut adjacency = adjacency.clone();
+        let switches = add_edge(&journal, &mut adjacency, v, w);
+        assert_eq!(switches, Ok(vec![switch]));
+        assert_eq!(adjacency::edges(&adjacency), SQUARE_EDGES);
+    }
 }
 
 /// Wrong turn: evenness tested for each block instead of the sum.
@@ -276,7 +281,7 @@ fn order_of_checks_when_joining() {
     assert_eq!(add(4, 4), Err(refused(13)));
     assert_eq!(add(0, u64::MAX), Err(refused(13)));
     assert_eq!(add(3, 3), Err(refused(14)));
-    assert_eq!(add(0, 3), Ok(0));
+    assert_eq!(add(0, 3), Ok(vec![]));
     assert_eq!(add(0, 3), Err(refused(15)));
     assert_eq!(add(3, 0), Err(refused(15)));
     assert_eq!(add(2, 0), Err(refused_at(16, 1, 2)));
@@ -293,7 +298,8 @@ fn entries_that_need_vertices() {
     let mut adjacency = vec![0; ADJACENCY_LENGTH];
     assert_eq!(add_edge(&journal, &mut adjacency, 0, 0), Err(refused(3)));
     assert_eq!(remove_edge(&journal, &mut adjacency, 0, 0), Err(refused(3)));
-    assert_eq!(complete(&journal, &mut adjacency), Err(refused(3)));
+    let answer = complete(&journal, &mut adjacency, &mut []);
+    assert_eq!(answer, Err(refused(3)));
     assert_eq!(edge_list(&journal, &adjacency, &mut []), Err(refused(3)));
     assert_eq!(held_block(&journal, &adjacency, 0), Err(refused(6)));
     assert_eq!(figures(&journal, &adjacency).unwrap().phase, 0);

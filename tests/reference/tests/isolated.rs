@@ -121,14 +121,15 @@ fn joining_and_removing_at_isolated_vertices() {
     assert_eq!(add(2, 3), Err(refused_at(16, 0, 1)));
     assert_eq!(add(3, 2), Err(refused_at(16, 0, 1)));
     assert_eq!(add(6, 0), Err(refused_at(16, 0, 3)));
-    assert_eq!(add(3, 6), Ok(0));
+    assert_eq!(add(3, 6), Ok(vec![]));
     assert_eq!(add(3, 6), Err(refused(15)));
     let mut remove = |v, w| remove_edge(&journal, &mut adjacency, v, w);
     assert_eq!(remove(0, 7), Err(refused(13)));
     assert_eq!(remove(1, 1), Err(refused(14)));
     assert_eq!(remove(0, 1), Err(refused(17)));
     assert_eq!(remove(6, 0), Err(refused(17)));
-    assert_eq!(complete(&journal, &mut adjacency), Ok((3, 0)));
+    let done = complete(&journal, &mut adjacency, &mut [0; 24]).unwrap();
+    assert_eq!((done.joins, done.switches), (3, 0));
     assert_eq!(
         add_edge(&journal, &mut adjacency, 1, 2),
         Err(refused_at(16, 0, 0))
