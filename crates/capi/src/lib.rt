@@ -11,9 +11,10 @@ ghost use Rattle.adding.specs.Add.{addAnswer, addAdjacency};
 ghost use Rattle.removing.specs.Remove.{removeAnswer, removeAdjacency};
 ghost use Rattle.listing.specs.List.{listAnswer, listOutput};
 ghost use Rattle.survey.specs.Survey.{surveyAnswer, surveyOutput};
-ghost use Rattle.completion.specs.Complete.{completeAnswer, completeAdjacency};
-ghost use Rattle.numbers.specs.Flat.{flat, heldNumbers};
+ghost use Rattle.completion.specs.Complete.{completeAnswer, completeAdjacency, completeOutput};
+ghost use Rattle.numbers.specs.Flat.{flat, flatJoin, heldNumbers};
 use numbers::ReplicaAnswer;
+use numbers::ReplicaJoin;
 
 #[no_mangle]
 pub extern "C" fn replica_clear(journal: &mut [u8], adjacency: &mut [u8]) -> ReplicaAnswer
@@ -65,8 +66,8 @@ pub extern "C" fn replica_add_edge(
     adjacency: &mut [u8],
     v: usize,
     w: usize,
-) -> ReplicaAnswer
-    ensures { λ r. ⌜ r ≡ flat (addNumbers (addAnswer (now (journal .entry)) (now (adjacency .entry)) v w)) ⌝ }
+) -> ReplicaJoin
+    ensures { λ r. ⌜ r ≡ flatJoin (addNumbers (addAnswer (now (journal .entry)) (now (adjacency .entry)) v w)) ⌝ }
     ensures { λ _. ⌜ now (adjacency .exit) ≡ addAdjacency (addAnswer (now (journal .entry)) (now (adjacency .entry)) v w) (now (journal .entry)) (now (adjacency .entry)) v w ⌝ }
 {
     numbers::of_add(adding::add_edge(journal, adjacency, v, w))
@@ -86,11 +87,16 @@ pub extern "C" fn replica_remove_edge(
 }
 
 #[no_mangle]
-pub extern "C" fn replica_complete(journal: &[u8], adjacency: &mut [u8]) -> ReplicaAnswer
-    ensures { λ r. ⌜ r ≡ flat (completeNumbers (completeAnswer (now (journal .entry)) (now (adjacency .entry)))) ⌝ }
-    ensures { λ _. ⌜ now (adjacency .exit) ≡ completeAdjacency (completeAnswer (now (journal .entry)) (now (adjacency .entry))) (now (journal .entry)) (now (adjacency .entry)) ⌝ }
+pub extern "C" fn replica_complete(
+    journal: &[u8],
+    adjacency: &mut [u8],
+    output: &mut [u8],
+) -> ReplicaAnswer
+    ensures { λ r. ⌜ r ≡ flat (completeNumbers (completeAnswer (now (journal .entry)) (now (adjacency .entry)) (length (now (output .entry))))) ⌝ }
+    ensures { λ _. ⌜ now (adjacency .exit) ≡ completeAdjacency (completeAnswer (now (journal .entry)) (now (adjacency .entry)) (length (now (output .entry)))) (now (journal .entry)) (now (adjacency .entry)) ⌝ }
+    ensures { λ _. ⌜ now (output .exit) ≡ completeOutput (completeAnswer (now (journal .entry)) (now (adjacency .entry)) (length (now (output .entry)))) (now (journal .entry)) (now (adjacency .entry)) (now (output .entry)) ⌝ }
 {
-    numbers::of_complete(completion::complete(journal, adjacency))
+    numbers::of_complete(completion::complete(journal, adjacency, output))
 }
 
 #[no_mangle]

@@ -3,7 +3,7 @@ ghost use mathlib.Core.Path.{_≡_};
 ghost use Prim.Native.Nat.{ℕ, _<_};
 ghost use Rattle.answer.specs.Numbers.{refused, clearNumbers, takeNumbers, layOutNumbers, figuresNumbers, addNumbers, removeNumbers, completeNumbers, writtenNumbers};
 ghost use Rattle.journal.specs.Journal.{mostBlocks};
-ghost use Rattle.numbers.specs.Flat.{flat, heldNumbers};
+ghost use Rattle.numbers.specs.Flat.{flat, flatJoin, heldNumbers};
 use answer::AddAnswer;
 use answer::ClearAnswer;
 use answer::CompleteAnswer;
@@ -15,6 +15,10 @@ use answer::RemoveAnswer;
 use answer::TakeAnswer;
 use answer::WrittenAnswer;
 use answer::number_of;
+use answer::switches::Switches;
+use answer::switches::first_switch;
+use answer::switches::second_switch;
+use answer::switches::switch_count;
 
 // number is 0 where the call did its work, else the refusal's number with its places in first and second. What is not named is 0.
 #[repr(C)]
@@ -25,6 +29,21 @@ pub struct ReplicaAnswer {
     pub third: usize,
     pub fourth: usize,
     pub fifth: usize,
+}
+
+// An added edge: number is 0, first the switches made, then the vertices a, b and t of each in the order made, 255 for a switch that was not needed;
+// else the refusal's number with its places in first and second, and 0.
+#[repr(C)]
+pub struct ReplicaJoin {
+    pub number: usize,
+    pub first: usize,
+    pub second: usize,
+    pub a1: usize,
+    pub b1: usize,
+    pub t1: usize,
+    pub a2: usize,
+    pub b2: usize,
+    pub t2: usize,
 }
 
 fn two(number: usize, first: usize, second: usize) -> ReplicaAnswer
@@ -85,12 +104,47 @@ pub fn of_lay_out(answer: LayOutAnswer) -> ReplicaAnswer
     }
 }
 
-pub fn of_add(answer: AddAnswer) -> ReplicaAnswer
-    ensures { λ r. ⌜ r ≡ flat (addNumbers answer) ⌝ }
+fn of_switches(s: Switches) -> ReplicaJoin
+    ensures { λ r. ⌜ r ≡ flatJoin (addNumbers (AddAnswer.Added s)) ⌝ }
+{
+    let x = first_switch(s);
+    let y = second_switch(s);
+    ReplicaJoin {
+        number: 0,
+        first: switch_count(s),
+        second: 0,
+        a1: x.a,
+        b1: x.b,
+        t1: x.t,
+        a2: y.a,
+        b2: y.b,
+        t2: y.t,
+    }
+}
+
+fn of_refused_join(r: Refusal) -> ReplicaJoin
+    ensures { λ a. ⌜ a ≡ flatJoin (addNumbers (AddAnswer.Refused r)) ⌝ }
+{
+    let a = of_refusal(r);
+    ReplicaJoin {
+        number: a.number,
+        first: a.first,
+        second: a.second,
+        a1: 0,
+        b1: 0,
+        t1: 0,
+        a2: 0,
+        b2: 0,
+        t2: 0,
+    }
+}
+
+pub fn of_add(answer: AddAnswer) -> ReplicaJoin
+    ensures { λ r. ⌜ r ≡ flatJoin (addNumbers answer) ⌝ }
 {
     match answer {
-        AddAnswer::Added(switches) => two(0, switches, 0),
-        AddAnswer::Refused(r) => of_refusal(r),
+        AddAnswer::Added(s) => of_switches(s),
+        AddAnswer::Refused(r) => of_refused_join(r),
     }
 }
 
@@ -107,7 +161,14 @@ pub fn of_complete(answer: CompleteAnswer) -> ReplicaAnswer
     ensures { λ r. ⌜ r ≡ flat (completeNumbers answer) ⌝ }
 {
     match answer {
-        CompleteAnswer::Completed(joins, switches) => two(0, joins, switches),
+        CompleteAnswer::Completed(joins, switches, length) => ReplicaAnswer {
+            number: 0,
+            first: joins,
+            second: switches,
+            third: length,
+            fourth: 0,
+            fifth: 0,
+        },
         CompleteAnswer::Refused(r) => of_refusal(r),
     }
 }

@@ -9,6 +9,7 @@ replica-complete-spec =
     (λ c κs. tt)  -- complete-requires
     (λ c κs. tt)  -- of-complete-requires
     (λ c. search needs)  -- same-length
+    (λ c. search needs)  -- same-length-2
     (λ c.
-    let t = c .before .before .before in
+    let t = c .before .before .before .before .before in
     (rw (← (t .complete .ensures .0)) (c .of-complete .ensures), t .complete .ensures .1)))  -- returns

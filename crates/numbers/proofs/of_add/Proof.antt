@@ -7,8 +7,8 @@ pub of-add-spec : {M : Type 1} → statement M
 of-add-spec =
     tie.close (tie.spec
     (λ c. search needs)  -- enum-known-answer
-    (λ c κs. tt)  -- two-requires
+    (λ c κs. tt)  -- of-switches-requires
     (λ c. search needs)  -- enum-known-answer-2
-    (λ c κs. tt)  -- of-refusal-requires
-    (λ c. rw (c .before .before .answer .given .1) (c .two .ensures))  -- returns
-    (λ c. rw (c .before .before .answer2 .given .1) (c .of-refusal .ensures)))  -- returns-2
+    (λ c κs. tt)  -- of-refused-join-requires
+    (λ c. rw (c .before .before .answer .given .1) (c .of-switches .ensures))  -- returns
+    (λ c. rw (c .before .before .answer2 .given .1) (c .of-refused-join .ensures)))  -- returns-2
