@@ -1,7 +1,9 @@
 pub mod Chosen
 pub mod Cellwise
 pub mod Works
-pub mod Recorded
+pub mod Records
+pub mod Entry
+pub mod Output
 pub mod Cursor
 pub mod Search
 pub mod Sound

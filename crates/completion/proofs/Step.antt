@@ -31,12 +31,12 @@ use Rattle.completion.specs.Complete.{Ran}
 use Rattle.completion.specs.Inner.Cellwise.{cellStep, Filling}
 use Rattle.completion.specs.Inner.Cursor.{ClassRange}
 use Rattle.completion.specs.Inner.Search.{lowestColumn, hasColumn, Searchable}
-use Rattle.completion.specs.Inner.Work.{Recorded, Saturated, CellOf, Resumes, Steppable}
+use Rattle.completion.specs.Inner.Work.{WroteRecords, Saturated, CellOf, Resumes, Steppable}
 use Rattle.completion.specs.declared.pair.Cell.{Cell}
 use Rattle.completion.specs.declared.cell.Cursor.{Cursor}
 use Rattle.completion.proofs.Chosen.{Chosen, chosen, stepped}
 use Rattle.completion.proofs.Cellwise.{edges-within}
-use Rattle.completion.proofs.Recorded.{records-more, recorded-one}
+use Rattle.completion.proofs.Output.{records-more, wrote-one}
 use Rattle.completion.proofs.Cursor.{rows-after, columns-after}
 use Rattle.completion.proofs.Search.{Found, found, searchable}
 
@@ -142,9 +142,9 @@ module _ {n : ℕ} {cls : ℕ → ℕ} {c : Cell} {u : Cursor} {room : ℕ} {s :
           let fits : recordSize * s .joins + recordSize ≤ length out = omega (arith, step-room, er) in
           rw (eo, records-more out (s .joins) v w x fits, ← es, eg, ex, pair-row, pair-column)
 
-      pub step-recorded : (out out′ : List ℕ) → room ≡ length out → out′ ≡ sets out (recordSize * s .joins) (joinRecord v w x)
-          → Recorded (s .joins) (s .joins + 1) out out′
-      step-recorded out out′ er eo = rw eo (recorded-one out (s .joins) v w x (omega (arith, step-room, er)))
+      pub step-wrote : (out out′ : List ℕ) → room ≡ length out → out′ ≡ sets out (recordSize * s .joins) (joinRecord v w x)
+          → WroteRecords (s .joins) (s .joins + 1) out out′
+      step-wrote out out′ er eo = rw eo (wrote-one out (s .joins) v w x (omega (arith, step-room, er)))
 
     module _ (x y : ℕ) (ex : x ≡ lowest (u .low .v) (c .rows .to) (λ i. ltb (getD held i 0) (c .k)))
         (ey : y ≡ lowest (u .low .w) (c .columns .to) (λ i. ltb (getD held i 0) (c .l))) where

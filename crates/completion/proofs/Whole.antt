@@ -2,14 +2,11 @@
 -- Assumes nothing.
 use mathlib.Core.Path.{_≡_, refl, sym, ap, ap₂, subst, _∙_}
 use mathlib.Core.List.{List}
-use Prim.Native.Nat.{ℕ, _-_, _*_, _≤_, _<_}
+use Prim.Native.Nat.{ℕ, _-_, _*_, _≤_}
 use native.Mathlib.Omega.{arith}
 use lib.ListN.{length, take}
 use lib.Seq.{sets}
-use borrow.Author.Tests.{le-leb, lt-leb}
-use Rattle.answer.specs.Refusals.{refusal}
-use Rattle.answer.specs.declared.Cause.the-variants.{OutputLength}
-use Rattle.answer.specs.declared.CompleteAnswer.the-variants.{Completed, Refused}
+use Rattle.answer.specs.declared.CompleteAnswer.the-variants.{Completed}
 use Rattle.graph.specs.Graph.{Simple, DegreeTable, edges}
 use Rattle.graph.specs.Theorems.{allCells}
 use Rattle.graph.specs.Numbering.{total}
@@ -32,10 +29,11 @@ use Rattle.classes.proofs.Blocks.{table-numbered, table-classes}
 use Rattle.completion.specs.Record.{recordSize}
 use Rattle.completion.specs.Complete.{Ran, fresh, run, mostEdges, completed, missing, completeLaid, completeAdjacency, completeOutput}
 use Rattle.completion.specs.Inner.Cellwise.{Filling, fillAll}
-use Rattle.completion.specs.Inner.Work.{Recorded, Working}
+use Rattle.completion.specs.Inner.Work.{WroteRecords, Working}
 use Rattle.completion.proofs.Cellwise.{edges-within, fill-all}
-use Rattle.completion.proofs.Recorded.{recorded-all}
-use Rattle.completion.proofs.Works.{few-edges, Finished, finishes}
+use Rattle.completion.proofs.Output.{wrote-all}
+use Rattle.completion.proofs.Works.{few-edges, finishes}
+use Rattle.completion.proofs.Entry.{laid-roomy, phase-complete, complete-works}
 
 module _ (j g cells counts : List ℕ) (passed : phaseVerdict 1 j g ≡ Go) (ed : Counts cells counts)
     (said : tableIn cells (countIn counts 0) ≡ tableOf j) where
@@ -109,42 +107,25 @@ module _ (j g cells counts : List ℕ) (passed : phaseVerdict 1 j g ≡ Go) (ed 
         ∙ ap₂ (λ (m : ℕ) (cls : ℕ → ℕ). run mostEdges m cls (matrixOf cells) (fresh g)) en (table-classes cells ed es)
         ∙ ap (λ (u : DegreeTable). run mostEdges (vertices u) (vertexDegree u) (u .cells) (fresh g)) said
 
--- what the answer says, by the room that there is
-module _ (j g : List ℕ) (m : ℕ) where
-  pub laid-short : m < recordSize * missing j g → completeLaid j g m ≡ Refused (refusal OutputLength 0 0)
-  laid-short h = rw (lt-leb (recordSize * missing j g) m h)
-
-  pub laid-roomy : recordSize * missing j g ≤ m
-      → completeLaid j g m ≡ Completed (completed j g .joins) (completed j g .switches) (length (completed j g .records))
-  laid-roomy h = rw (le-leb (recordSize * missing j g) m h)
-
 -- the work done, in the state r
 module _ (j g : List ℕ) (passed : phaseVerdict 1 j g ≡ Go) {r : Ran} (e : r ≡ completed j g) where
-  laid-filling : Filling (vertexCount j) (degreeAt j) (jdmOf j) g
-  laid-filling =
-      let f = phase-facts 1 j g passed in
-      let l = f .0 .laid (f .1) in
-      record { sized = f .0 .adjacency-length; few = l .vertices-le; target = l .target; partial = l .partial }
-
-  finished : Finished (vertexCount j) (degreeAt j) (jdmOf j) g (completed j g)
-  finished =
-      let f = phase-facts 1 j g passed in
-      finishes (vertexCount j) (degreeAt j) (jdmOf j) g laid-filling (f .0 .laid (f .1) .outside)
-
   made : r .joins ≡ missing j g
-  made = omega (arith, ap (λ (s : Ran). s .joins) e, finished .counted, finished .missing)
+  made = ap (λ (s : Ran). s .joins) e ∙ complete-works j g (phase-complete j g passed) .made
 
   pub joins-few : r .joins ≤ mostEdges
-  joins-few = omega (arith, made, few-edges (vertexCount j) (degreeAt j) (jdmOf j) (laid-filling .target) (laid-filling .few))
+  joins-few =
+      let f = phase-facts 1 j g passed in
+      let l = f .0 .laid (f .1) in
+      omega (arith, made, few-edges (vertexCount j) (degreeAt j) (jdmOf j) (l .target) (l .vertices-le))
 
   -- its records stand at the start of the output out′
-  pub work-done : (out out′ : List ℕ) → recordSize * missing j g ≤ length out → Recorded 0 (r .joins) out out′
+  pub work-done : (out out′ : List ℕ) → recordSize * missing j g ≤ length out → WroteRecords 0 (r .joins) out out′
       → take (recordSize * r .joins) out′ ≡ r .records
       → (Completed (r .joins) (r .switches) (recordSize * r .joins) ≡ completeLaid j g (length out))
       × ((r .adjacency ≡ completeAdjacency (completeLaid j g (length out)) j g)
       × (out′ ≡ completeOutput (completeLaid j g (length out)) j g out))
   work-done out out′ fits recorded records =
-      let whole = recorded-all (r .joins) out out′ (r .records) recorded (omega (arith, made, fits)) records in
+      let whole = wrote-all (r .joins) out out′ (r .records) recorded (omega (arith, made, fits)) records in
       rw (laid-roomy j g (length out) fits) (
         ap (Completed (r .joins) (r .switches)) (whole .1) ∙ ap (λ (s : Ran). Completed (s .joins) (s .switches) (length (s .records))) e,
         (

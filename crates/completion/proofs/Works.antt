@@ -64,7 +64,8 @@ module _ (n : ℕ) (cls : ℕ → ℕ) (T : ℕ → ℕ → ℕ) where
   none-of-0 target l lC =
       omega (arith, sumTo-term degrees (T 0) l lC, target .rows 0 (omega arith), zero-mul (size n cls 0))
 
-  abbrev Good : Ran → Type 0
+  -- what holds all along
+  abbrev pub Good : Ran → Type 0
   Good s = Filling n cls T (s .adjacency) × ZeroOutside n (s .adjacency)
 
   -- where no cell is short, all are full
@@ -115,7 +116,22 @@ module _ (n : ℕ) (cls : ℕ → ℕ) (T : ℕ → ℕ → ℕ) where
       lC = ltb-true l degrees (lowest-holds leastDegree degrees (λ i. ltb (shortL n cls T g i) degrees) (omega arith) kC)
 
   -- the pair that is joined next
-  picks : (s : Ran) → Good s → isIncomplete n cls T s ≡ true
+  abbrev pub nextV : Ran → ℕ
+  nextV s = let g = s .adjacency in let k = shortK n cls T g in openV n cls g k (shortL n cls T g k)
+
+  abbrev pub nextW : Ran → ℕ
+  nextW s = let g = s .adjacency in let k = shortK n cls T g in openW n cls g k (shortL n cls T g k) (nextV s)
+
+  -- it is open
+  pub next-open : (s : Ran) → Good s → isIncomplete n cls T s ≡ true → Open n cls T (edge (s .adjacency)) (nextV s) (nextW s)
+  next-open s good e =
+      let g = s .adjacency in
+      let k = shortK n cls T g in
+      let h = short-cell g e in
+      chosen n cls T g (good .0) k (shortL n cls T g k) (h .0) (h .1) (h .2) .pair
+
+  -- and joining it keeps what holds
+  pub picks : (s : Ran) → Good s → isIncomplete n cls T s ≡ true
       → (v w : ℕ) × Open n cls T (edge (s .adjacency)) v w
       × Joined n cls own (edge (s .adjacency)) v w (edge (next n cls T s .adjacency))
       × Good (next n cls T s)
@@ -166,8 +182,7 @@ module _ (n : ℕ) (cls : ℕ → ℕ) (T : ℕ → ℕ → ℕ) where
     pub counted : r .joins + edges n (edge g) ≡ edges n (edge (r .adjacency))
     pub missing : allCells degrees T ≡ 2 * edges n (edge (r .adjacency))
 
-  pub finishes : (g : List ℕ) → Filling n cls T g → ZeroOutside n g
-      → Finished g (run mostEdges n cls T (fresh g))
+  pub finishes : (g : List ℕ) → Filling n cls T g → ZeroOutside n g → Finished g (run mostEdges n cls T (fresh g))
   finishes g f out =
       record {
         filling = r .good .0;
@@ -178,4 +193,6 @@ module _ (n : ℕ) (cls : ℕ → ℕ) (T : ℕ → ℕ → ℕ) where
       }
     where
       r : Ended n degrees cls own T lowest-pair (fresh g) (run mostEdges n cls T (fresh g))
-      r = completes-by-any-rule n degrees cls own T (f .target) Ran lowest-pair mostEdges (fresh g) (f, out) (omega (arith, few-edges (f .target) (f .few)))
+      r =
+          completes-by-any-rule n degrees cls own T (f .target) Ran lowest-pair mostEdges (fresh g) (f, out)
+          (omega (arith, few-edges (f .target) (f .few)))

@@ -8,7 +8,7 @@ ghost use Rattle.adjacency.specs.Adjacency.{side};
 ghost use Rattle.classes.specs.Inner.Block.{classFrom};
 ghost use Rattle.joining.specs.Inner.Work.{degreesOf};
 ghost use Rattle.completion.specs.Inner.Cellwise.{cellStep};
-ghost use Rattle.completion.specs.Inner.Work.{ran, Recorded, CellOf, Resumes, Steppable, Fillable};
+ghost use Rattle.completion.specs.Inner.Work.{ran, WroteRecords, CellOf, Resumes, Steppable, Fillable};
 use crate::pair::Cell;
 use crate::pair::Pair;
 use crate::pair::open_pair;
@@ -65,7 +65,7 @@ fn fill_step(
 ) -> Step
     requires { ⌜ Steppable n (classFrom (now starts)) cell cursor (length (now output)) (ran (now adjacency) (now output) totals) (now held) × CellOf n (now starts) cell ⌝ }
     ensures { λ r. ⌜ (ran (now (adjacency .exit)) (now (output .exit)) (r .totals) ≡ cellStep n (classFrom (now (starts .entry))) (cell .k) (cell .l) (ran (now (adjacency .entry)) (now (output .entry)) totals)) × Resumes n (classFrom (now (starts .entry))) (now (adjacency .exit)) cell (r .cursor) ⌝ }
-    ensures { λ r. ⌜ Recorded (totals .joins) (r .totals .joins) (now (output .entry)) (now (output .exit)) ⌝ }
+    ensures { λ r. ⌜ WroteRecords (totals .joins) (r .totals .joins) (now (output .entry)) (now (output .exit)) ⌝ }
     ensures { λ _. ⌜ now (held .exit) ≡ degreesOf n (now (adjacency .exit)) ⌝ }
 {
     let pair = open_pair(adjacency, cell, cursor.at.v, cursor.at.w);
@@ -110,7 +110,7 @@ pub fn fill_cell(
 ) -> Totals
     requires { ⌜ Fillable n (classFrom (now starts)) cell m (length (now output)) (ran (now adjacency) (now output) totals) (now held) × CellOf n (now starts) cell ⌝ }
     ensures { λ r. ⌜ ran (now (adjacency .exit)) (now (output .exit)) r ≡ foldTo m (λ i. cellStep n (classFrom (now (starts .entry))) (cell .k) (cell .l)) (ran (now (adjacency .entry)) (now (output .entry)) totals) ⌝ }
-    ensures { λ r. ⌜ Recorded (totals .joins) (r .joins) (now (output .entry)) (now (output .exit)) ⌝ }
+    ensures { λ r. ⌜ WroteRecords (totals .joins) (r .joins) (now (output .entry)) (now (output .exit)) ⌝ }
     ensures { λ _. ⌜ now (held .exit) ≡ degreesOf n (now (adjacency .exit)) ⌝ }
 {
     let mut cursor = Cursor {

@@ -10,7 +10,7 @@ ghost use Rattle.adjacency.specs.Adjacency.{adjacencySize, edge};
 ghost use Rattle.joining.specs.Inner.Work.{degreesOf};
 ghost use Rattle.classes.specs.Inner.Block.{classFrom, blockSum};
 ghost use Rattle.completion.specs.Inner.Cellwise.{fillCell, fillRow, fillAll};
-ghost use Rattle.completion.specs.Inner.Work.{ran, Recorded, cellIn, Countable, Working};
+ghost use Rattle.completion.specs.Inner.Work.{ran, WroteRecords, cellIn, Countable, Working};
 use crate::cell::Totals;
 use crate::cell::fill_cell;
 use crate::pair::Cell;
@@ -84,7 +84,7 @@ fn complete_cell(
 ) -> Totals
     requires { ⌜ Working n (now cells) (now starts) (now held) (length (now output)) (ran (now adjacency) (now output) totals) × (k < degrees) × (l < degrees) ⌝ }
     ensures { λ r. ⌜ ran (now (adjacency .exit)) (now (output .exit)) r ≡ fillCell n (classFrom (now (starts .entry))) (matrixOf (now (cells .entry))) k l (ran (now (adjacency .entry)) (now (output .entry)) totals) ⌝ }
-    ensures { λ r. ⌜ Recorded (totals .joins) (r .joins) (now (output .entry)) (now (output .exit)) ⌝ }
+    ensures { λ r. ⌜ WroteRecords (totals .joins) (r .joins) (now (output .entry)) (now (output .exit)) ⌝ }
     ensures { λ _. ⌜ now (held .exit) ≡ degreesOf n (now (adjacency .exit)) ⌝ }
 {
     let c = cell_at(starts, k, l);
@@ -105,7 +105,7 @@ fn complete_row(
 ) -> Totals
     requires { ⌜ Working n (now cells) (now starts) (now held) (length (now output)) (ran (now adjacency) (now output) totals) × (k < degrees) ⌝ }
     ensures { λ r. ⌜ ran (now (adjacency .exit)) (now (output .exit)) r ≡ fillRow n (classFrom (now (starts .entry))) (matrixOf (now (cells .entry))) k (ran (now (adjacency .entry)) (now (output .entry)) totals) ⌝ }
-    ensures { λ r. ⌜ Recorded (totals .joins) (r .joins) (now (output .entry)) (now (output .exit)) ⌝ }
+    ensures { λ r. ⌜ WroteRecords (totals .joins) (r .joins) (now (output .entry)) (now (output .exit)) ⌝ }
     ensures { λ _. ⌜ now (held .exit) ≡ degreesOf n (now (adjacency .exit)) ⌝ }
 {
     if starts[k] == starts[k + 1] {
@@ -130,7 +130,7 @@ pub fn complete_rows(
 ) -> Totals
     requires { ⌜ Working n (now cells) (now starts) (now held) (length (now output)) (ran (now adjacency) (now output) totals) ⌝ }
     ensures { λ r. ⌜ ran (now (adjacency .exit)) (now (output .exit)) r ≡ fillAll n (classFrom (now (starts .entry))) (matrixOf (now (cells .entry))) (ran (now (adjacency .entry)) (now (output .entry)) totals) ⌝ }
-    ensures { λ r. ⌜ Recorded (totals .joins) (r .joins) (now (output .entry)) (now (output .exit)) ⌝ }
+    ensures { λ r. ⌜ WroteRecords (totals .joins) (r .joins) (now (output .entry)) (now (output .exit)) ⌝ }
 {
     let mut sum = totals;
     for i in 0..DEGREES - 1 {

@@ -1,7 +1,7 @@
 -- Laws of `foldTo`, `catTo`, `fillTo` and `iterate`.
 -- Assumes nothing.
 use mathlib.Core.Path.{_≡_, refl, sym, ap, _∙_}
-use mathlib.Core.Bool.{Bool, true, false}
+use mathlib.Core.Bool.{Bool, true, false, cond}
 use mathlib.Core.List.{List, [], _∷_, _++_}
 use mathlib.Core.Logic.{⊎-elim}
 use Prim.Native.Nat.{ℕ, zero, suc, _+_, _-_, _≤_, _<_}
@@ -25,6 +25,13 @@ foldTo-more f s n = rw add-one
 -- one more turn, from the state x that the first i led to
 pub foldTo-after : {A : Type 0} (f : ℕ → A → A) (s : A) (i : ℕ) (x y : A) → x ≡ foldTo i f s → y ≡ f i x → y ≡ foldTo (i + 1) f s
 foldTo-after f s i x y ex ey = ey ∙ ap (f i) ex ∙ sym (foldTo-more f s i)
+
+-- equal steps, one after the other, are equal
+pub foldTo-cong : {A : Type 0} (f g : ℕ → A → A) (s : A) (n : ℕ) → ((i : ℕ) (x : A) → i < n → f i x ≡ g i x) → foldTo n f s ≡ foldTo n g s
+unfolding foldTo
+foldTo-cong f g s zero h = refl
+foldTo-cong f g s (suc n) h =
+    ap (f n) (foldTo-cong f g s n (λ i x l. h i x (omega arith))) ∙ h n (foldTo n g s) (omega arith)
 
 pub catTo-none : (f : ℕ → List ℕ) → catTo 0 f ≡ []
 unfolding catTo
@@ -107,3 +114,13 @@ unfolding foldTo
 foldTo-keeps P f s zero h k = h
 foldTo-keeps P f s (suc n) h k =
     rw (← (add-one n)) (k n (foldTo n f s) (omega arith) (foldTo-keeps P f s n h (λ i x l. k i x (omega arith))))
+
+pub iterate-keeps : {A : Type 0} (P : A → Type 0) (p : A → Bool) (f : A → A) (fuel : ℕ) (s : A) → P s
+    → ((x : A) → P x → p x ≡ true → P (f x)) → P (iterate fuel p f s)
+unfolding iterate
+iterate-keeps P p f zero s h k = h
+iterate-keeps P p f (suc fuel) s h k = go (p s) refl (λ q. iterate-keeps P p f fuel (f s) q k)
+  where
+    go : (t : Bool) → p s ≡ t → (P (f s) → P (iterate fuel p f (f s))) → P (cond t (iterate fuel p f (f s)) s)
+    go true e rest = rest (k s h e)
+    go false e rest = h

@@ -5,7 +5,8 @@ use native.Mathlib.Omega.{arith}
 use borrow.Author.Needs.{needs}
 use Rattle.answer.specs.declared.CompleteAnswer.the-variants.{Refused}
 use Rattle.state.proofs.Checks.{phase-facts}
-use Rattle.completion.proofs.Whole.{vertices-few, total-few, edges-simple, wanted-enough, wanted-most, missing-is, working-start, working-end, laid-short, joins-few, work-done}
+use Rattle.completion.proofs.Whole.{vertices-few, total-few, edges-simple, wanted-enough, wanted-most, missing-is, working-start, working-end, joins-few, work-done}
+use Rattle.completion.proofs.Entry.{laid-short}
 use Rattle.completion.proofs.complete_laid.Statement.{statement}
 use Rattle.completion.proofs.complete_laid.Tie as tie
 

@@ -28,8 +28,8 @@ use Rattle.completion.specs.declared.cell.Totals.{Totals}
 abbrev pub ran : List ℕ → List ℕ → Totals → Ran
 ran g out t = record { adjacency = g; joins = t .joins; switches = t .switches; records = take (recordSize * t .joins) out }
 
--- from i joins on to j the output changed nowhere behind their records
-pub record Recorded (i j : ℕ) (out out′ : List ℕ) : Type 0 where
+-- from the i-th join on up to the j-th, the output changed nowhere behind their records
+pub record WroteRecords (i j : ℕ) (out out′ : List ℕ) : Type 0 where
   pub rises : i ≤ j
   pub sized : length out′ ≡ length out
   pub behind : drop (recordSize * j) out′ ≡ drop (recordSize * j) out

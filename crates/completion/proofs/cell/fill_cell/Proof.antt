@@ -8,8 +8,8 @@ use Rattle.finite.proofs.Fold.{foldTo-none, foldTo-after}
 use Rattle.classes.specs.Inner.Block.{classFrom}
 use Rattle.joining.specs.Inner.Work.{degreesOf}
 use Rattle.completion.specs.Inner.Cellwise.{cellStep}
-use Rattle.completion.specs.Inner.Work.{ran, Recorded, Resumes}
-use Rattle.completion.proofs.Recorded.{recorded-none, recorded-then}
+use Rattle.completion.specs.Inner.Work.{ran, WroteRecords, Resumes}
+use Rattle.completion.proofs.Output.{wrote-none, wrote-then}
 use Rattle.completion.proofs.Joins.{start-resumes, fill-sized, fill-steppable}
 use Rattle.completion.proofs.cell.fill_cell.Statement.{statement}
 use Rattle.completion.proofs.cell.fill_cell.Tie as tie
@@ -20,7 +20,7 @@ Inv-loop adjacency₀ output₀ held₀ starts n cell m cursor₀ sum₀ counter
     × (ran adjacency output sum ≡ foldTo counter (λ i. cellStep n (classFrom starts) (cell .k) (cell .l)) (ran adjacency₀ output₀ sum₀))
     × (held ≡ degreesOf n adjacency)
     × Resumes n (classFrom starts) adjacency cell cursor
-    × Recorded (sum₀ .joins) (sum .joins) output₀ output
+    × WroteRecords (sum₀ .joins) (sum .joins) output₀ output
 
 abbrev μ-loop : tie.MeasureT-loop
 μ-loop adjacency₀ output₀ held₀ starts n cell m cursor₀ sum₀ counter₀ adjacency output held cursor sum counter = m - counter
@@ -32,7 +32,7 @@ fill-cell-spec =
     let f = c .before .before in
     let a = f .args in
     let start = start-resumes (a .n) (classFrom (a .starts .now)) (a .adjacency .now) (a .cell) (f .pre .0 .ranged) in
-    (omega arith, sym (foldTo-none _ _), f .pre .0 .degrees-held, start, recorded-none _ _))  -- loop-holds
+    (omega arith, sym (foldTo-none _ _), f .pre .0 .degrees-held, start, wrote-none _ _))  -- loop-holds
     (λ c κs.
     let t = c .before .before .before in
     let l = t .before in
@@ -51,7 +51,7 @@ fill-cell-spec =
           _ (l .loop .counter) _ _ (l .loop .inv .1) (t .fill-step .ensures .0 .0),
       t .fill-step .ensures .1 .1,
       t .fill-step .ensures .0 .1,
-      recorded-then (l .loop .inv .4) (t .fill-step .ensures .1 .0),
+      wrote-then (l .loop .inv .4) (t .fill-step .ensures .1 .0),
     ))  -- loop-again
     (λ c.
     let l = c .before in

@@ -5,7 +5,7 @@ use native.Mathlib.Omega.{arith}
 use borrow.Author.Needs.{needs}
 use Rattle.joining.proofs.Relieving.{switches-bytes}
 use Rattle.completion.proofs.Sound.{joins-most}
-use Rattle.completion.proofs.Step.{step-searchable, step-joinable, step-room, step-ran, step-recorded, row-placed, column-placed, step-resumes}
+use Rattle.completion.proofs.Step.{step-searchable, step-joinable, step-room, step-ran, step-wrote, row-placed, column-placed, step-resumes}
 use Rattle.completion.proofs.cell.fill_step.Statement.{statement}
 use Rattle.completion.proofs.cell.fill_step.Tie as tie
 
@@ -81,7 +81,7 @@ fill-step-spec =
             (j .join .ensures .1 .0) (j .join .ensures .0 .1) (m .least .ensures),
       ),
       (
-        step-recorded (f .pre .0) _ _ (e .0) (e .1) (j .join .ensures .0 .0) _ _ refl (w .put-record .ensures),
+        step-wrote (f .pre .0) _ _ (e .0) (e .1) (j .join .ensures .0 .0) _ _ refl (w .put-record .ensures),
         rw (j .join .ensures .1 .0) (j .join .ensures .1 .1),
       ),
     )))  -- returns

@@ -10,8 +10,8 @@ use Rattle.table.specs.Inner.Cells.{matrixOf}
 use Rattle.classes.specs.Inner.Block.{classFrom}
 use Rattle.joining.specs.Inner.Work.{degreesOf}
 use Rattle.completion.specs.Inner.Cellwise.{fillCell}
-use Rattle.completion.specs.Inner.Work.{ran, Recorded}
-use Rattle.completion.proofs.Recorded.{recorded-none, recorded-then}
+use Rattle.completion.specs.Inner.Work.{ran, WroteRecords}
+use Rattle.completion.proofs.Output.{wrote-none, wrote-then}
 use Rattle.completion.proofs.Arranged.{working, working-sized, cells-sound, row-empty}
 use Rattle.completion.proofs.fill.complete_row.Statement.{statement}
 use Rattle.completion.proofs.fill.complete_row.Tie as tie
@@ -21,7 +21,7 @@ Inv-loop adjacency₀ output₀ held₀ cells starts n k sum₀ i₀ i-end adjac
     (k + i ≤ degrees)
     × (ran adjacency output sum ≡ foldTo i (λ i. fillCell n (classFrom starts) (matrixOf cells) k (k + i)) (ran adjacency₀ output₀ sum₀))
     × (held ≡ degreesOf n adjacency)
-    × Recorded (sum₀ .joins) (sum .joins) output₀ output
+    × WroteRecords (sum₀ .joins) (sum .joins) output₀ output
 
 abbrev μ-loop : tie.MeasureT-loop
 μ-loop adjacency₀ output₀ held₀ cells starts n k sum₀ i₀ i-end adjacency output held sum i = i-end - i
@@ -36,11 +36,11 @@ complete-row-spec =
     (λ c. omega (arith, c .before .before .before .pre .1))  -- element-copy-out-if1-2
     (λ c.
     let f = c .before .before .before .before .before in
-    (row-empty (f .pre .0) (f .args .k) (f .pre .1) (c .if1 .taken), (recorded-none _ _, f .pre .0 .degrees-held)))  -- returns
+    (row-empty (f .pre .0) (f .args .k) (f .pre .1) (c .if1 .taken), (wrote-none _ _, f .pre .0 .degrees-held)))  -- returns
     (λ c. omega (arith, c .before .before .before .before .before .pre .1))  -- sub-i-end
     (λ c.
     let f = c .before .before .before .before .before in
-    (omega (arith, f .pre .1), sym (foldTo-none _ _), f .pre .0 .degrees-held, recorded-none _ _))  -- loop-holds
+    (omega (arith, f .pre .1), sym (foldTo-none _ _), f .pre .0 .degrees-held, wrote-none _ _))  -- loop-holds
     (λ c. let l = c .before .before .before .before in omega (arith, l .loop .inv .0))  -- add-complete-cell
     (λ c κs.
     let t = c .before .before .before in
@@ -62,7 +62,7 @@ complete-row-spec =
       foldTo-after (λ i. fillCell (a .n) (classFrom (a .starts .now)) (matrixOf (a .cells .now)) (a .k) (a .k + i))
           _ (l .loop .i) _ _ (l .loop .inv .1) (d .complete-cell .ensures .0),
       d .complete-cell .ensures .1 .1,
-      recorded-then (l .loop .inv .3) (d .complete-cell .ensures .1 .0),
+      wrote-then (l .loop .inv .3) (d .complete-cell .ensures .1 .0),
     ))  -- loop-again
     (λ c.
     let l = c .before in

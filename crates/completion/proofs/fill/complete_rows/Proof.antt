@@ -10,8 +10,8 @@ use Rattle.table.specs.Inner.Cells.{matrixOf}
 use Rattle.classes.specs.Inner.Block.{classFrom}
 use Rattle.joining.specs.Inner.Work.{degreesOf}
 use Rattle.completion.specs.Inner.Cellwise.{fillRow}
-use Rattle.completion.specs.Inner.Work.{ran, Recorded}
-use Rattle.completion.proofs.Recorded.{recorded-none, recorded-then}
+use Rattle.completion.specs.Inner.Work.{ran, WroteRecords}
+use Rattle.completion.proofs.Output.{wrote-none, wrote-then}
 use Rattle.completion.proofs.Arranged.{working, working-sized, all-sound}
 use Rattle.completion.proofs.fill.complete_rows.Statement.{statement}
 use Rattle.completion.proofs.fill.complete_rows.Tie as tie
@@ -21,7 +21,7 @@ Inv-loop adjacency₀ output₀ held₀ cells starts n sum₀ i₀ adjacency out
     (i ≤ mostDegree)
     × (ran adjacency output sum ≡ foldTo i (λ i. fillRow n (classFrom starts) (matrixOf cells) (leastDegree + i)) (ran adjacency₀ output₀ sum₀))
     × (held ≡ degreesOf n adjacency)
-    × Recorded (sum₀ .joins) (sum .joins) output₀ output
+    × WroteRecords (sum₀ .joins) (sum .joins) output₀ output
 
 abbrev μ-loop : tie.MeasureT-loop
 μ-loop adjacency₀ output₀ held₀ cells starts n sum₀ i₀ adjacency output held sum i = mostDegree - i
@@ -29,7 +29,7 @@ abbrev μ-loop : tie.MeasureT-loop
 pub complete-rows-spec : {M : Type 1} → statement M
 complete-rows-spec =
     tie.close (tie.spec Inv-loop μ-loop
-    (λ c. let f = c .before .before in (omega arith, sym (foldTo-none _ _), f .pre .degrees-held, recorded-none _ _))  -- loop-holds
+    (λ c. let f = c .before .before in (omega arith, sym (foldTo-none _ _), f .pre .degrees-held, wrote-none _ _))  -- loop-holds
     (λ c. let l = c .before .before .before .before in omega (arith, l .loop .inv .0))  -- add-complete-row
     (λ c κs.
     let t = c .before .before .before in
@@ -49,7 +49,7 @@ complete-rows-spec =
       foldTo-after (λ i. fillRow (a .n) (classFrom (a .starts .now)) (matrixOf (a .cells .now)) (leastDegree + i))
           _ (l .loop .i) _ _ (l .loop .inv .1) (d .complete-row .ensures .0),
       d .complete-row .ensures .1 .1,
-      recorded-then (l .loop .inv .3) (d .complete-row .ensures .1 .0),
+      wrote-then (l .loop .inv .3) (d .complete-row .ensures .1 .0),
     ))  -- loop-again
     (λ c.
     let l = c .before in

@@ -9,7 +9,7 @@ use lib.Seq.{sets, length-sets, length-take-le}
 use Rattle.slices.proofs.Part.{take-written, drop-written, take-sets, drop-sets, drop-later}
 use Rattle.answer.specs.declared.switches.Switches.{Switches}
 use Rattle.completion.specs.Record.{recordSize, joinRecord}
-use Rattle.completion.specs.Inner.Work.{Recorded}
+use Rattle.completion.specs.Inner.Work.{WroteRecords}
 
 -- one record more, behind those of i joins
 module _ (out : List ℕ) (i v w : ℕ) (s : Switches) (fits : recordSize * i + recordSize ≤ length out) where
@@ -19,19 +19,19 @@ module _ (out : List ℕ) (i v w : ℕ) (s : Switches) (fits : recordSize * i + 
   pub records-more : take (recordSize * (i + 1)) (sets out (recordSize * i) (joinRecord v w s)) ≡ take (recordSize * i) out ++ joinRecord v w s
   records-more = rw after at (take-written out (recordSize * i) (joinRecord v w s) fits)
 
-  pub recorded-one : Recorded i (i + 1) out (sets out (recordSize * i) (joinRecord v w s))
-  recorded-one =
+  pub wrote-one : WroteRecords i (i + 1) out (sets out (recordSize * i) (joinRecord v w s))
+  wrote-one =
       record {
         rises = omega arith;
         sized = length-sets out (recordSize * i) (joinRecord v w s);
         behind = rw after at (drop-written out (recordSize * i) (joinRecord v w s) fits);
       }
 
-pub recorded-none : (i : ℕ) (out : List ℕ) → Recorded i i out out
-recorded-none i out = record { rises = omega arith; sized = refl; behind = refl }
+pub wrote-none : (i : ℕ) (out : List ℕ) → WroteRecords i i out out
+wrote-none i out = record { rises = omega arith; sized = refl; behind = refl }
 
-pub recorded-then : {i j k : ℕ} {a b c : List ℕ} → Recorded i j a b → Recorded j k b c → Recorded i k a c
-recorded-then {i} {j} {k} {a} {b} {c} p q =
+pub wrote-then : {i j k : ℕ} {a b c : List ℕ} → WroteRecords i j a b → WroteRecords j k b c → WroteRecords i k a c
+wrote-then {i} {j} {k} {a} {b} {c} p q =
     record {
       rises = omega (arith, p .rises, q .rises);
       sized = q .sized ∙ p .sized;
@@ -39,9 +39,9 @@ recorded-then {i} {j} {k} {a} {b} {c} p q =
     }
 
 -- the records of all joins, from the first one on, and behind them what was there
-pub recorded-all : (j : ℕ) (out out′ records : List ℕ) → Recorded 0 j out out′ → recordSize * j ≤ length out → take (recordSize * j) out′ ≡ records
+pub wrote-all : (j : ℕ) (out out′ records : List ℕ) → WroteRecords 0 j out out′ → recordSize * j ≤ length out → take (recordSize * j) out′ ≡ records
     → (out′ ≡ sets out 0 records) × (recordSize * j ≡ length records)
-recorded-all j out out′ records p fits e = (
+wrote-all j out out′ records p fits e = (
   sym (take-append-drop (recordSize * j) out′)
       ∙ ap₂ _++_ e (p .behind ∙ ap (λ (n : ℕ). drop n out) written)
       ∙ ap₂ _++_ (sym (take-sets out records short)) (sym (drop-sets out records short))

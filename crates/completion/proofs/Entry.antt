@@ -1,0 +1,140 @@
+-- Completing, on the definitions: from every valid laid state, into an output with room for the missing joins' records, it is not refused, makes
+-- exactly the joins that are missing, writes a record of each, leaves the state valid, and the matrix then holds a simple graph with the summed table;
+-- into a shorter output it is refused.
+-- Assumes nothing.
+use mathlib.Core.Path.{_≡_, sym, ap, subst}
+use mathlib.Core.Bool.{true}
+use mathlib.Core.List.{List}
+use Prim.Native.Nat.{ℕ, _+_, _*_, _≤_, _<_}
+use native.Mathlib.Omega.{arith}
+use lib.Dec.{leb}
+use lib.ListN.{length}
+use borrow.Author.Tests.{leb-true, le-leb, lt-leb}
+use Rattle.answer.specs.Refusals.{refusal}
+use Rattle.answer.specs.declared.Cause.the-variants.{OutputLength}
+use Rattle.answer.specs.declared.Refusal.{Refusal}
+use Rattle.answer.specs.declared.Verdict.the-variants.{Go}
+use Rattle.answer.specs.declared.CompleteAnswer.{CompleteAnswer}
+use Rattle.answer.specs.declared.CompleteAnswer.the-variants.{Completed, Refused}
+use Rattle.answer.proofs.Checks.{unless-passed, unless-stopped-passed}
+use Rattle.finite.specs.Range.{sumTo}
+use Rattle.graph.specs.Graph.{Simple, ownJdm, isolated}
+use Rattle.graph.specs.Tests.{degrees, rowSum, Table}
+use Rattle.graph.proofs.Passes.{Passed, passes-passed}
+use Rattle.graph.proofs.Realizability.{has-table, has-isolated}
+use Rattle.journal.specs.Journal.{phase, jdmOf, tableOf, isolatedOf}
+use Rattle.journal.proofs.Table.{jdm-table}
+use Rattle.adjacency.specs.Adjacency.{edge}
+use Rattle.state.specs.Checks.{phaseVerdict}
+use Rattle.state.specs.Valid.{lengthsOk, valid}
+use Rattle.state.specs.Laid.{vertexCount, degreeAt}
+use Rattle.state.proofs.Facts.{edgeTotal, StateFacts, Laid, valid-facts, lengths-both}
+use Rattle.state.proofs.Checks.{phase-passed, phase-go}
+use Rattle.state.proofs.Graph.{laid-valid}
+use Rattle.completion.specs.Record.{recordSize}
+use Rattle.completion.specs.Complete.{completed, missing, completeLaid, completeAnswer}
+use Rattle.completion.specs.Inner.Cellwise.{Filling}
+use Rattle.completion.proofs.Works.{Finished, finishes}
+use Rattle.completion.proofs.Records.{completed-length}
+
+-- what the checks of a completed state said
+pub record CompleteFacts (j g : List ℕ) : Type 0 where
+  pub lengths : lengthsOk j g ≡ true
+  pub sound : valid j g ≡ true
+  pub phased : phase j ≡ 1
+
+abbrev IsCompleted : CompleteAnswer → Type 0
+IsCompleted (Completed joins switches n) = Unit {0}
+IsCompleted (Refused r) = ⊥
+
+refused-not-completed : (joins switches n : ℕ) (r : Refusal) → Refused r ≡ Completed joins switches n → ⊥
+refused-not-completed joins switches n r e = subst IsCompleted (sym e) tt
+
+module _ (j g : List ℕ) where
+  -- a state that passes the checks 1, 2 and 3
+  pub phase-complete : phaseVerdict 1 j g ≡ Go → CompleteFacts j g
+  phase-complete e = let q = phase-passed 1 j g e in record { lengths = q .0; sound = q .1; phased = q .2 }
+
+  -- what an answer Completed for an output of m bytes says
+  pub record CompletedFacts (m joins switches n : ℕ) : Type 0 where
+    pub facts : CompleteFacts j g
+    pub room : recordSize * missing j g ≤ m
+    pub joins-are : joins ≡ completed j g .joins
+    pub switches-are : switches ≡ completed j g .switches
+    pub length-is : n ≡ length (completed j g .records)
+
+  pub completed-facts : (m joins switches n : ℕ) → completeAnswer j g m ≡ Completed joins switches n → CompletedFacts m joins switches n
+  completed-facts m joins switches n e =
+      let no = refused-not-completed joins switches n in
+      let p = unless-stopped-passed (phaseVerdict 1 j g) Refused _ (Completed joins switches n) no e in
+      let h = unless-passed (leb (recordSize * missing j g) m) _ _ (Completed joins switches n) (no _) (p .1) in
+      record {
+        facts = phase-complete (p .0);
+        room = leb-true (recordSize * missing j g) m (h .0);
+        joins-are = cc (h .1);
+        switches-are = cc (h .1);
+        length-is = cc (h .1);
+      }
+
+  -- by the room that an output of m bytes has
+  module _ (m : ℕ) where
+    pub laid-roomy : recordSize * missing j g ≤ m
+        → completeLaid j g m ≡ Completed (completed j g .joins) (completed j g .switches) (length (completed j g .records))
+    laid-roomy h = rw (le-leb (recordSize * missing j g) m h)
+
+    pub laid-short : m < recordSize * missing j g → completeLaid j g m ≡ Refused (refusal OutputLength 0 0)
+    laid-short h = rw (lt-leb (recordSize * missing j g) m h)
+
+    pub facts-completed : CompleteFacts j g → recordSize * missing j g ≤ m
+        → completeAnswer j g m ≡ Completed (completed j g .joins) (completed j g .switches) (length (completed j g .records))
+    facts-completed f h = rw (phase-go 1 j g (f .lengths) (f .sound) (f .phased)) (laid-roomy h)
+
+    pub short-refused : CompleteFacts j g → m < recordSize * missing j g → completeAnswer j g m ≡ Refused (refusal OutputLength 0 0)
+    short-refused f h = rw (phase-go 1 j g (f .lengths) (f .sound) (f .phased)) (laid-short h)
+
+  -- after it
+  pub record CompleteWorks : Type 0 where
+    pub lengths : lengthsOk j (completed j g .adjacency) ≡ true
+    pub sound : valid j (completed j g .adjacency) ≡ true
+    pub more : edgeTotal j (completed j g .adjacency) ≡ edgeTotal j g + completed j g .joins
+    pub made : completed j g .joins ≡ missing j g
+    pub written : length (completed j g .records) ≡ recordSize * completed j g .joins
+    pub all : sumTo degrees (rowSum (jdmOf j)) ≡ 2 * edgeTotal j (completed j g .adjacency)
+    pub simple : Simple (vertexCount j) (edge (completed j g .adjacency))
+    pub table : (k l : ℕ) → ownJdm (vertexCount j) (edge (completed j g .adjacency)) k l ≡ jdmOf j k l
+    pub no-edge : isolated (vertexCount j) (edge (completed j g .adjacency)) ≡ isolatedOf j
+
+  pub complete-works : CompleteFacts j g → CompleteWorks
+  complete-works f =
+      record {
+        lengths = lengths-both j g′ (facts .journal-length) (r .filling .sized);
+        sound = laid-valid j g laid g′ (f .phased) (facts .journal-ok) (r .filling .sized) (r .filling .partial) (r .outside);
+        more = omega (arith, r .counted);
+        made = omega (arith, r .counted, r .missing);
+        written = completed-length j g;
+        all = r .missing;
+        simple = r .filling .partial .simple;
+        table = has-table (tableOf j) summed passed (edge g′) (r .filling .partial) (r .full);
+        no-edge = has-isolated (tableOf j) summed passed (edge g′) (r .filling .partial) (r .full);
+      }
+    where
+      facts : StateFacts j g
+      facts = valid-facts j g (f .lengths) (f .sound)
+
+      laid : Laid j g
+      laid = facts .laid (f .phased)
+
+      summed : Table (jdmOf j)
+      summed = jdm-table j (facts .journal-ok)
+
+      passed : Passed (jdmOf j)
+      passed = passes-passed (jdmOf j) .0 (laid .passed)
+
+      g′ : List ℕ
+      g′ = completed j g .adjacency
+
+      filling : Filling (vertexCount j) (degreeAt j) (jdmOf j) g
+      filling = record { sized = facts .adjacency-length; few = laid .vertices-le; target = laid .target; partial = laid .partial }
+
+      r : Finished (vertexCount j) (degreeAt j) (jdmOf j) g (completed j g)
+      r = finishes (vertexCount j) (degreeAt j) (jdmOf j) g filling (laid .outside)
