@@ -2,7 +2,7 @@
 -- exactly the joins that are missing, writes a record of each, leaves the state valid, and the matrix then holds a simple graph with the summed table;
 -- into a shorter output it is refused.
 -- Assumes nothing.
-use mathlib.Core.Path.{_≡_, sym, ap, subst}
+use mathlib.Core.Path.{_≡_, sym, subst}
 use mathlib.Core.Bool.{true}
 use mathlib.Core.List.{List}
 use Prim.Native.Nat.{ℕ, _+_, _*_, _≤_, _<_}
@@ -32,9 +32,8 @@ use Rattle.state.proofs.Facts.{edgeTotal, StateFacts, Laid, valid-facts, length
 use Rattle.state.proofs.Checks.{phase-passed, phase-go}
 use Rattle.state.proofs.Graph.{laid-valid}
 use Rattle.completion.specs.Record.{recordSize}
-use Rattle.completion.specs.Complete.{completed, missing, completeLaid, completeAnswer}
-use Rattle.completion.specs.Inner.Cellwise.{Filling}
-use Rattle.completion.proofs.Works.{Finished, finishes}
+use Rattle.completion.specs.Complete.{mostEdges, fresh, completed, missing, completeLaid, completeAnswer}
+use Rattle.completion.proofs.Works.{few-edges, Good, Finished, finishes}
 use Rattle.completion.proofs.Records.{completed-length}
 
 -- what the checks of a completed state said
@@ -47,7 +46,7 @@ abbrev IsCompleted : CompleteAnswer → Type 0
 IsCompleted (Completed joins switches n) = Unit {0}
 IsCompleted (Refused r) = ⊥
 
-refused-not-completed : (joins switches n : ℕ) (r : Refusal) → Refused r ≡ Completed joins switches n → ⊥
+pub refused-not-completed : (joins switches n : ℕ) (r : Refusal) → Refused r ≡ Completed joins switches n → ⊥
 refused-not-completed joins switches n r e = subst IsCompleted (sym e) tt
 
 module _ (j g : List ℕ) where
@@ -92,6 +91,19 @@ module _ (j g : List ℕ) where
     pub short-refused : CompleteFacts j g → m < recordSize * missing j g → completeAnswer j g m ≡ Refused (refusal OutputLength 0 0)
     short-refused f h = rw (phase-go 1 j g (f .lengths) (f .sound) (f .phased)) (laid-short h)
 
+  -- a valid laid state is where a run may begin
+  pub good-start : CompleteFacts j g → Good (vertexCount j) (degreeAt j) (jdmOf j) (fresh g)
+  good-start f =
+      let facts = valid-facts j g (f .lengths) (f .sound) in
+      let laid = facts .laid (f .phased) in
+      (record { sized = facts .adjacency-length; few = laid .vertices-le; target = laid .target; partial = laid .partial }, laid .outside)
+
+  -- no layout misses more edges than it can have
+  pub missing-most : CompleteFacts j g → missing j g ≤ mostEdges
+  missing-most f =
+      let filling = good-start f .0 in
+      omega (arith, few-edges (vertexCount j) (degreeAt j) (jdmOf j) (filling .target) (filling .few))
+
   -- after it
   pub record CompleteWorks : Type 0 where
     pub lengths : lengthsOk j (completed j g .adjacency) ≡ true
@@ -133,8 +145,5 @@ module _ (j g : List ℕ) where
       g′ : List ℕ
       g′ = completed j g .adjacency
 
-      filling : Filling (vertexCount j) (degreeAt j) (jdmOf j) g
-      filling = record { sized = facts .adjacency-length; few = laid .vertices-le; target = laid .target; partial = laid .partial }
-
       r : Finished (vertexCount j) (degreeAt j) (jdmOf j) g (completed j g)
-      r = finishes (vertexCount j) (degreeAt j) (jdmOf j) g filling (laid .outside)
+      r = finishes (vertexCount j) (degreeAt j) (jdmOf j) g (good-start f .0) (good-start f .1)

@@ -33,7 +33,7 @@ use Rattle.completion.specs.Inner.Work.{WroteRecords, Working}
 use Rattle.completion.proofs.Cellwise.{edges-within, fill-all}
 use Rattle.completion.proofs.Output.{wrote-all}
 use Rattle.completion.proofs.Works.{few-edges, finishes}
-use Rattle.completion.proofs.Entry.{laid-roomy, phase-complete, complete-works}
+use Rattle.completion.proofs.Entry.{laid-roomy, phase-complete, missing-most, complete-works}
 
 module _ (j g cells counts : List ℕ) (passed : phaseVerdict 1 j g ≡ Go) (ed : Counts cells counts)
     (said : tableIn cells (countIn counts 0) ≡ tableOf j) where
@@ -113,10 +113,7 @@ module _ (j g : List ℕ) (passed : phaseVerdict 1 j g ≡ Go) {r : Ran} (e : r 
   made = ap (λ (s : Ran). s .joins) e ∙ complete-works j g (phase-complete j g passed) .made
 
   pub joins-few : r .joins ≤ mostEdges
-  joins-few =
-      let f = phase-facts 1 j g passed in
-      let l = f .0 .laid (f .1) in
-      omega (arith, made, few-edges (vertexCount j) (degreeAt j) (jdmOf j) (l .target) (l .vertices-le))
+  joins-few = omega (arith, made, missing-most j g (phase-complete j g passed))
 
   -- its records stand at the start of the output out′
   pub work-done : (out out′ : List ℕ) → recordSize * missing j g ≤ length out → WroteRecords 0 (r .joins) out out′

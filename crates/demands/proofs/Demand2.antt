@@ -9,6 +9,7 @@ use native.Mathlib.Nat.{add-zero, add-assoc}
 use native.Mathlib.Decide.{ℕ-discrete, decLt}
 use native.Mathlib.Omega.{arith}
 use lib.Dec.{eqb, ltb}
+use lib.ListN.{length}
 use borrow.Author.Tests.{eq-eqb, ne-eqb, lt-ltb, le-ltb}
 use Rattle.answer.specs.declared.TakeAnswer.{TakeAnswer}
 use Rattle.answer.specs.declared.TakeAnswer.the-variants.{Taken, Held, Refused}
@@ -37,7 +38,7 @@ use Rattle.laying_out.proofs.LayOut.{lay-out-laid-out}
 use Rattle.adding.specs.Add.{addAnswer, addAdjacency}
 use Rattle.removing.specs.Remove.{removeAnswer, removeAdjacency}
 use Rattle.completion.specs.Complete.{completeAnswer, completeAdjacency}
-use Rattle.completion.proofs.Entry.{CompleteFacts, completed-facts, facts-completed, complete-works}
+use Rattle.completion.proofs.Entry.{CompleteFacts, CompleteWorks, completed-facts, complete-works}
 use Rattle.demands.specs.Calls.{Call, take, layOut, add, remove, complete, readBack, list, figures, survey, State, cleared, after, afterAll}
 use Rattle.demands.specs.Tally.{Tally, noTally, told, toldAdd, toldRemove, toldComplete, counts, withBlock, laysOut, nowLaid, tally, tallyAll}
 use Rattle.demands.specs.Matrix.{Short, HasTable}
@@ -75,7 +76,7 @@ remove-still t Remove.Removed = (refl, refl)
 remove-still t (Remove.Refused r) = (refl, refl)
 
 complete-still : (t : Tally) (a : CompleteAnswer) → Still t (tally t (toldComplete a))
-complete-still t (Completed i m) = (refl, refl)
+complete-still t (Completed i m n) = (refl, refl)
 complete-still t (CompleteRefused r) = (refl, refl)
 
 seen-still : (seen : List ℕ) (t t′ : Tally) → t′ .blocks ≡ t .blocks → Seen seen (t .blocks) → Seen seen (t′ .blocks)
@@ -137,11 +138,11 @@ module _ (adds : List ℕ → ℕ) (read : DegreeTable → ℕ) (more : (u : Deg
       through t (tally t (told s (remove v w))) _ _ (p .0)
       (answered-tally cs (after s (remove v w)) (tally t (told s (remove v w))) seen (after-call s t r (remove v w))
       (seen-still seen t (tally t (told s (remove v w))) (p .1) h))
-  answered-tally (complete ∷ cs) s t seen r h =
-      let p = complete-still t (completeAnswer (s .journal) (s .adjacency)) in
-      through t (tally t (told s complete)) _ _ (p .0)
-      (answered-tally cs (after s complete) (tally t (told s complete)) seen (after-call s t r complete)
-      (seen-still seen t (tally t (told s complete)) (p .1) h))
+  answered-tally (complete out ∷ cs) s t seen r h =
+      let p = complete-still t (completeAnswer (s .journal) (s .adjacency) (length out)) in
+      through t (tally t (told s (complete out))) _ _ (p .0)
+      (answered-tally cs (after s (complete out)) (tally t (told s (complete out))) seen (after-call s t r (complete out))
+      (seen-still seen t (tally t (told s (complete out))) (p .1) h))
   answered-tally (readBack number ∷ cs) s t seen r h = answered-tally cs s t seen r h
   answered-tally (list out ∷ cs) s t seen r h = answered-tally cs s t seen r h
   answered-tally (figures ∷ cs) s t seen r h = answered-tally cs s t seen r h
@@ -166,10 +167,11 @@ record Done (s : State) : Type 0 where
   phased : phase (s .journal) ≡ 1
   has : HasTable (tableOf (s .journal)) s
 
-done-complete : (s : State) → CompleteFacts (s .journal) (s .adjacency) → Done (after s complete)
-done-complete s f =
+done-completed : (s : State) (out : List ℕ) (joins switches n : ℕ)
+    → completeAnswer (s .journal) (s .adjacency) (length out) ≡ Completed joins switches n → Done (after s (complete out))
+done-completed s out joins switches n e =
     subst (λ (h : List ℕ). Done (record { journal = s .journal; adjacency = h }))
-    (sym (ap (λ (a : CompleteAnswer). completeAdjacency a (s .journal) (s .adjacency)) (facts-completed (s .journal) (s .adjacency) f)))
+    (sym (ap (λ (a : CompleteAnswer). completeAdjacency a (s .journal) (s .adjacency)) e))
     (record {
       lengths = x .lengths;
       sound = x .sound;
@@ -177,8 +179,21 @@ done-complete s f =
       has = record { simple = x .simple; exact = x .table; exact-isolated = x .no-edge };
     })
   where
-    x : Rattle.completion.proofs.Entry.CompleteWorks (s .journal) (s .adjacency)
+    f : CompleteFacts (s .journal) (s .adjacency)
+    f = completed-facts (s .journal) (s .adjacency) (length out) joins switches n e .facts
+
+    x : CompleteWorks (s .journal) (s .adjacency)
     x = complete-works (s .journal) (s .adjacency) f
+
+-- completed again, or refused
+done-complete : (s : State) (out : List ℕ) → Done s → Done (after s (complete out))
+done-complete s out d = go (completeAnswer (s .journal) (s .adjacency) (length out)) refl
+  where
+    go : (a : CompleteAnswer) → completeAnswer (s .journal) (s .adjacency) (length out) ≡ a → Done (after s (complete out))
+    go (Completed joins switches n) e = done-completed s out joins switches n e
+    go (CompleteRefused r) e =
+        subst (λ (h : List ℕ). Done (record { journal = s .journal; adjacency = h }))
+        (sym (ap (λ (a : CompleteAnswer). completeAdjacency a (s .journal) (s .adjacency)) e)) d
 
 -- no block is taken and nothing is laid out in phase 1
 done-take : (s : State) → Done s → (number : ℕ) (b : List ℕ) → after s (take number b) ≡ s
@@ -220,30 +235,27 @@ done-rest (remove v w ∷ cs) s d q =
     let a = and-left (removeRefused (removeAnswer (s .journal) (s .adjacency) v w)) (quiet (after s (remove v w)) cs) q in
     done-rest cs (after s (remove v w)) (subst Done (sym (done-remove s v w a)) d)
     (and-right (removeRefused (removeAnswer (s .journal) (s .adjacency) v w)) (quiet (after s (remove v w)) cs) q)
-done-rest (complete ∷ cs) s d q =
-    done-rest cs (after s complete) (done-complete s (record { lengths = d .lengths; sound = d .sound; phased = d .phased })) q
+done-rest (complete out ∷ cs) s d q = done-rest cs (after s (complete out)) (done-complete s out d) q
 done-rest (readBack number ∷ cs) s d q = done-rest cs s d q
 done-rest (list out ∷ cs) s d q = done-rest cs s d q
 done-rest (figures ∷ cs) s d q = done-rest cs s d q
 done-rest (survey e total out ∷ cs) s d q = done-rest cs s d q
 
 -- completed, and nothing moved since
-completed-has : (before rest : List Call) (joins switches : ℕ)
-    → completeAnswer (afterAll cleared before .journal) (afterAll cleared before .adjacency) ≡ Completed joins switches
-    → quiet (after (afterAll cleared before) complete) rest ≡ true
-    → HasTable (answeredSum (before ++ complete ∷ rest)) (afterAll (after (afterAll cleared before) complete) rest)
-completed-has before rest joins switches e q =
-    subst (λ (u : DegreeTable). HasTable u (afterAll (after (afterAll cleared before) complete) rest)) (sym same) (d .has)
+completed-has : (before rest : List Call) (out : List ℕ) (joins switches n : ℕ)
+    → completeAnswer (afterAll cleared before .journal) (afterAll cleared before .adjacency) (length out) ≡ Completed joins switches n
+    → quiet (after (afterAll cleared before) (complete out)) rest ≡ true
+    → HasTable (answeredSum (before ++ complete out ∷ rest)) (afterAll (after (afterAll cleared before) (complete out)) rest)
+completed-has before rest out joins switches n e q =
+    subst (λ (u : DegreeTable). HasTable u (afterAll (after (afterAll cleared before) (complete out)) rest)) (sym same) (d .has)
   where
-    d : Done (afterAll (after (afterAll cleared before) complete) rest)
-    d =
-        done-rest rest (after (afterAll cleared before) complete)
-        (done-complete (afterAll cleared before)
-        (completed-facts (afterAll cleared before .journal) (afterAll cleared before .adjacency) joins switches e .0))
-        q
+    d : Done (afterAll (after (afterAll cleared before) (complete out)) rest)
+    d = done-rest rest (after (afterAll cleared before) (complete out)) (done-completed (afterAll cleared before) out joins switches n e) q
 
-    same : answeredSum (before ++ complete ∷ rest) ≡ tableOf (afterAll (after (afterAll cleared before) complete) rest .journal)
-    same = answered-table (before ++ complete ∷ rest) ∙ ap (λ (s : State). tableOf (s .journal)) (after-append before (complete ∷ rest) cleared)
+    same : answeredSum (before ++ complete out ∷ rest) ≡ tableOf (afterAll (after (afterAll cleared before) (complete out)) rest .journal)
+    same =
+        answered-table (before ++ complete out ∷ rest)
+        ∙ ap (λ (s : State). tableOf (s .journal)) (after-append before (complete out ∷ rest) cleared)
 
 -- laid, and no cell short: no cell is above the table on a valid state, so that every cell is the table's
 finished-has : (s : State) (lengths : lengthsOk (s .journal) (s .adjacency) ≡ true) (sound : valid (s .journal) (s .adjacency) ≡ true)

@@ -4,8 +4,9 @@ use mathlib.Core.Path.{_≡_, sym, ap, subst, _∙_}
 use mathlib.Core.Bool.{true, false}
 use mathlib.Core.List.{List}
 use mathlib.Core.Logic.{_↔_}
-use Prim.Native.Nat.{ℕ, _+_, _<_}
+use Prim.Native.Nat.{ℕ, _+_, _-_, _*_, _<_}
 use native.Mathlib.Omega.{arith}
+use lib.ListN.{length}
 use Rattle.graph.specs.Graph.{Simple, DegreeTable}
 use Rattle.graph.specs.Target.{Open}
 use Rattle.graph.specs.Tests.{degrees}
@@ -16,6 +17,7 @@ use Rattle.answer.specs.declared.AddAnswer.{AddAnswer}
 use Rattle.answer.specs.declared.AddAnswer.the-variants.{Added}
 use Rattle.answer.specs.declared.CompleteAnswer.{CompleteAnswer}
 use Rattle.answer.specs.declared.CompleteAnswer.the-variants.{Completed}
+use Rattle.layout.specs.Layout.{wanted}
 use Rattle.journal.specs.Journal.{phase, jdmOf, tableOf}
 use Rattle.journal.proofs.Table.{jdm-table}
 use Rattle.adjacency.specs.Adjacency.{edge}
@@ -25,11 +27,12 @@ use Rattle.state.proofs.Facts.{edgeTotal, StateFacts, Laid, valid-facts}
 use Rattle.laying_out.proofs.LayOut.{lay-out-honest}
 use Rattle.adding.specs.Add.{addAnswer, addAdjacency}
 use Rattle.adding.proofs.Add.{AddFacts, facts-added, AddWorks, add-works}
-use Rattle.joining.specs.Join.{joinBytes, joinCount}
-use Rattle.completion.specs.Complete.{completed, completeAnswer, completeAdjacency}
-use Rattle.completion.proofs.Entry.{CompleteFacts, facts-completed, CompleteWorks, complete-works}
+use Rattle.joining.specs.Join.{joinBytes, joinSwitches}
+use Rattle.completion.specs.Record.{recordSize}
+use Rattle.completion.specs.Complete.{completed, missing, completeAnswer, completeAdjacency}
+use Rattle.completion.proofs.Entry.{CompleteFacts, facts-completed, short-refused, CompleteWorks, complete-works}
 use Rattle.demands.specs.Calls.{State, cleared, afterAll}
-use Rattle.demands.specs.Tally.{Tally, noTally, tallyAll}
+use Rattle.demands.specs.Tally.{Tally, noTally, missingEdges, tallyAll}
 use Rattle.demands.specs.Matrix.{Short, HasTable}
 use Rattle.demands.specs.Demand3 as D
 use Rattle.demands.proofs.Reach.{Reach, reach, laid-counted, phase-0, phase-1}
@@ -86,20 +89,17 @@ module _ (s : State) (lengths : Rattle.state.specs.Valid.lengthsOk (s .journal)
       f : AddFacts (s .journal) (s .adjacency) v w
       f = record { lengths = lengths; sound = sound; phased = phased; pair = open-pair v w o }
 
-      m : ℕ
-      m = joinCount (vertexCount (s .journal)) (degreeAt (s .journal)) (s .adjacency) v w
-
-      to : addAnswer (s .journal) (s .adjacency) v w ≡ Added (joinCount (vertexCount (s .journal)) (degreeAt (s .journal)) (s .adjacency) v w)
+      to : addAnswer (s .journal) (s .adjacency) v w ≡ Added (joinSwitches (vertexCount (s .journal)) (degreeAt (s .journal)) (s .adjacency) v w)
           → addAdjacency (addAnswer (s .journal) (s .adjacency) v w) (s .journal) (s .adjacency) v w
           ≡ joinBytes (vertexCount (s .journal)) (degreeAt (s .journal)) (s .adjacency) v w
       to e = ap (λ (a : AddAnswer). addAdjacency a (s .journal) (s .adjacency) v w) e
 
-      go : addAnswer (s .journal) (s .adjacency) v w ≡ Added (joinCount (vertexCount (s .journal)) (degreeAt (s .journal)) (s .adjacency) v w)
+      go : addAnswer (s .journal) (s .adjacency) v w ≡ Added (joinSwitches (vertexCount (s .journal)) (degreeAt (s .journal)) (s .adjacency) v w)
           → AddWorks (s .journal) (s .adjacency) v w (joinBytes (vertexCount (s .journal)) (degreeAt (s .journal)) (s .adjacency) v w)
           → D.CanBeJoined (tableOf (s .journal)) s v w
       go e x =
           record {
-            switches = joinCount (vertexCount (s .journal)) (degreeAt (s .journal)) (s .adjacency) v w;
+            switches = joinSwitches (vertexCount (s .journal)) (degreeAt (s .journal)) (s .adjacency) v w;
             answer = e;
             sound = subst (λ (h : List ℕ). valid (s .journal) h ≡ true) (sym (to e)) (x .sound);
             linked = subst (λ (h : List ℕ). edge h v w ≡ 1) (sym (to e)) (x .linked);
@@ -138,34 +138,55 @@ module _ (s : State) (lengths : Rattle.state.specs.Valid.lengthsOk (s .journal)
             jdm-table (s .journal) (facts .journal-ok) .symmetric k l,
           )
 
-  completes : (t : Tally) → tableOf (s .journal) ≡ t .table → edgeTotal (s .journal) (s .adjacency) ≡ t .edges → D.Completes t s
-  completes t same counted = go (facts-completed (s .journal) (s .adjacency) f) (complete-works (s .journal) (s .adjacency) f)
-    where
-      f : CompleteFacts (s .journal) (s .adjacency)
-      f = record { lengths = lengths; sound = sound; phased = phased }
+  -- Completing. The tally t has the journal's table and the matrix's edges, and so the edges missing.
+  module _ (t : Tally) (same : tableOf (s .journal) ≡ t .table) (counted : edgeTotal (s .journal) (s .adjacency) ≡ t .edges) (out : List ℕ) where
+    f : CompleteFacts (s .journal) (s .adjacency)
+    f = record { lengths = lengths; sound = sound; phased = phased }
 
-      own : CompleteWorks (s .journal) (s .adjacency)
-          → (e : completeAdjacency (completeAnswer (s .journal) (s .adjacency)) (s .journal) (s .adjacency) ≡ completed (s .journal) (s .adjacency) .adjacency)
-          → completeAnswer (s .journal) (s .adjacency) ≡ Completed (completed (s .journal) (s .adjacency) .joins) (completed (s .journal) (s .adjacency) .switches)
-          → D.Completes (record { blocks = t .blocks; table = tableOf (s .journal); laid = t .laid; edges = t .edges }) s
-      own x e a =
-          record {
-            joins = completed (s .journal) (s .adjacency) .joins;
-            switches = completed (s .journal) (s .adjacency) .switches;
-            answer = a;
-            missing = omega (arith, x .all, x .more, counted);
-            more =
-                subst (λ (h : List ℕ). edgeTotal (s .journal) h ≡ edgeTotal (s .journal) (s .adjacency) + completed (s .journal) (s .adjacency) .joins) (sym e) (x .more);
-            has-table =
-                subst (λ (h : List ℕ). HasTable (tableOf (s .journal)) (record { journal = s .journal; adjacency = h })) (sym e)
-                (record { simple = x .simple; exact = x .table; exact-isolated = x .no-edge });
-          }
+    same-missing : missingEdges t ≡ missing (s .journal) (s .adjacency)
+    same-missing = rw (← counted) (ap (λ (u : DegreeTable). wanted (u .cells) - edgeTotal (s .journal) (s .adjacency)) (sym same))
 
-      go : completeAnswer (s .journal) (s .adjacency) ≡ Completed (completed (s .journal) (s .adjacency) .joins) (completed (s .journal) (s .adjacency) .switches)
-          → CompleteWorks (s .journal) (s .adjacency) → D.Completes t s
-      go a x =
-          subst (λ (u : DegreeTable). D.Completes (record { blocks = t .blocks; table = u; laid = t .laid; edges = t .edges }) s) same
-          (own x (ap (λ (a : CompleteAnswer). completeAdjacency a (s .journal) (s .adjacency)) a) a)
+    completes : D.HasRoom t out → D.Completes t s out
+    completes room =
+        go (facts-completed (s .journal) (s .adjacency) (length out) f (omega (arith, same-missing, room))) (complete-works (s .journal) (s .adjacency) f)
+      where
+        joins : ℕ
+        joins = completed (s .journal) (s .adjacency) .joins
+
+        switches : ℕ
+        switches = completed (s .journal) (s .adjacency) .switches
+
+        own : CompleteWorks (s .journal) (s .adjacency)
+            → (e : completeAdjacency (completeAnswer (s .journal) (s .adjacency) (length out)) (s .journal) (s .adjacency)
+            ≡ completed (s .journal) (s .adjacency) .adjacency)
+            → completeAnswer (s .journal) (s .adjacency) (length out) ≡ Completed joins switches (recordSize * joins)
+            → D.Completes (record { blocks = t .blocks; table = tableOf (s .journal); laid = t .laid; edges = t .edges }) s out
+        own x e a =
+            record {
+              joins = joins;
+              switches = switches;
+              answer = a;
+              missing = omega (arith, x .all, x .more, counted);
+              more = subst (λ (h : List ℕ). edgeTotal (s .journal) h ≡ edgeTotal (s .journal) (s .adjacency) + joins) (sym e) (x .more);
+              has-table =
+                  subst (λ (h : List ℕ). HasTable (tableOf (s .journal)) (record { journal = s .journal; adjacency = h })) (sym e)
+                  (record { simple = x .simple; exact = x .table; exact-isolated = x .no-edge });
+            }
+
+        go : completeAnswer (s .journal) (s .adjacency) (length out) ≡ Completed joins switches (length (completed (s .journal) (s .adjacency) .records))
+            → CompleteWorks (s .journal) (s .adjacency) → D.Completes t s out
+        go a x =
+            subst (λ (u : DegreeTable). D.Completes (record { blocks = t .blocks; table = u; laid = t .laid; edges = t .edges }) s out) same
+            (own x (ap (λ (a : CompleteAnswer). completeAdjacency a (s .journal) (s .adjacency)) a) (a ∙ ap (Completed joins switches) (x .written)))
+
+    refuses : (D.HasRoom t out → ⊥) → D.RefusedShort s out
+    refuses short =
+        let e = short-refused (s .journal) (s .adjacency) (length out) f (omega (arith, same-missing, short)) in
+        record {
+          answer = e;
+          unchanged =
+              ap (λ (a : CompleteAnswer). record { journal = s .journal; adjacency = completeAdjacency a (s .journal) (s .adjacency) }) e;
+        }
 
 pub demand-3 : D.Demand3
 demand-3 calls = (not-laid, laid-out)
@@ -202,7 +223,8 @@ demand-3 calls = (not-laid, laid-out)
               let q = some-pair (afterAll cleared calls) (r .lengths) (r .sound) (phase-1 _ _ r e) k l
               (subst (λ (u : DegreeTable). Short u (afterAll cleared calls) k l) (sym (r .table)) h) in
               (q .0, q .1, subst (λ (u : DegreeTable). D.OpenPair u (afterAll cleared calls) (q .0) (q .1)) (r .table) (q .2));
-          completes =
-              completes (afterAll cleared calls) (r .lengths) (r .sound) (phase-1 _ _ r e) (tallyAll cleared noTally calls) (r .table)
+          completes = completes (afterAll cleared calls) (r .lengths) (r .sound) (phase-1 _ _ r e) (tallyAll cleared noTally calls) (r .table)
+              (laid-counted _ _ r e);
+          refuses = refuses (afterAll cleared calls) (r .lengths) (r .sound) (phase-1 _ _ r e) (tallyAll cleared noTally calls) (r .table)
               (laid-counted _ _ r e);
         }

@@ -1,3 +1,4 @@
+pub mod Chains
 pub mod Demand1
 pub mod Reach
 pub mod Kept
@@ -6,3 +7,5 @@ pub mod Demand3
 pub mod Uses
 pub mod Listed
 pub mod Isolated
+pub mod Playing
+pub mod Playback

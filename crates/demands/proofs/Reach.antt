@@ -7,6 +7,7 @@ use mathlib.Core.List.{List, [], _∷_, _++_}
 use Prim.Native.Nat.{ℕ, _+_, _-_}
 use native.Mathlib.Omega.{arith}
 use lib.Dec.{eqb, ltb, leb}
+use lib.ListN.{length}
 use Rattle.answer.specs.declared.TakeAnswer.{TakeAnswer}
 use Rattle.answer.specs.declared.TakeAnswer.the-variants.{Taken, Held, Refused}
 use Rattle.answer.specs.declared.LayOutAnswer.{LayOutAnswer}
@@ -204,17 +205,17 @@ module _ (s : State) (t : Tally) (r : Reach s t) where
           (omega (arith, x .one-less, laid-counted s t r l))
       go (Remove.Refused q) e = r
 
-  after-complete : Reach (after s complete) (tally t (told s complete))
-  after-complete = go (completeAnswer (s .journal) (s .adjacency)) refl
+  after-complete : (out : List ℕ) → Reach (after s (complete out)) (tally t (told s (complete out)))
+  after-complete out = go (completeAnswer (s .journal) (s .adjacency) (length out)) refl
     where
-      go : (a : CompleteAnswer) → completeAnswer (s .journal) (s .adjacency) ≡ a
+      go : (a : CompleteAnswer) → completeAnswer (s .journal) (s .adjacency) (length out) ≡ a
           → Reach (record { journal = s .journal; adjacency = completeAdjacency a (s .journal) (s .adjacency) }) (tally t (toldComplete a))
-      go (Complete.Completed joins switches) e =
-          let f = completed-facts (s .journal) (s .adjacency) joins switches e in
-          let x = complete-works (s .journal) (s .adjacency) (f .0) in
-          let l = laid-tally s t r (f .0 .phased) in
-          with-edges s (completeAdjacency (Complete.Completed joins switches) (s .journal) (s .adjacency)) t (t .edges + joins) r l (x .lengths) (x .sound)
-          (omega (arith, x .more, f .1, laid-counted s t r l))
+      go (Complete.Completed joins switches n) e =
+          let f = completed-facts (s .journal) (s .adjacency) (length out) joins switches n e in
+          let x = complete-works (s .journal) (s .adjacency) (f .facts) in
+          let l = laid-tally s t r (f .facts .phased) in
+          with-edges s (completeAdjacency (Complete.Completed joins switches n) (s .journal) (s .adjacency)) t (t .edges + joins) r l (x .lengths) (x .sound)
+          (omega (arith, x .more, f .joins-are, laid-counted s t r l))
       go (Complete.Refused q) e = r
 
   pub after-call : (c : Call) → Reach (after s c) (tally t (told s c))
@@ -222,7 +223,7 @@ module _ (s : State) (t : Tally) (r : Reach s t) where
   after-call layOut = after-layOut
   after-call (add v w) = after-add v w
   after-call (remove v w) = after-remove v w
-  after-call complete = after-complete
+  after-call (complete out) = after-complete out
   after-call (readBack number) = r
   after-call (list out) = r
   after-call figures = r

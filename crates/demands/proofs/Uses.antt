@@ -1,26 +1,30 @@
 -- What a user takes from the theorems, clause by clause. A weaker statement of demand 2 or 3, or a tally that counts a block twice, would not
 -- give it.
 -- Assumes nothing.
-use mathlib.Core.Path.{_≡_, refl, ap, _∙_}
+use mathlib.Core.Path.{_≡_, refl, sym, ap, _∙_}
 use mathlib.Core.Bool.{Bool, true, false, _&&_, not, cond}
 use mathlib.Core.List.{List, [], _∷_, _++_, append-assoc}
-use Prim.Native.Nat.{ℕ, _+_}
+use Prim.Native.Nat.{ℕ, _+_, _*_}
 use native.Mathlib.Omega.{arith}
 use lib.Dec.{eqb, ltb}
+use lib.ListN.{length}
 use borrow.Author.Tests.{ne-eqb, eqb-true}
 use Rattle.finite.proofs.All.{and-left, and-right, and-false}
 use Rattle.graph.specs.Graph.{isolated}
 use Rattle.graph.specs.Tests.{vertices}
 use Rattle.graph.specs.Theorems.{Realized}
-use Rattle.answer.specs.declared.CompleteAnswer.the-variants.{Completed}
+use Rattle.answer.specs.declared.Refusal.{Refusal}
+use Rattle.answer.specs.declared.CompleteAnswer.the-variants.{Completed, Refused}
 use Rattle.table.specs.Block.{wellFormed, blockIsolated}
 use Rattle.adjacency.specs.Adjacency.{edge}
 use Rattle.journal.specs.Journal.{mostBlocks}
 use Rattle.taking.specs.Take.{takeAnswer}
+use Rattle.completion.specs.Record.{recordSize}
 use Rattle.completion.specs.Complete.{completeAnswer}
+use Rattle.completion.proofs.Entry.{refused-not-completed}
 use Rattle.demands.specs.Calls.{Call, take, complete, cleared, after, afterAll}
 use Rattle.demands.specs.Accepted.{accepted, AcceptedIn}
-use Rattle.demands.specs.Tally.{Tally, noTally, toldTake, counts, withBlock, tally, tallyAll}
+use Rattle.demands.specs.Tally.{Tally, noTally, missingEdges, toldTake, counts, withBlock, tally, tallyAll}
 use Rattle.demands.specs.Demand2.{answered, answeredSum}
 use Rattle.demands.specs.Demand3.{RefusedForWantOfAGraph, OpenPair, CanBeJoined}
 use Rattle.demands.proofs.Demand2.{demand-2}
@@ -42,11 +46,25 @@ module _ (calls : List Call) where
       → CanBeJoined (tallyAll cleared noTally calls .table) (afterAll cleared calls) w v
   every-pair e v w o = demand-3 calls .1 e .joinable v w o .1
 
+  -- an output of as many bytes as the tally's missing edges need is room enough: completing into it is not refused ..
+  pub room-enough : tallyAll cleared noTally calls .laid ≡ true → (out : List ℕ)
+      → length out ≡ recordSize * missingEdges (tallyAll cleared noTally calls) → (r : Refusal)
+      → completeAnswer (afterAll cleared calls .journal) (afterAll cleared calls .adjacency) (length out) ≡ Refused r → ⊥
+  room-enough l out h r e =
+      let c = demand-3 calls .1 l .completes out (omega arith) in
+      refused-not-completed (c .joins) (c .switches) (recordSize * c .joins) r (sym e ∙ c .answer)
+
+  -- .. and with one byte less nothing changes
+  pub short-unchanged : tallyAll cleared noTally calls .laid ≡ true → (out : List ℕ)
+      → length out + 1 ≡ recordSize * missingEdges (tallyAll cleared noTally calls) → after (afterAll cleared calls) (complete out) ≡ afterAll cleared calls
+  short-unchanged l out h = demand-3 calls .1 l .refuses out (λ room. omega arith) .unchanged
+
   -- once completed, exactly as many vertices have no edge as the blocks taken or held add up to
-  pub isolated-exact : (joins switches : ℕ) → completeAnswer (afterAll cleared calls .journal) (afterAll cleared calls .adjacency) ≡ Completed joins switches
-      → isolated (vertices (answeredSum (calls ++ complete ∷ []))) (edge (after (afterAll cleared calls) complete .adjacency))
-      ≡ answered blockIsolated [] cleared (calls ++ complete ∷ [])
-  isolated-exact joins switches e = demand-2 .completed calls [] joins switches e refl .exact-isolated
+  pub isolated-exact : (out : List ℕ) (joins switches n : ℕ)
+      → completeAnswer (afterAll cleared calls .journal) (afterAll cleared calls .adjacency) (length out) ≡ Completed joins switches n
+      → isolated (vertices (answeredSum (calls ++ complete out ∷ []))) (edge (after (afterAll cleared calls) (complete out) .adjacency))
+      ≡ answered blockIsolated [] cleared (calls ++ complete out ∷ [])
+  isolated-exact out joins switches n e = demand-2 .completed calls [] out joins switches n e refl .exact-isolated
 
   -- once a block was taken or held, no other bytes are, under its number
   pub other-bytes-refused : (number : ℕ) (b b′ : List ℕ) → AcceptedIn calls number b

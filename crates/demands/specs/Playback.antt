@@ -36,7 +36,7 @@ playTriple a b t p = cond (eqb a 255) p (addEdge b t (removeEdge a t p))
 -- record i, 8 bytes: its two triples, then its edge
 abbrev pub playRecord : List ℕ → ℕ → Played → Played
 playRecord records i p =
-    let at = λ (k : ℕ). getD records (8 * i + k) 0 in
+    let at : ℕ → ℕ = λ k. getD records (8 * i + k) 0 in
     addEdge (at 0) (at 1) (playTriple (at 5) (at 6) (at 7) (playTriple (at 2) (at 3) (at 4) p))
 
 -- all records, one after the other, onto the matrix g

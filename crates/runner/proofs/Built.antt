@@ -26,7 +26,7 @@ use Rattle.table.specs.Block.{blockCell, blockIsolated, plus}
 use Rattle.graph.specs.Tests.{vertices}
 use Rattle.journal.specs.Journal.{journalSize, phase, blocks, tableOf, laid}
 use Rattle.journal.proofs.Store.{phase-stored, blocks-stored, table-stored}
-use Rattle.journal.proofs.Laid.{table-laid}
+use Rattle.journal.proofs.Laid.{table-laid, phase-laid}
 use Rattle.adjacency.specs.Adjacency.{adjacencySize, edge}
 use Rattle.state.specs.Valid.{lengthsOk, valid}
 use Rattle.state.specs.Laid.{vertexCount}
@@ -36,16 +36,16 @@ use Rattle.laying_out.specs.LayOut.{layOutAnswer, layOutJournal}
 use Rattle.clearing.specs.Clear.{ClearedState}
 use Rattle.clearing.proofs.Cleared.{cleared-state}
 use Rattle.taking.proofs.Take.{taken-facts, held-facts, take-lengths, take-valid}
-use Rattle.laying_out.proofs.LayOut.{lay-out-vertices}
+use Rattle.laying_out.proofs.LayOut.{LaidOutFacts, lay-out-facts, lay-out-vertices, lay-out-lengths, lay-out-valid}
 use Rattle.listing.specs.List.{edgeBytes, listBytes}
 use Rattle.listing.proofs.List.{list-length}
 use Rattle.listing.proofs.Pairs.{cat-sized, one-sized}
 use Rattle.completion.specs.Complete.{completed, completeAnswer, completeAdjacency}
-use Rattle.completion.proofs.Entry.{completed-facts, complete-works}
+use Rattle.completion.proofs.Entry.{CompleteFacts, completed-facts, facts-completed, missing-most, complete-works}
 use Rattle.text.specs.Text.{refusedLine, headLine, edgeLines}
 use Rattle.text.proofs.Lines.{lines-cat, lines-one}
-use Rattle.runner.specs.Program.{blocksIn, blockIn, Taking, takeVerdict, takeNext, takeAll, stateText, completedText, laidText, takenText, textFrom}
-use Rattle.runner.specs.Theorems.{inputTable, edgeText, Built, ProgramSays}
+use Rattle.runner.specs.Program.{blocksIn, blockIn, Taking, takeVerdict, takeNext, takeAll, stateText, recordsMost, completedText, laidText, takenText, textFrom}
+use Rattle.runner.specs.Theorems.{CompletesAlways, inputTable, edgeText, Built, ProgramSays}
 use Rattle.runner.proofs.Taking.{IsGo}
 
 -- the lines of a graph's edge list, v by v and w by w
@@ -132,10 +132,11 @@ module _ (g input : List ℕ) where
       (λ i s l before. reached-next i s before)
 
 -- a completed state's text
-module _ (j g : List ℕ) (n joins switches : ℕ) (count : n ≡ vertexCount j) (e : completeAnswer j g ≡ Completed joins switches) where
+module _ (j g : List ℕ) (n joins switches written : ℕ) (count : n ≡ vertexCount j)
+    (e : completeAnswer j g recordsMost ≡ Completed joins switches written) where
   built : Built (tableOf j) (stateText n switches j (completed j g .adjacency))
   built =
-      let w = complete-works j g (completed-facts j g joins switches e .0) in
+      let w = complete-works j g (completed-facts j g recordsMost joins switches written e .facts) in
       let h = completed j g .adjacency in
       let d = length (listBytes (vertexCount j) h) / 2 in
       let q : d ≡ edges (vertexCount j) (edge h) = omega (arith, list-length (vertexCount j) h (w .simple)) in
@@ -158,10 +159,10 @@ abbrev Told : DegreeTable → List ℕ → Type 0
 Told t text = ((r : Refusal) × (text ≡ refusedLine r)) ⊎ Built t text
 
 told-completed : (j g : List ℕ) (n : ℕ) → n ≡ vertexCount j → Told (tableOf j) (laidText (LaidOut n) j g)
-told-completed j g n count = go (completeAnswer j g) refl
+told-completed j g n count = go (completeAnswer j g recordsMost) refl
   where
-    go : (a : CompleteAnswer) → completeAnswer j g ≡ a → Told (tableOf j) (completedText a n j (completeAdjacency a j g))
-    go (Completed joins switches) e = inr (built j g n joins switches count e)
+    go : (a : CompleteAnswer) → completeAnswer j g recordsMost ≡ a → Told (tableOf j) (completedText a n j (completeAdjacency a j g))
+    go (Completed joins switches written) e = inr (built j g n joins switches written count e)
     go (CompleteRefused r) e = inl (r, refl)
 
 told-laid : (j g : List ℕ) → Told (tableOf j) (takenText Go j g)
@@ -184,3 +185,26 @@ told j g input c = go (takeAll j g input .verdict) refl
 
 pub program-says : ProgramSays
 program-says input = told (replicate journalSize 0) (replicate adjacencySize 0) input cleared-state
+
+-- completing a laid state is not refused: no layout has more edges than there is room for
+laid-completes : (j g : List ℕ) (n : ℕ) → layOutAnswer j g ≡ LaidOut n
+    → (joins switches written : ℕ) × (completeAnswer (layOutJournal (layOutAnswer j g) j) g recordsMost ≡ Completed joins switches written)
+laid-completes j g n e =
+    (completed j′ g .joins, completed j′ g .switches, length (completed j′ g .records), facts-completed j′ g recordsMost f (omega (arith, missing-most j′ g f)))
+  where
+    j′ : List ℕ
+    j′ = layOutJournal (layOutAnswer j g) j
+
+    was : LaidOutFacts j g
+    was = lay-out-facts j g n e
+
+    f : CompleteFacts j′ g
+    f =
+        record {
+          lengths = lay-out-lengths j g (layOutAnswer j g) (was .lengths);
+          sound = lay-out-valid j g (was .lengths) (was .sound);
+          phased = rw e (phase-laid j (lengths-journal j g (was .lengths)));
+        }
+
+pub completes-always : CompletesAlways
+completes-always input n went e = laid-completes (takeAll (replicate journalSize 0) (replicate adjacencySize 0) input .journal) (replicate adjacencySize 0) n e

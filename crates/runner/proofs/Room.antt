@@ -33,7 +33,7 @@ use Rattle.completion.proofs.Works.{few-edges}
 use Rattle.completion.proofs.Entry.{completed-facts, complete-works}
 use Rattle.text.specs.Text.{edgeLines, headLine, headMost, edgeMost}
 use Rattle.text.proofs.Decimal.{refused-length, head-length, edges-length}
-use Rattle.runner.specs.Program.{stateText, completedText, laidText, takenText, textMost}
+use Rattle.runner.specs.Program.{stateText, recordsMost, completedText, laidText, takenText, textMost}
 
 abbrev IsWritten : WrittenAnswer → Type 0
 IsWritten (Written n) = Unit {0}
@@ -110,11 +110,11 @@ refused-fits : (r : Refusal) → length (Rattle.text.specs.Text.refusedLine r) 
 refused-fits r = omega (arith, refused-length r)
 
 completed-fits : (j g : List ℕ) (n : ℕ) → length (laidText (LaidOut n) j g) ≤ textMost
-completed-fits j g n = go (completeAnswer j g) refl
+completed-fits j g n = go (completeAnswer j g recordsMost) refl
   where
-    go : (a : CompleteAnswer) → completeAnswer j g ≡ a → length (completedText a n j (completeAdjacency a j g)) ≤ textMost
-    go (Completed joins switches) e =
-        let f = completed-facts j g joins switches e .0 in
+    go : (a : CompleteAnswer) → completeAnswer j g recordsMost ≡ a → length (completedText a n j (completeAdjacency a j g)) ≤ textMost
+    go (Completed joins switches written) e =
+        let f = completed-facts j g recordsMost joins switches written e .facts in
         let w = complete-works j g f in
         state-fits j (completed j g .adjacency) (w .lengths) (w .sound) (f .phased) n switches
     go (CompleteRefused r) e = refused-fits r

@@ -23,7 +23,7 @@ use Rattle.completion.proofs.Entry.{completed-facts, complete-works}
 use Rattle.io.specs.Counts.{Counts}
 use Rattle.text.specs.Text.{refusedLine}
 use Rattle.text.proofs.Written.{Written}
-use Rattle.runner.specs.Program.{takeAll, stateText, completedText, laidText, takenText, textFrom, textMost}
+use Rattle.runner.specs.Program.{takeAll, stateText, recordsMost, completedText, laidText, takenText, textFrom, textMost}
 use Rattle.runner.proofs.Room.{text-fits}
 
 -- the text t stands at the start of the list l, which is then m, and p is its length
@@ -37,24 +37,29 @@ says t u l p m e w = subst (λ (t : List ℕ). Says t l p m) (sym e) w
 pub says-line : (t u l : List ℕ) (p : ℕ) (m : List ℕ) → t ≡ u → Written l 0 u p m → Says t l p m
 says-line t u l p m e w = says t u l p m e (w .0 ∙ zero-add (length u), w .1)
 
--- after completing
-module _ (j g : List ℕ) (n : ℕ) (a : CompleteAnswer) (g′ : List ℕ)
-    (e : (a ≡ completeAnswer j g) × (g′ ≡ completeAdjacency (completeAnswer j g) j g)) where
-  pub said-refused : (r : Refusal) → a ≡ CompleteRefused r → laidText (LaidOut n) j g ≡ refusedLine r
-  said-refused r h = ap (λ (a : CompleteAnswer). completedText a n j (completeAdjacency a j g)) (sym (e .0) ∙ h)
+-- after completing, with m bytes for the records
+module _ (j g : List ℕ) (n m : ℕ) (room : m ≡ recordsMost) (a : CompleteAnswer) (g′ : List ℕ)
+    (answered : a ≡ completeAnswer j g m) (left : g′ ≡ completeAdjacency (completeAnswer j g m) j g) where
+  answer : a ≡ completeAnswer j g recordsMost
+  answer = answered ∙ ap (completeAnswer j g) room
 
-  module _ (joins switches : ℕ) (h : a ≡ Completed joins switches) where
+  pub said-refused : (r : Refusal) → a ≡ CompleteRefused r → laidText (LaidOut n) j g ≡ refusedLine r
+  said-refused r h = ap (λ (a : CompleteAnswer). completedText a n j (completeAdjacency a j g)) (sym answer ∙ h)
+
+  module _ (joins switches written : ℕ) (h : a ≡ Completed joins switches written) where
+    completed-is : g′ ≡ completed j g .adjacency
+    completed-is = left ∙ ap (λ (a : CompleteAnswer). completeAdjacency a j g) (sym answered ∙ h)
+
     pub said-completed : laidText (LaidOut n) j g ≡ stateText n switches j g′
     said-completed =
-        ap (λ (a : CompleteAnswer). completedText a n j (completeAdjacency (completeAnswer j g) j g)) (sym (e .0) ∙ h)
-        ∙ ap (λ (g : List ℕ). stateText n switches j g) (sym (e .1))
+        ap (λ (a : CompleteAnswer). completedText a n j (completeAdjacency a j g)) (sym answer ∙ h)
+        ∙ ap (λ (g : List ℕ). stateText n switches j g) (sym completed-is)
 
     pub completed-laid : (lengthsOk j g′ ≡ true) × (valid j g′ ≡ true) × (phase j ≡ 1)
     completed-laid =
-        let f = completed-facts j g joins switches (sym (e .0) ∙ h) .0 in
+        let f = completed-facts j g m joins switches written (sym answered ∙ h) .facts in
         let w = complete-works j g f in
-        let q : g′ ≡ completed j g .adjacency = e .1 ∙ ap (λ (a : CompleteAnswer). completeAdjacency a j g) (sym (e .0) ∙ h) in
-        rw q (w .lengths, w .sound, f .phased)
+        rw completed-is (w .lengths, w .sound, f .phased)
 
 -- after laying out
 module _ (j g : List ℕ) (a : LayOutAnswer) (j′ : List ℕ) (e : (a ≡ layOutAnswer j g) × (j′ ≡ layOutJournal (layOutAnswer j g) j)) where

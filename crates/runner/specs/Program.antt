@@ -20,6 +20,7 @@ use Rattle.adjacency.specs.Adjacency.{adjacencySize}
 use Rattle.state.specs.Laid.{vertexCount}
 use Rattle.taking.specs.Take.{takeAnswer, takeJournal}
 use Rattle.laying_out.specs.LayOut.{layOutAnswer, layOutJournal}
+use Rattle.completion.specs.Record.{recordSize}
 use Rattle.completion.specs.Complete.{mostEdges, completeAnswer, completeAdjacency}
 use Rattle.listing.specs.List.{listBytes}
 use Rattle.text.specs.Text.{refusedLine, headLine, edgeLines, headMost, edgeMost}
@@ -57,14 +58,18 @@ takeAll j g input = foldTo (blocksIn input) (takeNext g input) (record { journal
 abbrev pub stateText : ℕ → ℕ → List ℕ → List ℕ → List ℕ
 stateText n switches j g = let e = listBytes (vertexCount j) g in headLine n (length e / 2) switches ++ edgeLines e
 
+-- the room that completing is lent: a record for each edge that a layout can have
+abbrev pub recordsMost : ℕ
+recordsMost = recordSize * mostEdges
+
 -- after completing
 abbrev pub completedText : CompleteAnswer → ℕ → List ℕ → List ℕ → List ℕ
-completedText (Completed joins switches) n j g = stateText n switches j g
+completedText (Completed joins switches written) n j g = stateText n switches j g
 completedText (CompleteRefused r) n j g = refusedLine r
 
 -- after laying out
 abbrev pub laidText : LayOutAnswer → List ℕ → List ℕ → List ℕ
-laidText (LaidOut n) j g = let a = completeAnswer j g in completedText a n j (completeAdjacency a j g)
+laidText (LaidOut n) j g = let a = completeAnswer j g recordsMost in completedText a n j (completeAdjacency a j g)
 laidText (LayOutRefused r) j g = refusedLine r
 
 -- after taking

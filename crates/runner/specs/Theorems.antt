@@ -6,20 +6,34 @@ use mathlib.Core.List.{List, [], _++_}
 use mathlib.Core.Logic.{_⊎_}
 use Prim.Native.Nat.{ℕ}
 use lib.Dec.{eqb, ltb}
-use lib.ListN.{take}
+use lib.ListN.{take, replicate}
 use Rattle.finite.specs.Range.{sumTo, catTo}
 use Rattle.graph.specs.Graph.{Simple, ownJdm, isolated, DegreeTable, edges}
 use Rattle.answer.specs.declared.Refusal.{Refusal}
+use Rattle.answer.specs.declared.Verdict.the-variants.{Go}
+use Rattle.answer.specs.declared.LayOutAnswer.the-variants.{LaidOut}
+use Rattle.answer.specs.declared.CompleteAnswer.the-variants.{Completed}
 use Rattle.table.specs.Block.{blockCell, blockIsolated}
 use Rattle.graph.specs.Tests.{vertices}
-use Rattle.journal.specs.Journal.{tableOf}
-use Rattle.adjacency.specs.Adjacency.{edge}
+use Rattle.journal.specs.Journal.{journalSize, tableOf}
+use Rattle.adjacency.specs.Adjacency.{adjacencySize, edge}
+use Rattle.laying_out.specs.LayOut.{layOutAnswer, layOutJournal}
+use Rattle.completion.specs.Complete.{completeAnswer}
 use Rattle.text.specs.Text.{refusedLine, headLine, edgeLine}
-use Rattle.runner.specs.Program.{blocksIn, blockIn, programText, inputMost}
+use Rattle.runner.specs.Program.{blocksIn, blockIn, takeAll, recordsMost, programText, inputMost}
 
 -- what lies behind 65 blocks cannot matter: the program need not read it
 abbrev pub ReadsEnough : Type 0
 ReadsEnough = (input : List ℕ) → programText input ≡ programText (take inputMost input)
+
+-- where the input's blocks are taken and laid out, completing has room and is not refused
+abbrev pub CompletesAlways : Type 0
+CompletesAlways =
+    (input : List ℕ) (n : ℕ) →
+    let j = takeAll (replicate journalSize 0) (replicate adjacencySize 0) input .journal in
+    let a = layOutAnswer j (replicate adjacencySize 0) in
+    takeAll (replicate journalSize 0) (replicate adjacencySize 0) input .verdict ≡ Go → a ≡ LaidOut n →
+    (joins switches written : ℕ) × (completeAnswer (layOutJournal a j) (replicate adjacencySize 0) recordsMost ≡ Completed joins switches written)
 
 -- the sum of the input's blocks: in each cell, and of the isolated vertices
 abbrev pub inputTable : List ℕ → DegreeTable

@@ -21,6 +21,7 @@ use answer::LayOutAnswer;
 use answer::TakeAnswer;
 use answer::Verdict;
 use answer::WrittenAnswer;
+use completion::record::RECORD_SIZE;
 use journal::JOURNAL_SIZE;
 use journal::MOST_BLOCKS;
 use layout::MOST_VERTICES;
@@ -39,6 +40,9 @@ pub const INPUT_MOST: usize = BLOCK_MOST * (MOST_BLOCKS + 1);
 
 // The most bytes of an edge list: 2 for each edge, and each edge has two ends.
 const LIST_MOST: usize = MOST_VERTICES * (DEGREES - 1);
+
+// The most bytes of the records of completing: one for each edge.
+const RECORDS_MOST: usize = RECORD_SIZE * (LIST_MOST / 2);
 
 // The most bytes of the text: the first line, and a line for each edge.
 pub const TEXT_MOST: usize = HEAD_MOST + EDGE_MOST * (LIST_MOST / 2);
@@ -131,16 +135,17 @@ fn put_state(
     }
 }
 
-// Completes a laid state of n vertices.
+// Completes a laid state of n vertices. There is room for every record.
 fn complete(journal: &[u8], adjacency: &mut [u8], n: usize, output: &mut [u8]) -> usize
     requires { ⌜ textMost ≤ length (now output) ⌝ }
     ensures { λ r. ⌜ r ≡ length (laidText (LaidOut n) (now (journal .entry)) (now (adjacency .entry))) ⌝ }
     ensures { λ _. ⌜ now (output .exit) ≡ sets (now (output .entry)) 0 (laidText (LaidOut n) (now (journal .entry)) (now (adjacency .entry))) ⌝ }
 {
-    let answer = completion::complete(journal, adjacency);
+    let mut records = [0u8; RECORDS_MOST];
+    let answer = completion::complete(journal, adjacency, &mut records);
     match answer {
         CompleteAnswer::Refused(r) => put_refused(output, 0, r),
-        CompleteAnswer::Completed(_, switches) => put_state(
+        CompleteAnswer::Completed(_, switches, _) => put_state(
             journal,
             adjacency,
             n,

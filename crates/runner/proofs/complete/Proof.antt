@@ -1,7 +1,10 @@
 -- `runner::complete` meets its contract.
 -- Assumes nothing.
+use Prim.Native.Nat.{ℕ}
 use native.Mathlib.Omega.{arith}
 use borrow.Author.Needs.{needs}
+use lib.ListN.{length-replicate}
+use Rattle.runner.specs.Program.{recordsMost}
 use Rattle.runner.proofs.Said.{says, says-line, said-refused, said-completed, completed-laid}
 use Rattle.runner.proofs.complete.Statement.{statement}
 use Rattle.runner.proofs.complete.Tie as tie
@@ -9,32 +12,40 @@ use Rattle.runner.proofs.complete.Tie as tie
 pub complete-spec : {M : Type 1} → statement M
 complete-spec =
     tie.close (tie.spec
+    (λ c. search needs)  -- slice-aggregate-complete
     (λ c κs. tt)  -- complete-requires
     (λ c. search needs)  -- enum-known-answer
     (λ c κs. omega arith)  -- put-refused-requires
     (λ c. search needs)  -- enum-known-answer-2
     (λ c κs.
     let k = c .before .before .before in
-    let l = k .before .before .before .before in
-    let s = l .before .before .before .before .before in
+    let l = k .before .before .before .before .before in
+    let s = l .before .before .before .before .before .before in
     let a = s .args in
-    let f = completed-laid (a .journal .now) (a .adjacency .now) (a .n) _ _ (l .complete .ensures) _ _ (k .answer2 .given .1) in
+    let e = l .complete .ensures in
+    let f = completed-laid (a .journal .now) (a .adjacency .now) (a .n) _ (length-replicate {A = ℕ} recordsMost 0) _ _ (e .0) (e .1 .0)
+    _ _ _ (k .answer2 .given .1) in
     (f .0, f .1, f .2, s .pre))  -- put-state-requires
     (λ c. search needs)  -- same-length
     (λ c. search needs)  -- same-length-2
     (λ c.
     let p = c .before .before in
     let k = p .before .before .before in
-    let l = k .before .before .before .before in
-    let a = l .before .before .before .before .before .args in
-    says-line _ _ (a .output .now) _ _ (said-refused (a .journal .now) (a .adjacency .now) (a .n) _ _ (l .complete .ensures) _ (k .answer .given .1))
+    let l = k .before .before .before .before .before in
+    let a = l .before .before .before .before .before .before .args in
+    let e = l .complete .ensures in
+    says-line _ _ (a .output .now) _ _
+    (said-refused (a .journal .now) (a .adjacency .now) (a .n) _ (length-replicate {A = ℕ} recordsMost 0) _ _ (e .0) (e .1 .0) _ (k .answer .given .1))
     (p .put-refused .ensures))  -- returns
     (λ c. search needs)  -- same-length-3
     (λ c. search needs)  -- same-length-4
     (λ c.
     let p = c .before .before in
     let k = p .before .before .before .before in
-    let l = k .before .before .before .before in
-    let a = l .before .before .before .before .before .args in
-    says _ _ (a .output .now) _ _ (said-completed (a .journal .now) (a .adjacency .now) (a .n) _ _ (l .complete .ensures) _ _ (k .answer2 .given .1))
+    let l = k .before .before .before .before .before in
+    let a = l .before .before .before .before .before .before .args in
+    let e = l .complete .ensures in
+    says _ _ (a .output .now) _ _
+    (said-completed (a .journal .now) (a .adjacency .now) (a .n) _ (length-replicate {A = ℕ} recordsMost 0) _ _ (e .0) (e .1 .0)
+    _ _ _ (k .answer2 .given .1))
     (p .put-state .ensures)))  -- returns-2
