@@ -4,11 +4,11 @@ use mathlib.Core.Path.{_≡_, sym, ap, subst, _∙_}
 use mathlib.Core.Bool.{not}
 use mathlib.Core.List.{List, [], _∷_}
 use Prim.Native.Nat.{ℕ, _+_, _*_, _%_, _≤_, min, max}
-use native.Mathlib.Nat.{zero-add}
 use native.Mathlib.Omega.{arith}
 use lib.Dec.{leb, ltb, eqb}
-use lib.ListN.{length, drop}
-use lib.Seq.{sets, length-sets, sets-eq, drop-at}
+use lib.ListN.{length}
+use lib.Seq.{sets, length-sets}
+use Rattle.slices.proofs.Part.{drop-sets}
 use borrow.Author.Tests.{leb-true}
 use Rattle.answer.specs.declared.ClearAnswer.{ClearAnswer}
 use Rattle.answer.specs.declared.TakeAnswer.{TakeAnswer}
@@ -54,7 +54,7 @@ use Rattle.demands.proofs.Chains.{OfClear, OfTake, OfLength, OfLayOut, 
 past : (out bytes : List ℕ) (n : ℕ) → n ≡ length bytes → length bytes ≤ length out → SamePast n out (sets out 0 bytes)
 past out bytes n e h = (
   length-sets out 0 bytes,
-  rw (sets-eq bytes out 0 (omega arith), zero-add) (drop-at bytes (drop (length bytes) out) n (sym e) ∙ rw e),
+  rw e (drop-sets out bytes h),
 )
 
 list-numbers : (j g : List ℕ) (m : ℕ) → OfWritten (1 ∷ 2 ∷ 3 ∷ 18 ∷ []) (length (listBytes (vertexCount j) g)) m (listAnswer j g m)

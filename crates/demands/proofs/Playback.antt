@@ -4,10 +4,10 @@ use mathlib.Core.Path.{_≡_, refl, sym, ap, _∙_}
 use mathlib.Core.Bool.{true}
 use mathlib.Core.List.{List, []}
 use Prim.Native.Nat.{ℕ, _*_, _≤_}
-use native.Mathlib.Nat.{zero-add}
 use native.Mathlib.Omega.{arith}
-use lib.ListN.{length, take, drop}
-use lib.Seq.{sets, sets-eq, take-at}
+use lib.ListN.{length, take}
+use lib.Seq.{sets}
+use Rattle.slices.proofs.Part.{take-sets}
 use Rattle.finite.proofs.Fold.{iterate-keeps}
 use Rattle.answer.specs.declared.switches.Switches.{Switches}
 use Rattle.answer.specs.declared.AddAnswer.{AddAnswer}
@@ -27,10 +27,6 @@ use Rattle.completion.proofs.Records.{Recorded, next-recorded}
 use Rattle.completion.proofs.Entry.{CompleteFacts, facts-completed, good-start, CompleteWorks, complete-works}
 use Rattle.demands.specs.Playback.{play, CompletingPlays, addedRecord, Playback}
 use Rattle.demands.proofs.Playing.{fits, playJoin, join-plays, play-none, play-more}
-
--- what is written at the start of an output with room stands there
-written-front : (out r : List ℕ) (k : ℕ) → length r ≡ k → k ≤ length out → take k (sets out 0 r) ≡ r
-written-front out r k e h = rw (sets-eq r out 0 (omega arith), zero-add) (take-at r (drop (length r) out) k e)
 
 -- a run's records, played onto the matrix it began with, give the matrix it has come to
 run-plays : (fuel n : ℕ) (cls : ℕ → ℕ) (T : ℕ → ℕ → ℕ) (g : List ℕ) → Good n cls T (fresh g)
@@ -63,7 +59,8 @@ completing-plays j g out lengths sound phased room =
       made = x .made;
       played =
           ap (λ (a : CompleteAnswer). play (take (8 * joins) (completeOutput a j g out)) g) e
-          ∙ ap (λ (r : List ℕ). play r g) (written-front out (completed j g .records) (8 * joins) (x .written) (omega (arith, x .made)))
+          ∙ ap (λ (k : ℕ). play (take k (sets out 0 (completed j g .records))) g) (sym (x .written))
+          ∙ ap (λ (r : List ℕ). play r g) (take-sets out (completed j g .records) (omega (arith, x .written, x .made)))
           ∙ run-plays mostEdges (vertexCount j) (degreeAt j) (jdmOf j) g (good-start j g f)
           ∙ sym (ap (λ (a : CompleteAnswer). fits (completeAdjacency a j g)) e);
     }

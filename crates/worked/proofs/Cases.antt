@@ -2,13 +2,13 @@
 -- Assumes nothing.
 use mathlib.Core.Path.{_≡_, refl, ap, _∙_}
 use mathlib.Core.Bool.{Bool, true, false, _&&_, cond}
-use mathlib.Core.List.{List, [], _∷_}
+use mathlib.Core.List.{List, [], _∷_, _++_}
 use Prim.Native.Nat.{ℕ}
 use lib.Dec.{eqb, ltb}
 use lib.ListN.{length}
 use borrow.Author.Tests.{eqb-true}
 use Rattle.answer.specs.Refusals.{refusal, stop, unless, unlessStopped}
-use Rattle.answer.specs.Numbers.{Numbers, takeNumbers, layOutNumbers, addNumbers, removeNumbers, completeNumbers, lengthNumbers, writtenNumbers, figuresNumbers}
+use Rattle.answer.specs.Numbers.{takeNumbers, layOutNumbers, addNumbers, removeNumbers, completeNumbers, lengthNumbers, writtenNumbers, figuresNumbers}
 use Rattle.answer.specs.declared.Cause.the-variants.{Phase, BlockNumber}
 use Rattle.answer.specs.declared.Verdict.{Verdict}
 use Rattle.answer.specs.declared.Verdict.the-variants.{Go}
@@ -39,13 +39,13 @@ use Rattle.laying_out.specs.LayOut.{laidOut, layOutJournal}
 use Rattle.figures.specs.Figures.{figuresOf}
 use Rattle.adding.specs.Add.{addLaid, addAdjacency}
 use Rattle.removing.specs.Remove.{removeLaid, removeAdjacency}
-use Rattle.listing.specs.List.{listLaid}
+use Rattle.listing.specs.List.{listLaid, listOutput}
 use Rattle.listing.proofs.List.{list-none}
-use Rattle.survey.specs.Survey.{surveyAnswer}
-use Rattle.completion.specs.Complete.{completed, completeAdjacency}
+use Rattle.survey.specs.Survey.{surveyAnswer, surveyOutput}
+use Rattle.completion.specs.Complete.{completeLaid, completeAdjacency, completeOutput}
 use Rattle.demands.specs.Calls.{Call, take, layOut, add, remove, complete, readBack, list, figures, survey, State, cleared, after}
 use Rattle.demands.specs.Tally.{Tally, noTally, told, tally}
-use Rattle.worked.specs.Cases.{answerOf, Step, Case, sameNumbers, sameList, edgesOf, holdsFrom, allHold, starred, StarredHold, ordered, OrderedHold, withIsolated, WithIsolatedHold, SurveyedBytes}
+use Rattle.worked.specs.Cases.{six, nine, answerOf, Step, Case, sameList, edgesOf, holdsFrom, allHold, starred, StarredHold, moved, MovedHold}
 use Rattle.demands.proofs.Reach.{Reach, reach-cleared, after-call}
 
 -- The answers past the checks 1 and 2.
@@ -61,8 +61,8 @@ addRest j g v w = unlessStopped (phaseRest 1 j) Add.Refused (addLaid j g v w)
 abbrev removeRest : List ℕ → List ℕ → ℕ → ℕ → RemoveAnswer
 removeRest j g v w = unlessStopped (phaseRest 1 j) Remove.Refused (removeLaid j g v w)
 
-abbrev completeRest : List ℕ → List ℕ → CompleteAnswer
-completeRest j g = unlessStopped (phaseRest 1 j) Complete.Refused (Complete.Completed (completed j g .joins) (completed j g .switches))
+abbrev completeRest : List ℕ → List ℕ → ℕ → CompleteAnswer
+completeRest j g m = unlessStopped (phaseRest 1 j) Complete.Refused (completeLaid j g m)
 
 abbrev lengthRest : List ℕ → ℕ → LengthAnswer
 lengthRest j number = unless (ltb number (blocks j)) (Len.Refused (refusal BlockNumber 0 0)) (Len.Length (slotLength j number))
@@ -70,16 +70,20 @@ lengthRest j number = unless (ltb number (blocks j)) (Len.Refused (refusal Block
 abbrev listRest : List ℕ → List ℕ → ℕ → WrittenAnswer
 listRest j g m = unlessStopped (phaseRest 1 j) Write.Refused (listLaid j g m)
 
-abbrev answerRest : State → Call → Numbers
-answerRest s (take number b) = takeNumbers (takeOnValid (s .journal) number b)
-answerRest s layOut = layOutNumbers (layOutRest (s .journal))
-answerRest s (add v w) = addNumbers (addRest (s .journal) (s .adjacency) v w)
-answerRest s (remove v w) = removeNumbers (removeRest (s .journal) (s .adjacency) v w)
-answerRest s complete = completeNumbers (completeRest (s .journal) (s .adjacency))
-answerRest s (readBack number) = lengthNumbers (lengthRest (s .journal) number)
-answerRest s (list out) = writtenNumbers (listRest (s .journal) (s .adjacency) (length out))
-answerRest s figures = figuresNumbers (Figs.Reported (figuresOf (eqb (phase (s .journal)) 0) (s .journal) (s .adjacency)))
-answerRest s (survey e total out) = writtenNumbers (surveyAnswer e total (length out))
+abbrev answerRest : State → Call → List ℕ
+answerRest s (take number b) = six (takeNumbers (takeOnValid (s .journal) number b))
+answerRest s layOut = six (layOutNumbers (layOutRest (s .journal)))
+answerRest s (add v w) = nine (addNumbers (addRest (s .journal) (s .adjacency) v w))
+answerRest s (remove v w) = six (removeNumbers (removeRest (s .journal) (s .adjacency) v w))
+answerRest s (complete out) =
+    let a = completeRest (s .journal) (s .adjacency) (length out) in
+    six (completeNumbers a) ++ completeOutput a (s .journal) (s .adjacency) out
+answerRest s (readBack number) = six (lengthNumbers (lengthRest (s .journal) number))
+answerRest s (list out) =
+    let a = listRest (s .journal) (s .adjacency) (length out) in
+    six (writtenNumbers a) ++ listOutput a (s .journal) (s .adjacency) out
+answerRest s figures = six (figuresNumbers (Figs.Reported (figuresOf (eqb (phase (s .journal)) 0) (s .journal) (s .adjacency))))
+answerRest s (survey e total out) = let a = surveyAnswer e total (length out) in six (writtenNumbers a) ++ surveyOutput a e total out
 
 abbrev afterRest : State → Call → State
 afterRest s (take number b) = record { journal = takeJournal (takeOnValid (s .journal) number b) (s .journal) b; adjacency = s .adjacency }
@@ -88,8 +92,8 @@ afterRest s (add v w) =
     record { journal = s .journal; adjacency = addAdjacency (addRest (s .journal) (s .adjacency) v w) (s .journal) (s .adjacency) v w }
 afterRest s (remove v w) =
     record { journal = s .journal; adjacency = removeAdjacency (removeRest (s .journal) (s .adjacency) v w) (s .adjacency) v w }
-afterRest s complete =
-    record { journal = s .journal; adjacency = completeAdjacency (completeRest (s .journal) (s .adjacency)) (s .journal) (s .adjacency) }
+afterRest s (complete out) =
+    record { journal = s .journal; adjacency = completeAdjacency (completeRest (s .journal) (s .adjacency) (length out)) (s .journal) (s .adjacency) }
 afterRest s (readBack number) = s
 afterRest s (list out) = s
 afterRest s figures = s
@@ -105,7 +109,7 @@ module _ (s : State) (t : Tally) (r : Reach s t) where
   answer-rest layOut = rw checked
   answer-rest (add v w) = rw checked
   answer-rest (remove v w) = rw checked
-  answer-rest complete = rw checked
+  answer-rest (complete out) = rw checked
   answer-rest (readBack number) = rw checked
   answer-rest (list out) = rw checked
   answer-rest figures = rw checked
@@ -116,7 +120,7 @@ module _ (s : State) (t : Tally) (r : Reach s t) where
   after-rest layOut = rw checked
   after-rest (add v w) = rw checked
   after-rest (remove v w) = rw checked
-  after-rest complete = rw checked
+  after-rest (complete out) = rw checked
   after-rest (readBack number) = refl
   after-rest (list out) = refl
   after-rest figures = refl
@@ -137,21 +141,21 @@ edges-rest s t r = go (eqb (phase (s .journal)) 0) refl
 
 abbrev holdsRest : State → List Step → List ℕ → Bool
 holdsRest s [] es = sameList (edgesRest s) es
-holdsRest s (x ∷ xs) es = sameNumbers (answerRest s (x .call)) (x .answer) && holdsRest (afterRest s (x .call)) xs es
+holdsRest s (x ∷ xs) es = sameList (answerRest s (x .call)) (x .answer) && holdsRest (afterRest s (x .call)) xs es
 
 holds-rest : (xs : List Step) (es : List ℕ) (s : State) (t : Tally) → Reach s t → holdsFrom s xs es ≡ holdsRest s xs es
 holds-rest [] es s t r = ap (λ (e : List ℕ). sameList e es) (edges-rest s t r)
 holds-rest (x ∷ xs) es s t r =
     let c = x .call in
-    ap (λ (n : Numbers). sameNumbers n (x .answer) && holdsFrom (after s c) xs es) (answer-rest s t r c)
-    ∙ ap (λ (b : Bool). sameNumbers (answerRest s c) (x .answer) && b)
+    ap (λ (n : List ℕ). sameList n (x .answer) && holdsFrom (after s c) xs es) (answer-rest s t r c)
+    ∙ ap (λ (b : Bool). sameList (answerRest s c) (x .answer) && b)
     (holds-rest xs es (after s c) (tally t (told s c)) (after-call s t r c) ∙ ap (λ (s : State). holdsRest s xs es) (after-rest s t r c))
 
-abbrev allRest : List Case → Bool
+abbrev pub allRest : List Case → Bool
 allRest [] = true
 allRest (c ∷ cs) = holdsRest cleared (c .steps) (c .edges) && allRest cs
 
-all-rest : (cs : List Case) → allHold cs ≡ allRest cs
+pub all-rest : (cs : List Case) → allHold cs ≡ allRest cs
 all-rest [] = refl
 all-rest (c ∷ cs) =
     ap (λ (b : Bool). b && allHold cs) (holds-rest (c .steps) (c .edges) cleared noTally reach-cleared)
@@ -161,23 +165,12 @@ starred-computed : allRest starred ≡ true
 unfolding δ sumTo allTo lowFrom lowest catTo iterate jdm edges
 starred-computed = refl
 
-ordered-computed : allRest ordered ≡ true
+moved-computed : allRest moved ≡ true
 unfolding δ sumTo allTo lowFrom lowest catTo iterate jdm edges
-ordered-computed = refl
-
-with-isolated-computed : allRest withIsolated ≡ true
-unfolding δ sumTo allTo lowFrom lowest catTo iterate jdm edges
-with-isolated-computed = refl
+moved-computed = refl
 
 pub starred-hold : StarredHold
 starred-hold = all-rest starred ∙ starred-computed
 
-pub ordered-hold : OrderedHold
-ordered-hold = all-rest ordered ∙ ordered-computed
-
-pub with-isolated-hold : WithIsolatedHold
-with-isolated-hold = all-rest withIsolated ∙ with-isolated-computed
-
-pub surveyed-bytes : SurveyedBytes
-unfolding δ sumTo allTo lowFrom lowest catTo iterate jdm edges
-surveyed-bytes = refl
+pub moved-hold : MovedHold
+moved-hold = all-rest moved ∙ moved-computed

@@ -1,14 +1,14 @@
--- Worked examples as lists of cases, and one test that runs the entries' definitions on a case: the answers of all its calls from a cleared
--- state, in document 01's numbers, and the edges in the end. `starred` are the starred cases of document 01 ("Tables to try"), `ordered` those
--- that show the order of checks, `withIsolated` those of document 02's idle boards.
+-- Worked examples as lists of cases, and one test that runs the entries' definitions on a case: what all its calls from a cleared state hand back,
+-- in document 01's numbers and the bytes of their outputs, and the edges in the end. `starred` are the starred cases of document 01 ("Tables to
+-- try"), `moved` those of document 02's switches and records.
 -- Assumes nothing.
 use mathlib.Core.Path.{_≡_}
 use mathlib.Core.Bool.{Bool, true, false, _&&_}
-use mathlib.Core.List.{List, [], _∷_}
-use Prim.Native.Nat.{ℕ, zero, suc, _+_}
+use mathlib.Core.List.{List, [], _∷_, _++_}
+use Prim.Native.Nat.{ℕ}
 use lib.Dec.{eqb}
 use lib.ListN.{length, replicate}
-use Rattle.answer.specs.Numbers.{Numbers, done, takeNumbers, layOutNumbers, addNumbers, removeNumbers, completeNumbers, lengthNumbers, writtenNumbers, figuresNumbers}
+use Rattle.answer.specs.Numbers.{Numbers, JoinNumbers, done, takeNumbers, layOutNumbers, addNumbers, removeNumbers, completeNumbers, lengthNumbers, writtenNumbers, figuresNumbers}
 use Rattle.state.specs.Laid.{vertexCount}
 use Rattle.taking.specs.Take.{takeAnswer}
 use Rattle.reading_back.specs.Held.{lengthAnswer}
@@ -16,41 +16,47 @@ use Rattle.laying_out.specs.LayOut.{layOutAnswer}
 use Rattle.figures.specs.Figures.{figuresAnswer}
 use Rattle.adding.specs.Add.{addAnswer}
 use Rattle.removing.specs.Remove.{removeAnswer}
-use Rattle.listing.specs.List.{listBytes, listAnswer}
-use Rattle.survey.specs.Survey.{surveyRecords, surveyAnswer}
-use Rattle.completion.specs.Complete.{completeAnswer}
+use Rattle.listing.specs.List.{listBytes, listAnswer, listOutput}
+use Rattle.survey.specs.Survey.{surveyAnswer, surveyOutput}
+use Rattle.completion.specs.Complete.{completeAnswer, completeOutput}
 use Rattle.demands.specs.Calls.{Call, take, layOut, add, remove, complete, readBack, list, figures, survey, State, cleared, after}
 
--- the answer of a call, in document 01's numbers
-abbrev pub answerOf : State → Call → Numbers
-answerOf s (take number b) = takeNumbers (takeAnswer (s .journal) (s .adjacency) number b)
-answerOf s layOut = layOutNumbers (layOutAnswer (s .journal) (s .adjacency))
-answerOf s (add v w) = addNumbers (addAnswer (s .journal) (s .adjacency) v w)
-answerOf s (remove v w) = removeNumbers (removeAnswer (s .journal) (s .adjacency) v w)
-answerOf s complete = completeNumbers (completeAnswer (s .journal) (s .adjacency))
-answerOf s (readBack number) = lengthNumbers (lengthAnswer (s .journal) (s .adjacency) number)
-answerOf s (list out) = writtenNumbers (listAnswer (s .journal) (s .adjacency) (length out))
-answerOf s figures = figuresNumbers (figuresAnswer (s .journal) (s .adjacency))
-answerOf s (survey e total out) = writtenNumbers (surveyAnswer e total (length out))
+-- answers as lists of numbers
+abbrev pub six : Numbers → List ℕ
+six n = n .number ∷ n .first ∷ n .second ∷ n .third ∷ n .fourth ∷ n .fifth ∷ []
 
--- a call and the answer that it is to get
+abbrev pub nine : JoinNumbers → List ℕ
+nine n = n .number ∷ n .first ∷ n .second ∷ n .a1 ∷ n .b1 ∷ n .t1 ∷ n .a2 ∷ n .b2 ∷ n .t2 ∷ []
+
+-- what a call hands back: its answer in document 01's numbers, then the bytes of its output
+abbrev pub answerOf : State → Call → List ℕ
+answerOf s (take number b) = six (takeNumbers (takeAnswer (s .journal) (s .adjacency) number b))
+answerOf s layOut = six (layOutNumbers (layOutAnswer (s .journal) (s .adjacency)))
+answerOf s (add v w) = nine (addNumbers (addAnswer (s .journal) (s .adjacency) v w))
+answerOf s (remove v w) = six (removeNumbers (removeAnswer (s .journal) (s .adjacency) v w))
+answerOf s (complete out) =
+    let a = completeAnswer (s .journal) (s .adjacency) (length out) in
+    six (completeNumbers a) ++ completeOutput a (s .journal) (s .adjacency) out
+answerOf s (readBack number) = six (lengthNumbers (lengthAnswer (s .journal) (s .adjacency) number))
+answerOf s (list out) =
+    let a = listAnswer (s .journal) (s .adjacency) (length out) in
+    six (writtenNumbers a) ++ listOutput a (s .journal) (s .adjacency) out
+answerOf s figures = six (figuresNumbers (figuresAnswer (s .journal) (s .adjacency)))
+answerOf s (survey e total out) = let a = surveyAnswer e total (length out) in six (writtenNumbers a) ++ surveyOutput a e total out
+
+-- a call and what it is to hand back
 pub record Step : Type 0 where
   pub call : Call
-  pub answer : Numbers
+  pub answer : List ℕ
 
 infix 68 _gives_
-abbrev pub _gives_ : Call → Numbers → Step
+abbrev pub _gives_ : Call → List ℕ → Step
 c gives n = record { call = c; answer = n }
 
 -- a case: calls from a cleared state with their answers, and the edges in the end, two bytes each
 pub record Case : Type 0 where
   pub steps : List Step
   pub edges : List ℕ
-
-abbrev pub sameNumbers : Numbers → Numbers → Bool
-sameNumbers m n =
-    eqb (m .number) (n .number) && eqb (m .first) (n .first) && eqb (m .second) (n .second) && eqb (m .third) (n .third)
-    && eqb (m .fourth) (n .fourth) && eqb (m .fifth) (n .fifth)
 
 abbrev pub sameList : List ℕ → List ℕ → Bool
 sameList [] [] = true
@@ -64,7 +70,7 @@ edgesOf s = listBytes (vertexCount (s .journal)) (s .adjacency)
 -- from the state s every call gets its answer, and these are the edges in the end
 abbrev pub holdsFrom : State → List Step → List ℕ → Bool
 holdsFrom s [] es = sameList (edgesOf s) es
-holdsFrom s (x ∷ xs) es = sameNumbers (answerOf s (x .call)) (x .answer) && holdsFrom (after s (x .call)) xs es
+holdsFrom s (x ∷ xs) es = sameList (answerOf s (x .call)) (x .answer) && holdsFrom (after s (x .call)) xs es
 
 abbrev pub holds : Case → Bool
 holds c = holdsFrom cleared (c .steps) (c .edges)
@@ -73,31 +79,58 @@ abbrev pub allHold : List Case → Bool
 allHold [] = true
 allHold (c ∷ cs) = holds c && allHold cs
 
--- answers by name: a block taken, with the number of the next; a block held; N laid out; switches of a join; joins and switches of a finish;
--- bytes written; the figures; a refusal
-abbrev pub taken : ℕ → Numbers
-taken next = done 0 next
+-- answers by name: a block taken, with the number of the next; a block held; N laid out; joins, switches and output of a finish; an output with
+-- its written length; the figures; a refusal, with the output as it was
+abbrev pub taken : ℕ → List ℕ
+taken next = six (done 0 next)
 
-abbrev pub held : Numbers
-held = done 1 0
+abbrev pub held : List ℕ
+held = six (done 1 0)
 
-abbrev pub laidOut : ℕ → Numbers
-laidOut n = done n 0
+abbrev pub laidOut : ℕ → List ℕ
+laidOut n = six (done n 0)
 
-abbrev pub joined : ℕ → Numbers
-joined switches = done switches 0
+abbrev pub finished : ℕ → ℕ → ℕ → List ℕ → List ℕ
+finished joins switches n out = 0 ∷ joins ∷ switches ∷ n ∷ 0 ∷ 0 ∷ out
 
-abbrev pub finished : ℕ → ℕ → Numbers
-finished joins switches = done joins switches
+abbrev pub written : ℕ → List ℕ → List ℕ
+written n out = six (done n 0) ++ out
 
-abbrev pub written : ℕ → Numbers
-written n = done n 0
+abbrev pub report : ℕ → ℕ → ℕ → ℕ → ℕ → List ℕ
+report phase blocks n wanted laid = 0 ∷ phase ∷ blocks ∷ n ∷ wanted ∷ laid ∷ []
 
-abbrev pub report : ℕ → ℕ → ℕ → ℕ → ℕ → Numbers
-report phase blocks n wanted laid = record { number = 0; first = phase; second = blocks; third = n; fourth = wanted; fifth = laid }
+abbrev pub no : ℕ → ℕ → ℕ → List ℕ
+no n a b = n ∷ a ∷ b ∷ 0 ∷ 0 ∷ 0 ∷ []
 
-abbrev pub no : ℕ → ℕ → ℕ → Numbers
-no n a b = record { number = n; first = a; second = b; third = 0; fourth = 0; fifth = 0 }
+abbrev pub noInto : ℕ → List ℕ → List ℕ
+noInto n out = n ∷ 0 ∷ 0 ∷ 0 ∷ 0 ∷ 0 ∷ out
+
+-- a join's answer: without a switch, with one, with two; refused
+abbrev pub joined : List ℕ
+joined = 0 ∷ 0 ∷ 0 ∷ 255 ∷ 255 ∷ 255 ∷ 255 ∷ 255 ∷ 255 ∷ []
+
+abbrev pub joinedBy : ℕ → ℕ → ℕ → List ℕ
+joinedBy a b t = 0 ∷ 1 ∷ 0 ∷ a ∷ b ∷ t ∷ 255 ∷ 255 ∷ 255 ∷ []
+
+abbrev pub joinedByTwo : ℕ → ℕ → ℕ → ℕ → ℕ → ℕ → List ℕ
+joinedByTwo a b t c d u = 0 ∷ 2 ∷ 0 ∷ a ∷ b ∷ t ∷ c ∷ d ∷ u ∷ []
+
+abbrev pub noJoin : ℕ → ℕ → ℕ → List ℕ
+noJoin n a b = n ∷ a ∷ b ∷ 0 ∷ 0 ∷ 0 ∷ 0 ∷ 0 ∷ 0 ∷ []
+
+-- the record of a join: without a switch, with one, with two
+abbrev pub join : ℕ → ℕ → List ℕ → List ℕ
+join v w rest = v ∷ w ∷ 255 ∷ 255 ∷ 255 ∷ 255 ∷ 255 ∷ 255 ∷ rest
+
+abbrev pub joinBy : ℕ → ℕ → ℕ → ℕ → ℕ → List ℕ → List ℕ
+joinBy v w a b t rest = v ∷ w ∷ a ∷ b ∷ t ∷ 255 ∷ 255 ∷ 255 ∷ rest
+
+abbrev pub joinByTwo : ℕ → ℕ → ℕ → ℕ → ℕ → ℕ → ℕ → ℕ → List ℕ → List ℕ
+joinByTwo v w a b t c d u rest = v ∷ w ∷ a ∷ b ∷ t ∷ c ∷ d ∷ u ∷ rest
+
+-- an output of n bytes, each 7
+abbrev pub sevens : ℕ → List ℕ
+sevens n = replicate n 7
 
 -- a record: k, l, and a count below 256
 abbrev pub rec : ℕ → ℕ → ℕ → List ℕ → List ℕ
@@ -106,34 +139,42 @@ rec k l n rest = k ∷ l ∷ n ∷ 0 ∷ rest
 -- the ten starred lines, in document 01's order
 abbrev pub starred : List Case
 starred =
-    record { steps = layOut gives laidOut 0 ∷ complete gives finished 0 0 ∷ []; edges = [] }
+    record { steps = layOut gives laidOut 0 ∷ complete [] gives finished 0 0 0 [] ∷ []; edges = [] }
     ∷ record {
-      steps = take 0 (rec 1 1 2 []) gives taken 1 ∷ layOut gives laidOut 2 ∷ complete gives finished 1 0 ∷ [];
+      steps = take 0 (rec 1 1 2 []) gives taken 1 ∷ layOut gives laidOut 2 ∷ complete (sevens 8) gives finished 1 0 8 (join 0 1 []) ∷ [];
       edges = 0 ∷ 1 ∷ [];
     }
     ∷ record {
-      steps = take 0 (rec 1 3 1 (rec 2 2 2 (rec 2 3 2 []))) gives taken 1 ∷ layOut gives laidOut 4 ∷ complete gives finished 4 0 ∷ [];
+      steps =
+          take 0 (rec 1 3 1 (rec 2 2 2 (rec 2 3 2 []))) gives taken 1 ∷ layOut gives laidOut 4
+          ∷ complete (sevens 32) gives finished 4 0 32 (join 0 3 (join 1 2 (join 1 3 (join 2 3 [])))) ∷ [];
       edges = 0 ∷ 3 ∷ 1 ∷ 2 ∷ 1 ∷ 3 ∷ 2 ∷ 3 ∷ [];
     }
     ∷ record {
-      steps = take 0 (rec 2 2 8 []) gives taken 1 ∷ layOut gives laidOut 4 ∷ complete gives finished 4 2 ∷ [];
+      steps =
+          take 0 (rec 2 2 8 []) gives taken 1 ∷ layOut gives laidOut 4
+          ∷ complete (sevens 33) gives finished 4 2 32 (join 0 1 (join 0 2 (joinBy 0 3 0 1 2 (joinBy 0 2 0 3 1 (7 ∷ []))))) ∷ [];
       edges = 0 ∷ 2 ∷ 0 ∷ 3 ∷ 1 ∷ 2 ∷ 1 ∷ 3 ∷ [];
     }
     ∷ record {
       steps =
           take 0 (rec 2 2 8 []) gives taken 1 ∷ layOut gives laidOut 4
-          ∷ add 0 1 gives joined 0 ∷ add 0 2 gives joined 0 ∷ add 1 2 gives joined 0 ∷ add 0 3 gives joined 1 ∷ [];
+          ∷ add 0 1 gives joined ∷ add 0 2 gives joined ∷ add 1 2 gives joined ∷ add 0 3 gives joinedBy 0 3 1 ∷ [];
       edges = 0 ∷ 2 ∷ 0 ∷ 3 ∷ 1 ∷ 2 ∷ 1 ∷ 3 ∷ [];
     }
     ∷ record { steps = take 0 (rec 2 2 5 []) gives taken 1 ∷ layOut gives no 9 2 2 ∷ []; edges = [] }
     ∷ record { steps = take 0 (rec 1 3 1 []) gives taken 1 ∷ layOut gives no 10 3 0 ∷ []; edges = [] }
     ∷ record { steps = take 0 (rec 2 2 4 []) gives taken 1 ∷ layOut gives no 11 2 2 ∷ []; edges = [] }
     ∷ record {
-      steps = take 0 (rec 2 2 6 []) gives taken 1 ∷ layOut gives laidOut 3 ∷ complete gives finished 3 0 ∷ [];
+      steps =
+          take 0 (rec 2 2 6 []) gives taken 1 ∷ layOut gives laidOut 3
+          ∷ complete (sevens 24) gives finished 3 0 24 (join 0 1 (join 0 2 (join 1 2 []))) ∷ [];
       edges = 0 ∷ 1 ∷ 0 ∷ 2 ∷ 1 ∷ 2 ∷ [];
     }
     ∷ record {
-      steps = take 0 (rec 2 3 6 []) gives taken 1 ∷ layOut gives laidOut 5 ∷ complete gives finished 6 0 ∷ [];
+      steps =
+          take 0 (rec 2 3 6 []) gives taken 1 ∷ layOut gives laidOut 5
+          ∷ complete (sevens 48) gives finished 6 0 48 (join 0 3 (join 0 4 (join 1 3 (join 1 4 (join 2 3 (join 2 4 [])))))) ∷ [];
       edges = 0 ∷ 3 ∷ 0 ∷ 4 ∷ 1 ∷ 3 ∷ 1 ∷ 4 ∷ 2 ∷ 3 ∷ 2 ∷ 4 ∷ [];
     }
     ∷ []
@@ -142,151 +183,34 @@ starred =
 abbrev pub StarredHold : Type 0
 StarredHold = allHold starred ≡ true
 
--- The order of checks (document 01: "Checks run in table order, among those that concern the call"): calls in which refusals compete, and the
--- one that is to come out. Left to the tests: survey's 18 on 200 vertices, and 200 isolated vertices laid out. A new block on a laid state with
--- 64 blocks, whose table is too dear to compute here, is 3 by taking/proofs/Take.antt `take-new-laid`.
-
--- (1,1)=2 and (1,1)=4, as blocks
-abbrev pub pair : List ℕ
-pair = rec 1 1 2 []
-
-abbrev pub pairs : List ℕ
-pairs = rec 1 1 4 []
-
--- blocks that 4 or 5 refuse, under one number: no bytes; 5 and 68 bytes, whose records are bad as well; a bad second record
-abbrev pub malformed : ℕ → List Step → List Step
-malformed number rest =
-    take number [] gives no 4 0 0 ∷ take number (replicate 5 41) gives no 4 0 0 ∷ take number (replicate 68 41) gives no 4 0 0
-    ∷ take number (rec 1 1 2 (rec 2 1 2 [])) gives no 5 1 0 ∷ rest
-
--- n blocks taken
-abbrev pub filled : ℕ → List Step → List Step
-filled zero rest = rest
-filled (suc n) rest = filled n (take n pair gives taken (n + 1) ∷ rest)
-
--- the n edges from v to the vertices after it
-abbrev pub star : ℕ → ℕ → List ℕ → List ℕ
-star v zero rest = rest
-star v (suc n) rest = star v n (v ∷ (v + n + 1) ∷ rest)
-
-abbrev pub ordered : List Case
-ordered =
-    -- in phase 0: 3 before 13, 14, 17 and 18
+-- what moved (document 02, P2)
+abbrev pub moved : List Case
+moved =
+    -- joins with one switch and with two; one alone stands first, also where it is for the second end
     record {
       steps =
-          take 0 pair gives taken 1 ∷ add 0 1 gives no 3 0 0 ∷ add 1 1 gives no 3 0 0 ∷ add 9 9 gives no 3 0 0
-          ∷ remove 0 1 gives no 3 0 0 ∷ remove 1 1 gives no 3 0 0 ∷ remove 9 9 gives no 3 0 0
-          ∷ complete gives no 3 0 0 ∷ list [] gives no 3 0 0 ∷ list (0 ∷ 0 ∷ []) gives no 3 0 0 ∷ [];
-      edges = [];
+          take 0 (rec 1 1 6 []) gives taken 1 ∷ layOut gives laidOut 6
+          ∷ add 0 1 gives joined ∷ add 2 0 gives joinedBy 0 3 1 ∷ add 0 1 gives joinedByTwo 0 4 2 1 5 3 ∷ [];
+      edges = 0 ∷ 1 ∷ 2 ∷ 4 ∷ 3 ∷ 5 ∷ [];
     }
-    -- a block: 4 before 5, both before 6 (number too high), 7 and held (low number) and 3 (laid); 7 and held also when laid; laying out again is 3
+    -- the same joins by completing: 3 before 18, 18 for a byte too few, with every byte as it was; what is behind the records stays
     ∷ record {
       steps =
-          take 0 pair gives taken 1
-          ∷ malformed 0 (malformed 1 (malformed 2
-          (take 2 pair gives no 6 0 0 ∷ take 0 pairs gives no 7 0 0 ∷ take 0 pair gives held
-          ∷ layOut gives laidOut 2
-          ∷ malformed 0 (malformed 1 (malformed 2
-          (take 2 pair gives no 6 0 0 ∷ take 0 pairs gives no 7 0 0 ∷ take 0 pair gives held ∷ take 1 pair gives no 3 0 0
-          ∷ layOut gives no 3 0 0 ∷ []))))));
-      edges = [];
+          take 0 (rec 1 1 6 []) gives taken 1 ∷ complete [] gives no 3 0 0 ∷ layOut gives laidOut 6
+          ∷ complete (sevens 23) gives noInto 18 (sevens 23)
+          ∷ complete (sevens 25) gives finished 3 3 24 (join 0 1 (joinBy 0 2 0 3 1 (joinByTwo 0 1 0 4 2 1 5 3 (7 ∷ [])))) ∷ [];
+      edges = 0 ∷ 1 ∷ 2 ∷ 4 ∷ 3 ∷ 5 ∷ [];
     }
-    -- with 64 blocks: 4, 5, 6, 7 and held before 8
+    -- room for the missing edges is enough, and none is needed where none is missing
     ∷ record {
       steps =
-          filled 64 (malformed 64
-          (take 65 pair gives no 6 0 0 ∷ take 63 pairs gives no 7 0 0 ∷ take 63 pair gives held ∷ take 64 pair gives no 8 0 0 ∷ []));
-      edges = [];
-    }
-    -- laying out: 9 before 10, 11 and 12; 10 before 11 and 12; 11 before 12; each over all cells before the next begins, lowest k then lowest
-    -- l first, in whatever order the records came
-    ∷ record {
-      steps = take 0 (rec 5 5 1 (rec 3 3 1 (rec 1 2 1 (rec 1 1 202 [])))) gives taken 1 ∷ layOut gives no 9 3 3 ∷ [];
-      edges = [];
-    }
-    ∷ record {
-      steps = take 0 (rec 7 9 1 (rec 1 2 1 (rec 1 1 202 []))) gives taken 1 ∷ layOut gives no 10 2 0 ∷ [];
-      edges = [];
-    }
-    ∷ record {
-      steps = take 0 (rec 40 40 80 (rec 3 5 5 (rec 3 4 4 (rec 1 1 202 [])))) gives taken 1 ∷ layOut gives no 11 3 4 ∷ [];
-      edges = [];
-    }
-    ∷ record { steps = take 0 (rec 1 1 202 []) gives taken 1 ∷ layOut gives no 12 0 0 ∷ []; edges = [] }
-    -- on two vertices, linked, so that every cell is full: 13 before 14, 15 before 16; 18 for a byte too few
-    ∷ record {
-      steps =
-          take 0 pair gives taken 1 ∷ layOut gives laidOut 2 ∷ add 1 0 gives joined 0
-          ∷ add 2 2 gives no 13 0 0 ∷ add 0 2 gives no 13 0 0 ∷ add 1 1 gives no 14 0 0 ∷ add 0 1 gives no 15 0 0 ∷ add 1 0 gives no 15 0 0
-          ∷ remove 2 2 gives no 13 0 0 ∷ remove 2 0 gives no 13 0 0 ∷ remove 1 1 gives no 14 0 0
-          ∷ list (0 ∷ []) gives no 18 0 0 ∷ list (0 ∷ 0 ∷ []) gives written 2 ∷ [];
-      edges = 0 ∷ 1 ∷ [];
-    }
-    -- on document 004's four vertices: 16 names the degrees, lower first
-    ∷ record {
-      steps = take 0 (rec 1 3 1 (rec 2 2 2 (rec 2 3 2 []))) gives taken 1 ∷ layOut gives laidOut 4 ∷ add 2 0 gives no 16 1 2 ∷ [];
-      edges = [];
-    }
-    -- survey of up to 200 vertices, with an empty output: 19 for an odd length, at the number of whole edges, before 19 for an edge, at the first
-    -- such one: v = w, w = 200, the edge before it again, one below it by w or by v; 19 before 20; 20 before 18
-    ∷ record {
-      steps =
-          survey (5 ∷ 5 ∷ 9 ∷ []) 200 [] gives no 19 1 0 ∷ survey (0 ∷ 1 ∷ 3 ∷ 3 ∷ 2 ∷ 2 ∷ []) 200 [] gives no 19 1 0
-          ∷ survey (0 ∷ 200 ∷ []) 200 [] gives no 19 0 0 ∷ survey (0 ∷ 1 ∷ 0 ∷ 1 ∷ []) 200 [] gives no 19 1 0
-          ∷ survey (0 ∷ 2 ∷ 0 ∷ 1 ∷ []) 200 [] gives no 19 1 0 ∷ survey (1 ∷ 2 ∷ 0 ∷ 3 ∷ []) 200 [] gives no 19 1 0
-          ∷ survey (0 ∷ 1 ∷ star 1 40 (9 ∷ 9 ∷ [])) 200 [] gives no 19 41 0 ∷ survey (0 ∷ 1 ∷ star 1 40 []) 200 [] gives no 20 1 0 ∷ [];
-      edges = [];
+          take 0 (rec 1 1 4 []) gives taken 1 ∷ layOut gives laidOut 4 ∷ add 0 1 gives joined
+          ∷ complete (sevens 7) gives noInto 18 (sevens 7) ∷ complete (sevens 8) gives finished 1 1 8 (joinBy 0 2 0 3 1 [])
+          ∷ complete [] gives finished 0 0 0 [] ∷ complete (sevens 1) gives finished 0 0 0 (sevens 1) ∷ [];
+      edges = 0 ∷ 2 ∷ 1 ∷ 3 ∷ [];
     }
     ∷ []
 
--- one theorem over the list: proofs/Cases.antt `ordered-hold`
-abbrev pub OrderedHold : Type 0
-OrderedHold = allHold ordered ≡ true
-
--- isolated vertices (document 02, P1)
-abbrev pub withIsolated : List Case
-withIsolated =
-    -- their record is 0, 0 and any count; 0 beside another degree is 5
-    record {
-      steps =
-          take 0 (rec 0 3 1 []) gives no 5 0 0 ∷ take 0 (rec 3 0 1 []) gives no 5 0 0 ∷ take 0 (rec 0 0 1 (rec 0 1 1 [])) gives no 5 1 0
-          ∷ take 0 (rec 0 0 0 []) gives taken 1 ∷ layOut gives laidOut 0 ∷ [];
-      edges = [];
-    }
-    -- a table of them alone
-    ∷ record {
-      steps = take 0 (rec 0 0 3 []) gives taken 1 ∷ layOut gives laidOut 3 ∷ complete gives finished 0 0 ∷ [];
-      edges = [];
-    }
-    -- they are numbered first and never linked: 13 and 14 before 16, which names degree 0; 17; figures
-    ∷ record {
-      steps =
-          take 0 (rec 1 1 2 (rec 0 0 2 [])) gives taken 1 ∷ layOut gives laidOut 4
-          ∷ add 0 4 gives no 13 0 0 ∷ add 0 0 gives no 14 0 0 ∷ add 1 0 gives no 16 0 0 ∷ add 3 1 gives no 16 0 1 ∷ remove 2 1 gives no 17 0 0
-          ∷ complete gives finished 1 0 ∷ figures gives report 1 1 4 1 1 ∷ [];
-      edges = 2 ∷ 3 ∷ [];
-    }
-    -- 12 counts them; 9 to 11 come first and do not see them
-    ∷ record { steps = take 0 (rec 0 0 201 []) gives taken 1 ∷ layOut gives no 12 0 0 ∷ []; edges = [] }
-    ∷ record { steps = take 0 (rec 0 0 201 (rec 2 2 5 [])) gives taken 1 ∷ layOut gives no 9 2 2 ∷ []; edges = [] }
-    ∷ record { steps = take 0 (rec 0 0 201 (rec 1 3 1 [])) gives taken 1 ∷ layOut gives no 10 3 0 ∷ []; edges = [] }
-    ∷ record { steps = take 0 (rec 0 0 201 (rec 2 2 4 [])) gives taken 1 ∷ layOut gives no 11 2 2 ∷ []; edges = [] }
-    -- survey: 19 for a total above 200 before an odd length and an edge; an edge whose w is the total, at its index; of no vertices nothing is
-    -- written; of three, two of them linked, two records, and 18 for a byte too few
-    ∷ record {
-      steps =
-          survey [] 201 [] gives no 19 0 0 ∷ survey (5 ∷ 6 ∷ 9 ∷ []) 201 [] gives no 19 0 0 ∷ survey (0 ∷ 1 ∷ 3 ∷ 3 ∷ []) 201 [] gives no 19 0 0
-          ∷ survey (0 ∷ 1 ∷ 0 ∷ 3 ∷ []) 3 [] gives no 19 1 0
-          ∷ survey [] 0 [] gives written 0 ∷ survey (0 ∷ 1 ∷ []) 3 (replicate 7 0) gives no 18 0 0
-          ∷ survey (0 ∷ 1 ∷ []) 3 (replicate 8 0) gives written 8 ∷ [];
-      edges = [];
-    }
-    ∷ []
-
--- one theorem over the list: proofs/Cases.antt `with-isolated-hold`
-abbrev pub WithIsolatedHold : Type 0
-WithIsolatedHold = allHold withIsolated ≡ true
-
--- the bytes of the last survey: the record of isolated vertices comes first (proofs/Cases.antt `surveyed-bytes`)
-abbrev pub SurveyedBytes : Type 0
-SurveyedBytes = surveyRecords (0 ∷ 1 ∷ []) 3 ≡ rec 0 0 1 (rec 1 1 2 [])
+-- one theorem over the list: proofs/Cases.antt `moved-hold`
+abbrev pub MovedHold : Type 0
+MovedHold = allHold moved ≡ true

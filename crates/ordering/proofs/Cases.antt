@@ -1,0 +1,22 @@
+-- The cases hold: past the checks 1 and 2 (worked/proofs/Cases.antt) they are computed.
+-- Assumes nothing.
+use mathlib.Core.Path.{_≡_, refl, _∙_}
+use mathlib.Core.Bool.{true}
+use Rattle.finite.specs.Range.{δ, sumTo, allTo, lowFrom, lowest, catTo, iterate}
+use Rattle.graph.specs.Graph.{jdm, edges}
+use Rattle.worked.proofs.Cases.{allRest, all-rest}
+use Rattle.ordering.specs.Cases.{ordered, OrderedHold, withIsolated, WithIsolatedHold}
+
+ordered-computed : allRest ordered ≡ true
+unfolding δ sumTo allTo lowFrom lowest catTo iterate jdm edges
+ordered-computed = refl
+
+with-isolated-computed : allRest withIsolated ≡ true
+unfolding δ sumTo allTo lowFrom lowest catTo iterate jdm edges
+with-isolated-computed = refl
+
+pub ordered-hold : OrderedHold
+ordered-hold = all-rest ordered ∙ ordered-computed
+
+pub with-isolated-hold : WithIsolatedHold
+with-isolated-hold = all-rest withIsolated ∙ with-isolated-computed
