@@ -76,8 +76,9 @@ missing j g = wanted (jdmOf j) - edges (vertexCount j) (edge g)
 -- on a valid laid state, for an output of m bytes: the check 18, before anything is joined
 abbrev pub completeLaid : List ℕ → List ℕ → ℕ → CompleteAnswer
 completeLaid j g m =
+    let r = completed j g in
     unless (leb (recordSize * missing j g) m) (Refused (refusal OutputLength 0 0))
-    (Completed (completed j g .joins) (completed j g .switches) (length (completed j g .records)))
+    (Completed (r .joins) (r .switches) (length (r .records)))
 
 -- the checks 1, 2, 3, then 18
 abbrev pub completeAnswer : List ℕ → List ℕ → ℕ → CompleteAnswer
