@@ -31,7 +31,7 @@ use Rattle.state.specs.Laid.{vertexCount, degreeAt}
 use Rattle.state.proofs.Facts.{edgeTotal, StateFacts, Laid, valid-facts, lengths-both}
 use Rattle.state.proofs.Checks.{phase-passed, phase-go}
 use Rattle.state.proofs.Graph.{laid-valid}
-use Rattle.completion.specs.Record.{recordSize}
+use Rattle.join_records.specs.Record.{joinRecordSize}
 use Rattle.completion.specs.Complete.{mostEdges, fresh, completed, missing, completeLaid, completeAnswer}
 use Rattle.completion.proofs.Works.{few-edges, Good, Finished, finishes}
 use Rattle.completion.proofs.Records.{completed-length}
@@ -57,7 +57,7 @@ module _ (j g : List ℕ) where
   -- what an answer Completed for an output of m bytes says
   pub record CompletedFacts (m joins switches n : ℕ) : Type 0 where
     pub facts : CompleteFacts j g
-    pub room : recordSize * missing j g ≤ m
+    pub room : joinRecordSize * missing j g ≤ m
     pub joins-are : joins ≡ completed j g .joins
     pub switches-are : switches ≡ completed j g .switches
     pub length-is : n ≡ length (completed j g .records)
@@ -66,10 +66,10 @@ module _ (j g : List ℕ) where
   completed-facts m joins switches n e =
       let no = refused-not-completed joins switches n in
       let p = unless-stopped-passed (phaseVerdict 1 j g) Refused _ (Completed joins switches n) no e in
-      let h = unless-passed (leb (recordSize * missing j g) m) _ _ (Completed joins switches n) (no _) (p .1) in
+      let h = unless-passed (leb (joinRecordSize * missing j g) m) _ _ (Completed joins switches n) (no _) (p .1) in
       record {
         facts = phase-complete (p .0);
-        room = leb-true (recordSize * missing j g) m (h .0);
+        room = leb-true (joinRecordSize * missing j g) m (h .0);
         joins-are = cc (h .1);
         switches-are = cc (h .1);
         length-is = cc (h .1);
@@ -77,18 +77,18 @@ module _ (j g : List ℕ) where
 
   -- by the room that an output of m bytes has
   module _ (m : ℕ) where
-    pub laid-roomy : recordSize * missing j g ≤ m
+    pub laid-roomy : joinRecordSize * missing j g ≤ m
         → completeLaid j g m ≡ Completed (completed j g .joins) (completed j g .switches) (length (completed j g .records))
-    laid-roomy h = rw (le-leb (recordSize * missing j g) m h)
+    laid-roomy h = rw (le-leb (joinRecordSize * missing j g) m h)
 
-    pub laid-short : m < recordSize * missing j g → completeLaid j g m ≡ Refused (refusal OutputLength 0 0)
-    laid-short h = rw (lt-leb (recordSize * missing j g) m h)
+    pub laid-short : m < joinRecordSize * missing j g → completeLaid j g m ≡ Refused (refusal OutputLength 0 0)
+    laid-short h = rw (lt-leb (joinRecordSize * missing j g) m h)
 
-    pub facts-completed : CompleteFacts j g → recordSize * missing j g ≤ m
+    pub facts-completed : CompleteFacts j g → joinRecordSize * missing j g ≤ m
         → completeAnswer j g m ≡ Completed (completed j g .joins) (completed j g .switches) (length (completed j g .records))
     facts-completed f h = rw (phase-go 1 j g (f .lengths) (f .sound) (f .phased)) (laid-roomy h)
 
-    pub short-refused : CompleteFacts j g → m < recordSize * missing j g → completeAnswer j g m ≡ Refused (refusal OutputLength 0 0)
+    pub short-refused : CompleteFacts j g → m < joinRecordSize * missing j g → completeAnswer j g m ≡ Refused (refusal OutputLength 0 0)
     short-refused f h = rw (phase-go 1 j g (f .lengths) (f .sound) (f .phased)) (laid-short h)
 
   -- a valid laid state is where a run may begin
@@ -110,7 +110,7 @@ module _ (j g : List ℕ) where
     pub sound : valid j (completed j g .adjacency) ≡ true
     pub more : edgeTotal j (completed j g .adjacency) ≡ edgeTotal j g + completed j g .joins
     pub made : completed j g .joins ≡ missing j g
-    pub written : length (completed j g .records) ≡ recordSize * completed j g .joins
+    pub written : length (completed j g .records) ≡ joinRecordSize * completed j g .joins
     pub all : sumTo degrees (rowSum (jdmOf j)) ≡ 2 * edgeTotal j (completed j g .adjacency)
     pub simple : Simple (vertexCount j) (edge (completed j g .adjacency))
     pub table : (k l : ℕ) → ownJdm (vertexCount j) (edge (completed j g .adjacency)) k l ≡ jdmOf j k l

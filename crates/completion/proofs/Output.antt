@@ -8,23 +8,23 @@ use lib.ListN.{length, take, drop, take-append-drop}
 use lib.Seq.{sets, length-sets, length-take-le}
 use Rattle.slices.proofs.Part.{take-written, drop-written, take-sets, drop-sets, drop-later}
 use Rattle.answer.specs.declared.switches.Switches.{Switches}
-use Rattle.completion.specs.Record.{recordSize, joinRecord}
+use Rattle.join_records.specs.Record.{joinRecordSize, joinRecord}
 use Rattle.completion.specs.Inner.Work.{WroteRecords}
 
 -- one record more, behind those of i joins
-module _ (out : List ℕ) (i v w : ℕ) (s : Switches) (fits : recordSize * i + recordSize ≤ length out) where
-  after : recordSize * i + recordSize ≡ recordSize * (i + 1)
+module _ (out : List ℕ) (i v w : ℕ) (s : Switches) (fits : joinRecordSize * i + joinRecordSize ≤ length out) where
+  after : joinRecordSize * i + joinRecordSize ≡ joinRecordSize * (i + 1)
   after = omega arith
 
-  pub records-more : take (recordSize * (i + 1)) (sets out (recordSize * i) (joinRecord v w s)) ≡ take (recordSize * i) out ++ joinRecord v w s
-  records-more = rw after at (take-written out (recordSize * i) (joinRecord v w s) fits)
+  pub records-more : take (joinRecordSize * (i + 1)) (sets out (joinRecordSize * i) (joinRecord v w s)) ≡ take (joinRecordSize * i) out ++ joinRecord v w s
+  records-more = rw after at (take-written out (joinRecordSize * i) (joinRecord v w s) fits)
 
-  pub wrote-one : WroteRecords i (i + 1) out (sets out (recordSize * i) (joinRecord v w s))
+  pub wrote-one : WroteRecords i (i + 1) out (sets out (joinRecordSize * i) (joinRecord v w s))
   wrote-one =
       record {
         rises = omega arith;
-        sized = length-sets out (recordSize * i) (joinRecord v w s);
-        behind = rw after at (drop-written out (recordSize * i) (joinRecord v w s) fits);
+        sized = length-sets out (joinRecordSize * i) (joinRecord v w s);
+        behind = rw after at (drop-written out (joinRecordSize * i) (joinRecord v w s) fits);
       }
 
 pub wrote-none : (i : ℕ) (out : List ℕ) → WroteRecords i i out out
@@ -35,22 +35,22 @@ wrote-then {i} {j} {k} {a} {b} {c} p q =
     record {
       rises = omega (arith, p .rises, q .rises);
       sized = q .sized ∙ p .sized;
-      behind = q .behind ∙ drop-later (recordSize * j) (recordSize * k) b a (omega (arith, q .rises)) (p .behind);
+      behind = q .behind ∙ drop-later (joinRecordSize * j) (joinRecordSize * k) b a (omega (arith, q .rises)) (p .behind);
     }
 
 -- the records of all joins, from the first one on, and behind them what was there
-pub wrote-all : (j : ℕ) (out out′ records : List ℕ) → WroteRecords 0 j out out′ → recordSize * j ≤ length out → take (recordSize * j) out′ ≡ records
-    → (out′ ≡ sets out 0 records) × (recordSize * j ≡ length records)
+pub wrote-all : (j : ℕ) (out out′ records : List ℕ) → WroteRecords 0 j out out′ → joinRecordSize * j ≤ length out → take (joinRecordSize * j) out′ ≡ records
+    → (out′ ≡ sets out 0 records) × (joinRecordSize * j ≡ length records)
 wrote-all j out out′ records p fits e = (
-  sym (take-append-drop (recordSize * j) out′)
+  sym (take-append-drop (joinRecordSize * j) out′)
       ∙ ap₂ _++_ e (p .behind ∙ ap (λ (n : ℕ). drop n out) written)
       ∙ ap₂ _++_ (sym (take-sets out records short)) (sym (drop-sets out records short))
       ∙ take-append-drop (length records) (sets out 0 records),
   written,
 )
   where
-    written : recordSize * j ≡ length records
-    written = sym (length-take-le (recordSize * j) out′ (omega (arith, p .sized))) ∙ ap length e
+    written : joinRecordSize * j ≡ length records
+    written = sym (length-take-le (joinRecordSize * j) out′ (omega (arith, p .sized))) ∙ ap length e
 
     short : length records ≤ length out
     short = omega (arith, written)

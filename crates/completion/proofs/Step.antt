@@ -26,7 +26,7 @@ use Rattle.classes.specs.Inner.Block.{classFrom}
 use Rattle.joining.specs.Inner.Work.{degreesOf, Joinable, Placed, freed}
 use Rattle.joining.proofs.Bytes.{join-bytes}
 use Rattle.completion.specs.Choice.{openW, openV}
-use Rattle.completion.specs.Record.{recordSize, joinRecord}
+use Rattle.join_records.specs.Record.{joinRecordSize, joinRecord}
 use Rattle.completion.specs.Complete.{Ran}
 use Rattle.completion.specs.Inner.Cellwise.{cellStep, Filling}
 use Rattle.completion.specs.Inner.Cursor.{ClassRange}
@@ -100,7 +100,7 @@ module _ {n : ℕ} {cls : ℕ → ℕ} {c : Cell} {u : Cursor} {room : ℕ} {s :
       ))
 
   -- there is an edge to add, so its record fits
-  pub step-room : recordSize * s .joins + recordSize ≤ room
+  pub step-room : joinRecordSize * s .joins + joinRecordSize ≤ room
   step-room =
       let st = stepped n cls (p .table) g filling k l (openV n cls g k l) (openW n cls g k l (openV n cls g k l)) chose in
       omega (arith, p .sound .records-fit, st .one-more, edges-within n cls (p .table) g′ (st .filling))
@@ -128,21 +128,21 @@ module _ {n : ℕ} {cls : ℕ → ℕ} {c : Cell} {u : Cursor} {room : ℕ} {s :
     -- what the step writes: the record of the pair with the join's switches x
     module _ {x : Switches} (ex : x ≡ joinSwitches n cls g v w) where
       -- the state after the join, its record being the last one in the output
-      pub step-ran : (out out′ g′ : List ℕ) → room ≡ length out → s .records ≡ take (recordSize * s .joins) out
-          → out′ ≡ sets out (recordSize * s .joins) (joinRecord v w x) → g′ ≡ joinBytes n cls g v w
+      pub step-ran : (out out′ g′ : List ℕ) → room ≡ length out → s .records ≡ take (joinRecordSize * s .joins) out
+          → out′ ≡ sets out (joinRecordSize * s .joins) (joinRecord v w x) → g′ ≡ joinBytes n cls g v w
           → _≡_ {A = Ran}
           (record {
             adjacency = g′;
             joins = s .joins + 1;
             switches = s .switches + switchCount x;
-            records = take (recordSize * (s .joins + 1)) out′;
+            records = take (joinRecordSize * (s .joins + 1)) out′;
           })
           (cellStep n cls k l s)
       step-ran out out′ g′ er es eo eg =
-          let fits : recordSize * s .joins + recordSize ≤ length out = omega (arith, step-room, er) in
+          let fits : joinRecordSize * s .joins + joinRecordSize ≤ length out = omega (arith, step-room, er) in
           rw (eo, records-more out (s .joins) v w x fits, ← es, eg, ex, pair-row, pair-column)
 
-      pub step-wrote : (out out′ : List ℕ) → room ≡ length out → out′ ≡ sets out (recordSize * s .joins) (joinRecord v w x)
+      pub step-wrote : (out out′ : List ℕ) → room ≡ length out → out′ ≡ sets out (joinRecordSize * s .joins) (joinRecord v w x)
           → WroteRecords (s .joins) (s .joins + 1) out out′
       step-wrote out out′ er eo = rw eo (wrote-one out (s .joins) v w x (omega (arith, step-room, er)))
 

@@ -26,7 +26,7 @@ use Rattle.state.proofs.Checks.{phase-facts}
 use Rattle.joining.specs.Inner.Work.{degreesOf}
 use Rattle.classes.specs.Inner.Block.{startsOf, classFrom}
 use Rattle.classes.proofs.Blocks.{table-numbered, table-classes}
-use Rattle.completion.specs.Record.{recordSize}
+use Rattle.join_records.specs.Record.{joinRecordSize}
 use Rattle.completion.specs.Complete.{Ran, fresh, run, mostEdges, completed, missing, completeLaid, completeAdjacency, completeOutput}
 use Rattle.completion.specs.Inner.Cellwise.{Filling, fillAll}
 use Rattle.completion.specs.Inner.Work.{WroteRecords, Working}
@@ -85,7 +85,7 @@ module _ (j g cells counts : List ℕ) (passed : phaseVerdict 1 j g ≡ Go) (ed 
     classed-filling : Filling n (classFrom starts) (matrixOf cells) g
     classed-filling = rw (en, table-classes cells ed es) filling
 
-    pub working-start : (room : ℕ) → recordSize * missing j g ≤ room → Working n cells starts held room (fresh g)
+    pub working-start : (room : ℕ) → joinRecordSize * missing j g ≤ room → Working n cells starts held room (fresh g)
     working-start room fits =
         record {
           arranged = record { few = omega (arith, vertices-few); numbered = rw en (table-numbered cells ed es) };
@@ -116,9 +116,9 @@ module _ (j g : List ℕ) (passed : phaseVerdict 1 j g ≡ Go) {r : Ran} (e : r 
   joins-few = omega (arith, made, missing-most j g (phase-complete j g passed))
 
   -- its records stand at the start of the output out′
-  pub work-done : (out out′ : List ℕ) → recordSize * missing j g ≤ length out → WroteRecords 0 (r .joins) out out′
-      → take (recordSize * r .joins) out′ ≡ r .records
-      → (Completed (r .joins) (r .switches) (recordSize * r .joins) ≡ completeLaid j g (length out))
+  pub work-done : (out out′ : List ℕ) → joinRecordSize * missing j g ≤ length out → WroteRecords 0 (r .joins) out out′
+      → take (joinRecordSize * r .joins) out′ ≡ r .records
+      → (Completed (r .joins) (r .switches) (joinRecordSize * r .joins) ≡ completeLaid j g (length out))
       × ((r .adjacency ≡ completeAdjacency (completeLaid j g (length out)) j g)
       × (out′ ≡ completeOutput (completeLaid j g (length out)) j g out))
   work-done out out′ fits recorded records =

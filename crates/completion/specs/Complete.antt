@@ -1,4 +1,4 @@
--- Completing (document 01: finish): while a cell is short, the pair of specs/Choice.antt is joined, and its record (specs/Record.antt) written.
+-- Completing (document 01: finish): while a cell is short, the pair of specs/Choice.antt is joined, and its record (join_records/specs/Record.antt) written.
 -- Assumes nothing.
 use mathlib.Core.Bool.{Bool}
 use mathlib.Core.List.{List, [], _++_}
@@ -21,7 +21,7 @@ use Rattle.state.specs.Checks.{phaseVerdict}
 use Rattle.state.specs.Laid.{vertexCount, degreeAt}
 use Rattle.joining.specs.Join.{joinBytes, joinSwitches}
 use Rattle.completion.specs.Choice.{shortK, shortL, openV, openW}
-use Rattle.completion.specs.Record.{recordSize, joinRecord}
+use Rattle.join_records.specs.Record.{joinRecordSize, joinRecord}
 
 -- a matrix with the edges added and the switches made so far, and the records of the joins
 pub record Ran : Type 0 where
@@ -77,7 +77,7 @@ missing j g = wanted (jdmOf j) - edges (vertexCount j) (edge g)
 abbrev pub completeLaid : List ℕ → List ℕ → ℕ → CompleteAnswer
 completeLaid j g m =
     let r = completed j g in
-    unless (leb (recordSize * missing j g) m) (Refused (refusal OutputLength 0 0))
+    unless (leb (joinRecordSize * missing j g) m) (Refused (refusal OutputLength 0 0))
     (Completed (r .joins) (r .switches) (length (r .records)))
 
 -- the checks 1, 2, 3, then 18

@@ -1,4 +1,3 @@
 pub mod Choice
-pub mod Record
 pub mod Complete
 pub mod Inner

@@ -12,10 +12,10 @@ ghost use Rattle.completion.specs.Inner.Work.{ran, WroteRecords, CellOf,
 use crate::pair::Cell;
 use crate::pair::Pair;
 use crate::pair::open_pair;
-use crate::record::RECORD_SIZE;
-use crate::record::put_record;
 use answer::switches::switch_count;
 use classes::STARTS;
+use join_records::JOIN_RECORD_SIZE;
+use join_records::put_record;
 use joining::End;
 use layout::MOST_VERTICES;
 use slices::least;
@@ -83,7 +83,13 @@ fn fill_step(
     };
     let done = joining::join(adjacency, held, starts, n, row, column);
     let made = done.switches;
-    put_record(output, RECORD_SIZE * totals.joins, pair.v, pair.w, made);
+    put_record(
+        output,
+        JOIN_RECORD_SIZE * totals.joins,
+        pair.v,
+        pair.w,
+        made,
+    );
     let next = least(done.freed, pair.w + 1);
     Step {
         cursor: Cursor {

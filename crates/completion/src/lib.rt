@@ -5,22 +5,21 @@ ghost use Prim.Native.Nat.{_*_};
 ghost use lib.ListN.{length};
 ghost use Rattle.answer.specs.declared.Verdict.the-variants.{Go};
 ghost use Rattle.state.specs.Checks.{phaseVerdict};
-ghost use Rattle.completion.specs.Record.{recordSize};
+ghost use Rattle.join_records.specs.Record.{joinRecordSize};
 ghost use Rattle.completion.specs.Complete.{missing, completeLaid, completeAnswer, completeAdjacency, completeOutput};
 
 mod cell;
 mod fill;
 mod pair;
-pub mod record;
 
 use crate::cell::Totals;
 use crate::fill::complete_rows;
-use crate::record::RECORD_SIZE;
 use adjacency::edge_count;
 use answer::Cause;
 use answer::CompleteAnswer;
 use answer::Verdict;
 use answer::refuse;
+use join_records::JOIN_RECORD_SIZE;
 use layout::edges_wanted;
 use layout::vertex_count;
 use state::phase_check;
@@ -38,7 +37,7 @@ fn complete_laid(journal: &[u8], adjacency: &mut [u8], output: &mut [u8]) -> Com
     let d = sum_table(journal, &mut cells);
     let n = vertex_count(&cells, &d);
     let missing = edges_wanted(&cells) - edge_count(adjacency, n);
-    if output.len() < RECORD_SIZE * missing {
+    if output.len() < JOIN_RECORD_SIZE * missing {
         return CompleteAnswer::Refused(refuse(Cause::OutputLength, 0, 0));
     }
     let s = classes::starts(&d);
@@ -48,7 +47,7 @@ fn complete_laid(journal: &[u8], adjacency: &mut [u8], output: &mut [u8]) -> Com
         switches: 0,
     };
     let done = complete_rows(adjacency, output, &mut held, &cells, &s, n, none);
-    CompleteAnswer::Completed(done.joins, done.switches, RECORD_SIZE * done.joins)
+    CompleteAnswer::Completed(done.joins, done.switches, JOIN_RECORD_SIZE * done.joins)
 }
 
 pub fn complete(journal: &[u8], adjacency: &mut [u8], output: &mut [u8]) -> CompleteAnswer

@@ -44,7 +44,7 @@ use Rattle.removing.specs.Remove.{removeLaid, removeAdjacency}
 use Rattle.listing.specs.List.{listBytes, listLaid, listAnswer, listOutput}
 use Rattle.edgelist.specs.EdgeList.{listed, firstBadEdge}
 use Rattle.survey.specs.Survey.{firstAbove, surveyRecords, surveyAnswer, surveyOutput}
-use Rattle.completion.specs.Record.{recordSize}
+use Rattle.join_records.specs.Record.{joinRecordSize}
 use Rattle.completion.specs.Complete.{completed, missing, completeLaid, completeAdjacency, completeOutput}
 use Rattle.completion.proofs.Entry.{completed-facts, complete-works}
 use Rattle.demands.specs.Demand1.{SamePast, Demand1}
@@ -113,7 +113,7 @@ demand-1 =
       complete = λ j g out r e. (
         subst (OfComplete (1 ∷ 2 ∷ 3 ∷ 18 ∷ [])) e
             (behind OfComplete _ (phaseVerdict 1 j g) Complete.Refused (completeLaid j g (length out)) (λ r h. h) (phase-numbers 1 j g _)
-            (complete-chain (leb (recordSize * missing j g) (length out)) (completed j g .joins) (completed j g .switches) (length (completed j g .records)))),
+            (complete-chain (leb (joinRecordSize * missing j g) (length out)) (completed j g .joins) (completed j g .switches) (length (completed j g .records)))),
         ap (λ (a : CompleteAnswer). completeAdjacency a j g) e,
         ap (λ (a : CompleteAnswer). completeOutput a j g out) e,
       );

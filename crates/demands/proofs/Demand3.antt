@@ -28,7 +28,7 @@ use Rattle.laying_out.proofs.LayOut.{lay-out-honest}
 use Rattle.adding.specs.Add.{addAnswer, addAdjacency}
 use Rattle.adding.proofs.Add.{AddFacts, facts-added, AddWorks, add-works}
 use Rattle.joining.specs.Join.{joinBytes, joinSwitches}
-use Rattle.completion.specs.Record.{recordSize}
+use Rattle.join_records.specs.Record.{joinRecordSize}
 use Rattle.completion.specs.Complete.{completed, missing, completeAnswer, completeAdjacency}
 use Rattle.completion.proofs.Entry.{CompleteFacts, facts-completed, short-refused, CompleteWorks, complete-works}
 use Rattle.demands.specs.Calls.{State, cleared, afterAll}
@@ -159,7 +159,7 @@ module _ (s : State) (lengths : Rattle.state.specs.Valid.lengthsOk (s .journal)
         own : CompleteWorks (s .journal) (s .adjacency)
             → (e : completeAdjacency (completeAnswer (s .journal) (s .adjacency) (length out)) (s .journal) (s .adjacency)
             ≡ completed (s .journal) (s .adjacency) .adjacency)
-            → completeAnswer (s .journal) (s .adjacency) (length out) ≡ Completed joins switches (recordSize * joins)
+            → completeAnswer (s .journal) (s .adjacency) (length out) ≡ Completed joins switches (joinRecordSize * joins)
             → D.Completes (record { blocks = t .blocks; table = tableOf (s .journal); laid = t .laid; edges = t .edges }) s out
         own x e a =
             record {

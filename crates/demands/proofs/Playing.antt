@@ -24,7 +24,7 @@ use Rattle.adjacency.specs.Adjacency.{adjacencySize, edge, setEdge}
 use Rattle.adjacency.proofs.Set.{set-other}
 use Rattle.joining.specs.Join.{own, substituteAt, transferAt, switchBytes, relieveBytes, joinBytes, switchAt, inOrder, joinSwitches}
 use Rattle.joining.proofs.Bytes.{ready-v, pair-w, sized-once}
-use Rattle.completion.specs.Record.{joinRecord}
+use Rattle.join_records.specs.Record.{joinRecord}
 use Rattle.demands.specs.Playback.{Played, removeEdge, addEdge, playTriple, playRecord, play}
 
 -- the matrix g, when everything so far fitted

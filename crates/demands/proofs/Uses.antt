@@ -19,7 +19,7 @@ use Rattle.table.specs.Block.{wellFormed, blockIsolated}
 use Rattle.adjacency.specs.Adjacency.{edge}
 use Rattle.journal.specs.Journal.{mostBlocks}
 use Rattle.taking.specs.Take.{takeAnswer}
-use Rattle.completion.specs.Record.{recordSize}
+use Rattle.join_records.specs.Record.{joinRecordSize}
 use Rattle.completion.specs.Complete.{completeAnswer}
 use Rattle.completion.proofs.Entry.{refused-not-completed}
 use Rattle.demands.specs.Calls.{Call, take, complete, cleared, after, afterAll}
@@ -48,15 +48,15 @@ module _ (calls : List Call) where
 
   -- an output of as many bytes as the tally's missing edges need is room enough: completing into it is not refused ..
   pub room-enough : tallyAll cleared noTally calls .laid ≡ true → (out : List ℕ)
-      → length out ≡ recordSize * missingEdges (tallyAll cleared noTally calls) → (r : Refusal)
+      → length out ≡ joinRecordSize * missingEdges (tallyAll cleared noTally calls) → (r : Refusal)
       → completeAnswer (afterAll cleared calls .journal) (afterAll cleared calls .adjacency) (length out) ≡ Refused r → ⊥
   room-enough l out h r e =
       let c = demand-3 calls .1 l .completes out (omega arith) in
-      refused-not-completed (c .joins) (c .switches) (recordSize * c .joins) r (sym e ∙ c .answer)
+      refused-not-completed (c .joins) (c .switches) (joinRecordSize * c .joins) r (sym e ∙ c .answer)
 
   -- .. and with one byte less nothing changes
   pub short-unchanged : tallyAll cleared noTally calls .laid ≡ true → (out : List ℕ)
-      → length out + 1 ≡ recordSize * missingEdges (tallyAll cleared noTally calls) → after (afterAll cleared calls) (complete out) ≡ afterAll cleared calls
+      → length out + 1 ≡ joinRecordSize * missingEdges (tallyAll cleared noTally calls) → after (afterAll cleared calls) (complete out) ≡ afterAll cleared calls
   short-unchanged l out h = demand-3 calls .1 l .refuses out (λ room. omega arith) .unchanged
 
   -- once completed, exactly as many vertices have no edge as the blocks taken or held add up to

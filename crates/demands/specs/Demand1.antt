@@ -27,7 +27,7 @@ use Rattle.adding.specs.Add.{addAnswer, addAdjacency}
 use Rattle.removing.specs.Remove.{removeAnswer, removeAdjacency}
 use Rattle.listing.specs.List.{listAnswer, listOutput}
 use Rattle.survey.specs.Survey.{surveyAnswer, surveyOutput}
-use Rattle.completion.specs.Record.{recordSize}
+use Rattle.join_records.specs.Record.{joinRecordSize}
 use Rattle.completion.specs.Complete.{completeAnswer, completeAdjacency, completeOutput}
 
 -- n is one of the numbers
@@ -60,7 +60,7 @@ pub record Demand1 : Type 0 where
       Numbered r (1 ∷ 2 ∷ 3 ∷ 18 ∷ []) × (completeAdjacency (completeAnswer j g (length out)) j g ≡ g)
       × (completeOutput (completeAnswer j g (length out)) j g out ≡ out)
   pub complete-written : (j g out : List ℕ) (joins switches n : ℕ) → completeAnswer j g (length out) ≡ Complete.Completed joins switches n →
-      (n ≡ recordSize * joins) × SamePast n out (completeOutput (completeAnswer j g (length out)) j g out)
+      (n ≡ joinRecordSize * joins) × SamePast n out (completeOutput (completeAnswer j g (length out)) j g out)
   pub list : (j g out : List ℕ) (r : Refusal) → listAnswer j g (length out) ≡ Write.Refused r →
       Numbered r (1 ∷ 2 ∷ 3 ∷ 18 ∷ []) × (listOutput (listAnswer j g (length out)) j g out ≡ out)
   pub list-written : (j g out : List ℕ) (n : ℕ) → listAnswer j g (length out) ≡ Write.Written n →

@@ -20,7 +20,7 @@ use Rattle.adjacency.specs.Adjacency.{edge}
 use Rattle.state.specs.Valid.{valid}
 use Rattle.laying_out.specs.LayOut.{layOutAnswer}
 use Rattle.adding.specs.Add.{addAnswer}
-use Rattle.completion.specs.Record.{recordSize}
+use Rattle.join_records.specs.Record.{joinRecordSize}
 use Rattle.completion.specs.Complete.{completeAnswer}
 use Rattle.demands.specs.Calls.{Call, add, complete, State, cleared, after, afterAll}
 use Rattle.demands.specs.Matrix.{Short, HasTable}
@@ -57,14 +57,14 @@ pub record CanBeJoined (t : DegreeTable) (s : State) (v w : ℕ) : Type 0 where
 pub record Completes (t : Tally) (s : State) (out : List ℕ) : Type 0 where
   pub joins : ℕ
   pub switches : ℕ
-  pub answer : completeAnswer (s .journal) (s .adjacency) (length out) ≡ Completed joins switches (recordSize * joins)
+  pub answer : completeAnswer (s .journal) (s .adjacency) (length out) ≡ Completed joins switches (joinRecordSize * joins)
   pub missing : 2 * (t .edges + joins) ≡ sumTo degrees (rowSum (t .table .cells))
   pub more : edgesLaid (t .table) (after s (complete out)) ≡ edgesLaid (t .table) s + joins
   pub has-table : HasTable (t .table) (after s (complete out))
 
 -- the output has room for a record of each missing edge (document 02, P2: "the mission's finishing is one with that much room")
 abbrev pub HasRoom : Tally → List ℕ → Type 0
-HasRoom t out = recordSize * missingEdges t ≤ length out
+HasRoom t out = joinRecordSize * missingEdges t ≤ length out
 
 -- completing into a shorter output is refused with 18, and nothing changes
 pub record RefusedShort (s : State) (out : List ℕ) : Type 0 where

@@ -22,7 +22,8 @@ use Rattle.adjacency.specs.Adjacency.{adjacencySize, side, edge, setEdge}
 use Rattle.adjacency.proofs.Set.{set-adds}
 use Rattle.joining.specs.Join.{own, substituteAt, transferAt, switchAt, switchBytes, relieveBytes, inOrder, joinSwitches}
 use Rattle.classes.specs.Inner.Block.{classFrom}
-use Rattle.joining.specs.Inner.Work.{degreesOf, Joinable, Placed, InBytes, reliefOf, bothReliefs, cutOff, freed}
+use Rattle.joining.specs.Inner.Work.{degreesOf, Joinable, Placed, reliefOf, bothReliefs, cutOff, freed}
+use Rattle.join_records.specs.Inner.Bytes.{InBytes}
 use Rattle.answer.specs.Switches.{noSwitch, firstSwitch, secondSwitch}
 use Rattle.answer.specs.declared.switches.Switch.{Switch}
 use Rattle.answer.specs.declared.switches.Switches.{Switches}

@@ -20,7 +20,7 @@ use Rattle.adjacency.specs.Adjacency.{adjacencySize}
 use Rattle.state.specs.Laid.{vertexCount}
 use Rattle.taking.specs.Take.{takeAnswer, takeJournal}
 use Rattle.laying_out.specs.LayOut.{layOutAnswer, layOutJournal}
-use Rattle.completion.specs.Record.{recordSize}
+use Rattle.join_records.specs.Record.{joinRecordSize}
 use Rattle.completion.specs.Complete.{mostEdges, completeAnswer, completeAdjacency}
 use Rattle.listing.specs.List.{listBytes}
 use Rattle.text.specs.Text.{refusedLine, headLine, edgeLines, headMost, edgeMost}
@@ -60,7 +60,7 @@ stateText n switches j g = let e = listBytes (vertexCount j) g in headLine n (le
 
 -- the room that completing is lent: a record for each edge that a layout can have
 abbrev pub recordsMost : ℕ
-recordsMost = recordSize * mostEdges
+recordsMost = joinRecordSize * mostEdges
 
 -- after completing
 abbrev pub completedText : CompleteAnswer → ℕ → List ℕ → List ℕ → List ℕ

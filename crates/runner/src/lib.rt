@@ -21,7 +21,7 @@ use answer::LayOutAnswer;
 use answer::TakeAnswer;
 use answer::Verdict;
 use answer::WrittenAnswer;
-use completion::record::RECORD_SIZE;
+use join_records::JOIN_RECORD_SIZE;
 use journal::JOURNAL_SIZE;
 use journal::MOST_BLOCKS;
 use layout::MOST_VERTICES;
@@ -42,7 +42,7 @@ pub const INPUT_MOST: usize = BLOCK_MOST * (MOST_BLOCKS + 1);
 const LIST_MOST: usize = MOST_VERTICES * (DEGREES - 1);
 
 // The most bytes of the records of completing: one for each edge.
-const RECORDS_MOST: usize = RECORD_SIZE * (LIST_MOST / 2);
+const RECORDS_MOST: usize = JOIN_RECORD_SIZE * (LIST_MOST / 2);
 
 // The most bytes of the text: the first line, and a line for each edge.
 pub const TEXT_MOST: usize = HEAD_MOST + EDGE_MOST * (LIST_MOST / 2);

@@ -15,7 +15,7 @@ use Rattle.layout.specs.Layout.{mostVertices}
 use Rattle.joining.specs.Join.{own}
 use Rattle.joining.specs.Inner.Work.{degreesOf}
 use Rattle.classes.specs.Inner.Block.{Numbered, classFrom, blockSum, BlockOf}
-use Rattle.completion.specs.Record.{recordSize}
+use Rattle.join_records.specs.Record.{joinRecordSize}
 use Rattle.completion.specs.Complete.{Ran}
 use Rattle.completion.specs.Inner.Cellwise.{cellMissing, Filling}
 use Rattle.completion.specs.Inner.Cursor.{RowsDone, ColumnsDone}
@@ -26,20 +26,20 @@ use Rattle.completion.specs.declared.cell.Totals.{Totals}
 
 -- the matrix with the totals and the output beside it: as many records as joins stand at the output's start
 abbrev pub ran : List ℕ → List ℕ → Totals → Ran
-ran g out t = record { adjacency = g; joins = t .joins; switches = t .switches; records = take (recordSize * t .joins) out }
+ran g out t = record { adjacency = g; joins = t .joins; switches = t .switches; records = take (joinRecordSize * t .joins) out }
 
 -- from the i-th join on up to the j-th, the output changed nowhere behind their records
 pub record WroteRecords (i j : ℕ) (out out′ : List ℕ) : Type 0 where
   pub rises : i ≤ j
   pub sized : length out′ ≡ length out
-  pub behind : drop (recordSize * j) out′ ≡ drop (recordSize * j) out
+  pub behind : drop (joinRecordSize * j) out′ ≡ drop (joinRecordSize * j) out
 
 -- a partial graph, with totals that its edges bound; an output of `room` bytes has room for the records made and those of the edges that are missing
 pub record Sound (n : ℕ) (cls : ℕ → ℕ) (T : ℕ → ℕ → ℕ) (room : ℕ) (s : Ran) : Type 0 where
   pub filling : Filling n cls T (s .adjacency)
   pub joins-le : s .joins ≤ edges n (edge (s .adjacency))
   pub switches-le : s .switches ≤ 2 * s .joins
-  pub records-fit : recordSize * (2 * s .joins + allCells degrees T) ≤ 2 * (room + recordSize * edges n (edge (s .adjacency)))
+  pub records-fit : joinRecordSize * (2 * s .joins + allCells degrees T) ≤ 2 * (room + joinRecordSize * edges n (edge (s .adjacency)))
 
 -- the vertices of class k below `low` are saturated
 abbrev pub Saturated : ℕ → (ℕ → ℕ) → List ℕ → ℕ → ℕ → Type 0

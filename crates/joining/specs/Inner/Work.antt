@@ -62,12 +62,6 @@ bothReliefs Room (Switched y) = One y
 bothReliefs (Switched x) Room = One x
 bothReliefs (Switched x) (Switched y) = Two x y
 
--- the vertices of a switch are bytes
-pub record InBytes (x : Switch) : Type 0 where
-  pub a : x .a < 256
-  pub b : x .b < 256
-  pub t : x .t < 256
-
 -- the vertex that a relief cut off from its end; n where there was no switch
 abbrev pub cutOff : ℕ → Relief → ℕ
 cutOff n Room = n

@@ -1,4 +1,4 @@
--- `completion::record::put_switch` meets its contract.
+-- `join_records::put_switch` meets its contract.
 -- Assumes nothing.
 use mathlib.Core.Path.{_≡_, refl}
 use Prim.Native.Nat.{suc, _+_}
@@ -6,8 +6,8 @@ use native.Mathlib.Numerals.{add-one}
 use native.Mathlib.Omega.{arith}
 use borrow.Author.Needs.{needs}
 use lib.ListN.{length-set}
-use Rattle.completion.proofs.record.put_switch.Statement.{statement}
-use Rattle.completion.proofs.record.put_switch.Tie as tie
+use Rattle.join_records.proofs.put_switch.Statement.{statement}
+use Rattle.join_records.proofs.put_switch.Tie as tie
 
 pub put-switch-spec : {M : Type 1} → statement M
 put-switch-spec =

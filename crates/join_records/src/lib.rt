@@ -5,14 +5,14 @@ ghost use Prim.Native.Nat.{_+_, _≤_, _<_};
 ghost use lib.ListN.{length};
 ghost use lib.Seq.{sets};
 ghost use Rattle.answer.specs.Switches.{firstSwitch, secondSwitch};
-ghost use Rattle.joining.specs.Inner.Work.{InBytes};
-ghost use Rattle.completion.specs.Record.{recordSize, joinRecord};
+ghost use Rattle.join_records.specs.Record.{joinRecordSize, joinRecord};
+ghost use Rattle.join_records.specs.Inner.Bytes.{InBytes};
 use answer::switches::Switch;
 use answer::switches::Switches;
 use answer::switches::first_switch;
 use answer::switches::second_switch;
 
-pub const RECORD_SIZE: usize = 8;
+pub const JOIN_RECORD_SIZE: usize = 8;
 
 // The three bytes of a switch, from place at on.
 fn put_switch(output: &mut [u8], at: usize, x: Switch)
@@ -26,7 +26,7 @@ fn put_switch(output: &mut [u8], at: usize, x: Switch)
 
 // The record of a join, from place at on.
 pub fn put_record(output: &mut [u8], at: usize, v: usize, w: usize, s: Switches)
-    requires { ⌜ (at + recordSize ≤ length (now output)) × (v < 256) × (w < 256) × InBytes (firstSwitch s) × InBytes (secondSwitch s) ⌝ }
+    requires { ⌜ (at + joinRecordSize ≤ length (now output)) × (v < 256) × (w < 256) × InBytes (firstSwitch s) × InBytes (secondSwitch s) ⌝ }
     ensures { λ _. ⌜ now (output .exit) ≡ sets (now (output .entry)) at (joinRecord v w s) ⌝ }
 {
     output[at] = v as u8;

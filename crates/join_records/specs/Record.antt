@@ -5,8 +5,8 @@ use Prim.Native.Nat.{ℕ}
 use Rattle.answer.specs.Switches.{firstSwitch, secondSwitch}
 use Rattle.answer.specs.declared.switches.Switches.{Switches}
 
-abbrev pub recordSize : ℕ
-recordSize = 8
+abbrev pub joinRecordSize : ℕ
+joinRecordSize = 8
 
 abbrev pub joinRecord : ℕ → ℕ → Switches → List ℕ
 joinRecord v w s =

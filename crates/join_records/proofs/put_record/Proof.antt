@@ -1,4 +1,4 @@
--- `completion::record::put_record` meets its contract.
+-- `join_records::put_record` meets its contract.
 -- Assumes nothing.
 use mathlib.Core.Path.{_≡_, refl, _∙_}
 use Prim.Native.Nat.{suc, _+_}
@@ -6,8 +6,8 @@ use native.Mathlib.Numerals.{add-one}
 use native.Mathlib.Omega.{arith}
 use lib.ListN.{length-set}
 use lib.Seq.{length-sets}
-use Rattle.completion.proofs.record.put_record.Statement.{statement}
-use Rattle.completion.proofs.record.put_record.Tie as tie
+use Rattle.join_records.proofs.put_record.Statement.{statement}
+use Rattle.join_records.proofs.put_record.Tie as tie
 
 pub put-record-spec : {M : Type 1} → statement M
 put-record-spec =
