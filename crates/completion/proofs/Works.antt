@@ -13,7 +13,7 @@ use borrow.Author.Tests.{ltb-true, ltb-false}
 use Rattle.finite.specs.Range.{δ, sumTo}
 use Rattle.finite.proofs.Delta.{δ-sym}
 use Rattle.finite.proofs.Sum.{sumTo-term, sumTo-mono, sumTo-cong, sumTo-scale, sumTo-swap, sumTo-const, sumTo-at}
-use Rattle.finite.proofs.Lowest.{lowest-before, lowest-holds}
+use Rattle.finite.proofs.Lowest.{lowest-ge, lowest-before, lowest-holds}
 use Rattle.graph.specs.Graph.{jdm, edges, size}
 use Rattle.graph.specs.Target.{Target, Open}
 use Rattle.graph.specs.Switch.{Joined}
@@ -129,6 +129,20 @@ module _ (n : ℕ) (cls : ℕ → ℕ) (T : ℕ → ℕ → ℕ) where
       let k = shortK n cls T g in
       let h = short-cell g e in
       chosen n cls T g (good .0) k (shortL n cls T g k) (h .0) (h .1) (h .2) .pair
+
+  -- where classes rise with the vertices, it is named lower vertex first: its cell is named lower class first
+  pub next-rising : ((v w : ℕ) → v ≤ w → cls v ≤ cls w) → (s : Ran) → Good s → isIncomplete n cls T s ≡ true → nextV s < nextW s
+  next-rising rises s good e =
+      let g = s .adjacency in
+      let k = shortK n cls T g in
+      let l = shortL n cls T g k in
+      let h = short-cell g e in
+      let c = chosen n cls T g (good .0) k l (h .0) (h .1) (h .2) in
+      go (nextV s) (nextW s) k l (c .row) (c .column) (c .above) (lowest-ge k degrees (shortCell n cls T g k) (omega (arith, h .0))) (decLt (nextV s) (nextW s))
+    where
+      go : (v w k l : ℕ) → cls v ≡ k → cls w ≡ l → (k ≡ l → v < w) → k ≤ l → Dec (v < w) → v < w
+      go v w k l ev ew above kl (yes p) = p
+      go v w k l ev ew above kl (no p) = above (omega (arith, ev, ew, rises w v (omega arith)))
 
   -- and joining it keeps what holds
   pub picks : (s : Ran) → Good s → isIncomplete n cls T s ≡ true

@@ -3,18 +3,21 @@
 use mathlib.Core.Path.{_≡_, refl, sym, ap, _∙_}
 use mathlib.Core.Bool.{true}
 use mathlib.Core.List.{List, []}
-use Prim.Native.Nat.{ℕ, _*_, _≤_}
+use Prim.Native.Nat.{ℕ, _+_, _*_, _≤_, _<_}
+use native.Mathlib.Nat.{zero-add}
 use native.Mathlib.Omega.{arith}
-use lib.ListN.{length, take}
+use lib.ListN.{length, getD, take}
 use lib.Seq.{sets}
-use Rattle.slices.proofs.Part.{take-sets}
+use Rattle.slices.proofs.Part.{take-sets, getD-sets-in}
 use Rattle.finite.proofs.Fold.{iterate-keeps}
 use Rattle.answer.specs.declared.switches.Switches.{Switches}
 use Rattle.answer.specs.declared.AddAnswer.{AddAnswer}
 use Rattle.answer.specs.declared.AddAnswer.the-variants.{Added}
 use Rattle.answer.specs.declared.CompleteAnswer.{CompleteAnswer}
 use Rattle.answer.specs.declared.CompleteAnswer.the-variants.{Completed}
-use Rattle.journal.specs.Journal.{phase, jdmOf}
+use Rattle.graph.specs.Tests.{degrees, classCount}
+use Rattle.graph.proofs.Numbering.{classOf-rises}
+use Rattle.journal.specs.Journal.{phase, jdmOf, tableOf}
 use Rattle.state.specs.Valid.{lengthsOk, valid}
 use Rattle.state.specs.Laid.{vertexCount, degreeAt}
 use Rattle.state.proofs.Facts.{StateFacts, Laid, valid-facts}
@@ -23,7 +26,7 @@ use Rattle.adding.specs.Add.{addAnswer, addAdjacency}
 use Rattle.adding.proofs.Add.{AddFacts, added-facts}
 use Rattle.completion.specs.Complete.{Ran, fresh, next, isIncomplete, run, mostEdges, completed, missing, completeAnswer, completeAdjacency, completeOutput}
 use Rattle.completion.proofs.Works.{Good, nextV, nextW, next-open, picks}
-use Rattle.completion.proofs.Records.{Recorded, next-recorded}
+use Rattle.completion.proofs.Records.{Recorded, next-recorded, Rising, records-rising}
 use Rattle.completion.proofs.Entry.{CompleteFacts, facts-completed, good-start, CompleteWorks, complete-works}
 use Rattle.demands.specs.Playback.{play, CompletingPlays, addedRecord, Playback}
 use Rattle.demands.proofs.Playing.{fits, playJoin, join-plays, play-none, play-more}
@@ -63,6 +66,7 @@ completing-plays j g out lengths sound phased room =
           ∙ ap (λ (r : List ℕ). play r g) (take-sets out (completed j g .records) (omega (arith, x .written, x .made)))
           ∙ run-plays mostEdges (vertexCount j) (degreeAt j) (jdmOf j) g (good-start j g f)
           ∙ sym (ap (λ (a : CompleteAnswer). fits (completeAdjacency a j g)) e);
+      rising = λ i l. rw (e, there (8 * i) (omega (arith, x .written)), there (8 * i + 1) (omega (arith, x .written))) (rising i l);
     }
   where
     f : CompleteFacts j g
@@ -73,6 +77,14 @@ completing-plays j g out lengths sound phased room =
 
     x : CompleteWorks j g
     x = complete-works j g f
+
+    -- a byte of the records, in the output
+    there : (p : ℕ) → p < length (completed j g .records) → getD (sets out 0 (completed j g .records)) p 0 ≡ getD (completed j g .records) p 0
+    there p h = rw zero-add at (getD-sets-in out 0 (completed j g .records) p (omega (arith, x .written, x .made)) h)
+
+    rising : Rising (vertexCount j) (completed j g)
+    rising =
+        records-rising (vertexCount j) (degreeAt j) (jdmOf j) (classOf-rises degrees (classCount (tableOf j))) mostEdges g (good-start j g f)
 
     e : completeAnswer j g (length out) ≡ Completed (completed j g .joins) (completed j g .switches) (length (completed j g .records))
     e = facts-completed j g (length out) f room

@@ -4,7 +4,7 @@
 use mathlib.Core.Path.{_≡_}
 use mathlib.Core.Bool.{Bool, true, _&&_, cond}
 use mathlib.Core.List.{List, [], _∷_}
-use Prim.Native.Nat.{ℕ, _+_, _*_, _/_, _≤_}
+use Prim.Native.Nat.{ℕ, _+_, _*_, _/_, _≤_, _<_}
 use lib.Dec.{eqb}
 use lib.ListN.{length, getD, take}
 use Rattle.finite.specs.Range.{foldTo}
@@ -15,6 +15,7 @@ use Rattle.answer.specs.declared.CompleteAnswer.the-variants.{Completed}
 use Rattle.journal.specs.Journal.{phase}
 use Rattle.adjacency.specs.Adjacency.{edge, setEdge}
 use Rattle.state.specs.Valid.{lengthsOk, valid}
+use Rattle.state.specs.Laid.{vertexCount}
 use Rattle.adding.specs.Add.{addAnswer, addAdjacency}
 use Rattle.completion.specs.Complete.{missing, completeAnswer, completeAdjacency, completeOutput}
 
@@ -44,7 +45,7 @@ abbrev pub play : List ℕ → List ℕ → Played
 play records g = foldTo (length records / 8) (playRecord records) (record { adjacency = g; fitted = true })
 
 -- Completing a valid laid state into an output with room: it makes the missing joins, and its records, played onto the matrix of before, fit and give
--- the matrix of after.
+-- the matrix of after. Each names two vertices, the lower one first.
 pub record CompletingPlays (j g out : List ℕ) : Type 0 where
   pub joins : ℕ
   pub switches : ℕ
@@ -52,6 +53,9 @@ pub record CompletingPlays (j g out : List ℕ) : Type 0 where
   pub made : joins ≡ missing j g
   pub played : play (take (8 * joins) (completeOutput (completeAnswer j g (length out)) j g out)) g
       ≡ record { adjacency = completeAdjacency (completeAnswer j g (length out)) j g; fitted = true }
+  pub rising : (i : ℕ) → i < joins →
+      let r = completeOutput (completeAnswer j g (length out)) j g out in
+      (getD r (8 * i) 0 < getD r (8 * i + 1) 0) × (getD r (8 * i + 1) 0 < vertexCount j)
 
 -- an added edge as a record: its ends, and the triples that its answer hands back
 abbrev pub addedRecord : ℕ → ℕ → Switches → List ℕ
