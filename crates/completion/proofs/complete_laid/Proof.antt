@@ -25,9 +25,9 @@ complete-laid-spec =
     let f = t .before .before .before .before .before in
     let a = f .args in
     let said = t .sum-table .ensures in
-    rw (n .vertex-count .ensures) (
+    let few = vertices-few (a .journal .now) (a .adjacency .now) _ _ (f .pre) (said .2) (said .0) in (
       phase-facts 1 (a .journal .now) (a .adjacency .now) (f .pre) .0 .adjacency-length,
-      vertices-few (a .journal .now) (a .adjacency .now) _ _ (f .pre) (said .2) (said .0),
+      omega (arith, few, n .vertex-count .ensures),
     ))  -- edge-count-requires
     (λ c.
     let w = c .before .before in
