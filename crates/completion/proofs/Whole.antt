@@ -2,9 +2,9 @@
 -- Assumes nothing.
 use mathlib.Core.Path.{_≡_, refl, sym, ap, ap₂, subst, _∙_}
 use mathlib.Core.List.{List}
-use Prim.Native.Nat.{ℕ, _-_, _*_, _≤_}
+use Prim.Native.Nat.{ℕ, _-_, _*_, _/_, _≤_, _<_}
 use native.Mathlib.Omega.{arith}
-use lib.ListN.{length, take}
+use lib.ListN.{length, getD, take}
 use lib.Seq.{sets}
 use Rattle.answer.specs.declared.CompleteAnswer.the-variants.{Completed}
 use Rattle.graph.specs.Graph.{Simple, DegreeTable, edges}
@@ -24,6 +24,8 @@ use Rattle.state.specs.Checks.{phaseVerdict}
 use Rattle.state.specs.Laid.{vertexCount, degreeAt}
 use Rattle.state.proofs.Checks.{phase-facts}
 use Rattle.joining.specs.Inner.Work.{degreesOf}
+use Rattle.joining.proofs.Held.{held-is, held-edges}
+use Rattle.finite.specs.Range.{sumTo}
 use Rattle.classes.specs.Inner.Block.{startsOf, classFrom}
 use Rattle.classes.proofs.Blocks.{table-numbered, table-classes}
 use Rattle.join_records.specs.Record.{joinRecordSize}
@@ -66,6 +68,17 @@ module _ (j g cells counts : List ℕ) (passed : phaseVerdict 1 j g ≡ Go) (ed 
   -- the cells' sum is twice the edges wanted
   cells-sum : allCells degrees (t .cells) ≡ 2 * wanted (t .cells)
   cells-sum = omega (arith, finishes (vertices t) (vertexDegree t) (t .cells) g filling outside .missing)
+
+  -- the array of degrees: its numbers are few, and it tells how many edges there are
+  module _ {n : ℕ} {held : List ℕ} (en : n ≡ vertices t) (eh : held ≡ degreesOf n g) where
+    pub degrees-few : (v : ℕ) → v < n → getD held v 0 ≤ degrees
+    degrees-few v l =
+        let vn : v < vertices t = omega (arith, en) in
+        let is = held-is n (rw en vertices-few) g eh v l in
+        omega (arith, rw en at is, filling .partial .room v vn, filling .target .classed v vn)
+
+    pub laid-is : {e : ℕ} → e ≡ sumTo n (λ v. getD held v 0) / 2 → e ≡ edges n (edge g)
+    laid-is ee = ee ∙ held-edges n (rw en vertices-few) g eh (rw en edges-simple)
 
   -- the missing edges, as the code counts them
   module _ {n w e : ℕ} (en : n ≡ vertices t) (ew : w ≡ wanted (matrixOf cells)) (ee : e ≡ edges n (edge g)) where

@@ -14,12 +14,12 @@ mod pair;
 
 use crate::cell::Totals;
 use crate::fill::complete_rows;
-use adjacency::edge_count;
 use answer::Cause;
 use answer::CompleteAnswer;
 use answer::Verdict;
 use answer::refuse;
 use join_records::JOIN_RECORD_SIZE;
+use joining::edges_held;
 use layout::edges_wanted;
 use layout::vertex_count;
 use state::phase_check;
@@ -36,12 +36,12 @@ fn complete_laid(journal: &[u8], adjacency: &mut [u8], output: &mut [u8]) -> Com
     let mut cells = [0u32; CELLS];
     let d = sum_table(journal, &mut cells);
     let n = vertex_count(&cells, &d);
-    let missing = edges_wanted(&cells) - edge_count(adjacency, n);
+    let mut held = joining::degrees(adjacency, n);
+    let missing = edges_wanted(&cells) - edges_held(&held, n);
     if output.len() < JOIN_RECORD_SIZE * missing {
         return CompleteAnswer::Refused(refuse(Cause::OutputLength, 0, 0));
     }
     let s = classes::starts(&d);
-    let mut held = joining::degrees(adjacency, n);
     let none = Totals {
         joins: 0,
         switches: 0,

@@ -3,7 +3,7 @@
 use mathlib.Core.Path.{_≡_, sym, ap, _∙_}
 use mathlib.Core.Logic.{_≢_}
 use mathlib.Core.List.{List}
-use Prim.Native.Nat.{ℕ, _+_, _-_, _≤_, _<_}
+use Prim.Native.Nat.{ℕ, _+_, _-_, _*_, _/_, _≤_, _<_}
 use native.Mathlib.Nat.{zero-add}
 use native.Mathlib.Decide.{ℕ-discrete, decLt}
 use native.Mathlib.Omega.{arith}
@@ -12,7 +12,8 @@ use lib.Seq.{getD-set-same, getD-set-other, ext-getD}
 use Rattle.finite.specs.Range.{sumTo}
 use Rattle.finite.proofs.Sum.{sumTo-cong}
 use Rattle.finite.proofs.Fold.{fillTo-at, fillTo-behind, fillTo-length}
-use Rattle.graph.specs.Graph.{degree}
+use Rattle.graph.specs.Graph.{Simple, degree, edges}
+use Rattle.graph.proofs.Update.{handshake}
 use Rattle.layout.specs.Layout.{mostVertices}
 use Rattle.adjacency.specs.Adjacency.{edge}
 use Rattle.joining.specs.Inner.Work.{degreesOf}
@@ -33,6 +34,12 @@ module _ (n : ℕ) (few : n ≤ mostVertices) where
   -- an array that holds the degrees
   pub held-is : (g : List ℕ) {held : List ℕ} → held ≡ degreesOf n g → (v : ℕ) → v < n → getD held v 0 ≡ degree n (edge g) v
   held-is g is v l = rw is (held-at g v l)
+
+  -- half their sum is the number of edges
+  pub held-edges : (g : List ℕ) {held : List ℕ} → held ≡ degreesOf n g → Simple n (edge g)
+      → sumTo n (λ v. getD held v 0) / 2 ≡ edges n (edge g)
+  held-edges g {held} is simple =
+      omega (arith, sumTo-cong n (λ v. getD held v 0) (degree n (edge g)) (λ v l. held-is g is v l), handshake n (edge g) simple)
 
   held-behind : (g : List ℕ) (v : ℕ) → n ≤ v → v < mostVertices → getD (degreesOf n g) v 0 ≡ 0
   held-behind g v h l = fillTo-behind (degree n (edge g)) (replicate mostVertices 0) n v h ∙ getD-replicate mostVertices v 0 0 l

@@ -1,9 +1,9 @@
 // Joining two vertices of the adjacency matrix, with at most two neighbour switches. The degrees that the vertices have so far
 // stand in an array beside the matrix; for one join by itself, `once` counts those that it needs.
 ghost use mathlib.Core.Path.{_≡_};
-ghost use Prim.Native.Nat.{_+_, _-_, _≤_, _<_};
+ghost use Prim.Native.Nat.{ℕ, _+_, _-_, _/_, _≤_, _<_};
 ghost use lib.ListN.{length, getD, set};
-ghost use Rattle.finite.specs.Range.{lowest};
+ghost use Rattle.finite.specs.Range.{sumTo, lowest};
 ghost use Rattle.graph.specs.Graph.{Simple};
 ghost use Rattle.graph.specs.Switch.{orElse};
 ghost use Rattle.graph.specs.Tests.{degrees};
@@ -52,6 +52,18 @@ pub fn degrees(adjacency: &[u8], n: usize) -> [usize; MOST_VERTICES]
         t[v] = row_sum(adjacency, v, 0, n);
     }
     t
+}
+
+// How many edges there are, by the degrees of the n vertices: each edge stands at both its ends.
+pub fn edges_held(held: &[usize; MOST_VERTICES], n: usize) -> usize
+    requires { ⌜ (n ≤ side) × ((v : ℕ) → v < n → getD (now held) v 0 ≤ degrees) ⌝ }
+    ensures { λ r. ⌜ r ≡ sumTo n (λ v. getD (now (held .entry)) v 0) / 2 ⌝ }
+{
+    let mut sum = 0;
+    for v in 0..n {
+        sum += held[v];
+    }
+    sum / 2
 }
 
 fn can_stand_in(held: &[usize; MOST_VERTICES], class: usize, other: usize, b: usize) -> bool
