@@ -22,7 +22,7 @@ use Rattle.graph.proofs.Switch.{switch-works}
 use Rattle.layout.specs.Layout.{mostVertices}
 use Rattle.adjacency.specs.Adjacency.{adjacencySize, edge, setEdge}
 use Rattle.adjacency.proofs.Set.{set-other}
-use Rattle.joining.specs.Join.{own, substituteAt, transferAt, switchBytes, relieveBytes, joinBytes, switchAt, inOrder, joinSwitches}
+use Rattle.joining.specs.Join.{own, substituteAt, transferAt, neighborSwitch, relieveBytes, joinBytes, switchAt, inOrder, joinSwitches}
 use Rattle.joining.proofs.Bytes.{ready-v, pair-w, sized-once}
 use Rattle.join_records.specs.Record.{joinRecord}
 use Rattle.demands.specs.Playback.{Played, removeEdge, addEdge, playTriple, playRecord, play}
@@ -58,7 +58,7 @@ module _ (n : ℕ) (cls : ℕ → ℕ) (T : ℕ → ℕ → ℕ) where
   module _ (g : List ℕ) (a o : ℕ) (sized : length g ≡ adjacencySize) (few : n ≤ mostVertices) (target : Target n degrees cls own T)
       (partial : Partial n degrees cls own T (edge g)) (pair : Open n cls T (edge g) a o) where
     switch-plays : unsaturated n cls own (edge g) a ≡ false
-        → playSwitch (switchAt n cls g a o) (fits g) ≡ fits (switchBytes g a (substituteAt n cls g a o) (transferAt n cls g a o))
+        → playSwitch (switchAt n cls g a o) (fits g) ≡ fits (neighborSwitch n cls g a o)
     switch-plays e =
         let b = substituteAt n cls g a o in
         let t = transferAt n cls g a o in
@@ -72,7 +72,7 @@ module _ (n : ℕ) (cls : ℕ → ℕ) (T : ℕ → ℕ → ℕ) where
     relief-plays = go (unsaturated n cls own (edge g) a) refl
       where
         go : (u : Bool) → unsaturated n cls own (edge g) a ≡ u → playSwitch (cond u noSwitch (switchAt n cls g a o)) (fits g)
-            ≡ fits (cond u g (switchBytes g a (substituteAt n cls g a o) (transferAt n cls g a o)))
+            ≡ fits (cond u g (neighborSwitch n cls g a o))
         go true e = refl
         go false e = switch-plays e
 

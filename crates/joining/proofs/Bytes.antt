@@ -17,17 +17,14 @@ use Rattle.graph.proofs.Join.{Ready, relieved, turned}
 use Rattle.layout.specs.Layout.{mostVertices}
 use Rattle.adjacency.specs.Adjacency.{adjacencySize, side, edge, setEdge}
 use Rattle.adjacency.proofs.Set.{set-length, set-other, set-adds, set-removes, set-outside}
-use Rattle.joining.specs.Join.{own, substituteAt, transferAt, switchBytes, relieveBytes, joinBytes}
-
-pub switch-length : (g : List ℕ) (a b t : ℕ) → length (switchBytes g a b t) ≡ length g
-switch-length g a b t = set-length (setEdge g a t 0) b t 1 ∙ set-length g a t 0
+use Rattle.joining.specs.Join.{own, substituteAt, transferAt, neighborSwitch, relieveBytes, joinBytes}
 
 pub relieve-length : (n : ℕ) (cls : ℕ → ℕ) (g : List ℕ) (a o : ℕ) → length (relieveBytes n cls g a o) ≡ length g
 relieve-length n cls g a o = go (unsaturated n cls own (edge g) a)
   where
-    go : (u : Bool) → length (cond u g (switchBytes g a (substituteAt n cls g a o) (transferAt n cls g a o))) ≡ length g
+    go : (u : Bool) → length (cond u g (neighborSwitch n cls g a o)) ≡ length g
     go true = refl
-    go false = switch-length g a (substituteAt n cls g a o) (transferAt n cls g a o)
+    go false = rw (set-length, set-length) refl
 
 pub join-length : (n : ℕ) (cls : ℕ → ℕ) (g : List ℕ) (v w : ℕ) → length (joinBytes n cls g v w) ≡ length g
 join-length n cls g v w =
@@ -60,7 +57,7 @@ module _ (n : ℕ) (cls : ℕ → ℕ) (T : ℕ → ℕ → ℕ) where
       still x y xn yn p q =
           set-other g a t 0 sized (omega (arith, pair .first)) (omega (arith, c .t-vertex)) x y (omega arith) (omega arith) p q
 
-      adds : AddsEdge n (edge (setEdge g a t 0)) b t (edge (switchBytes g a b t))
+      adds : AddsEdge n (edge (setEdge g a t 0)) b t (edge (setEdge (setEdge g a t 0) b t 1))
       adds =
           set-adds n (setEdge g a t 0) b t (set-length g a t 0 ∙ sized) (omega (arith, c .b-vertex)) (omega (arith, c .t-vertex)) few
           (λ e. c .t-not-b (sym e))
@@ -69,19 +66,29 @@ module _ (n : ℕ) (cls : ℕ → ℕ) (T : ℕ → ℕ → ℕ) where
           ∙ partial .simple .symmetric t b (c .t-vertex) (c .b-vertex)
           ∙ c .t-unlinked)
 
-      apart : (x y : ℕ) → x < side → y < side → (n ≤ x) ⊎ (n ≤ y) → edge (switchBytes g a b t) x y ≡ edge g x y
+      apart : (x y : ℕ) → x < side → y < side → (n ≤ x) ⊎ (n ≤ y) → edge (setEdge (setEdge g a t 0) b t 1) x y ≡ edge g x y
       apart x y xs ys out =
           set-outside n (setEdge g a t 0) b t (set-length g a t 0 ∙ sized) (omega (arith, c .b-vertex)) (omega (arith, c .t-vertex)) few
           (λ e. c .t-not-b (sym e)) 1 (c .b-vertex) (c .t-vertex) x y xs ys out
           ∙ set-outside n g a t sized (omega (arith, pair .first)) (omega (arith, c .t-vertex)) few (λ e. c .t-not-a (sym e)) 0 (pair .first)
           (c .t-vertex) x y xs ys out
 
-    pub relieve-bytes : Relieved n cls own (edge g) a o (edge (relieveBytes n cls g a o))
+    -- the edges that the switch removes and adds
+    pub switch-removes : unsaturated n cls own (edge g) a ≡ false
+        → AddsEdge n (edge (setEdge g a (transferAt n cls g a o) 0)) a (transferAt n cls g a o) (edge g)
     unfolding b t
+    switch-removes e = removes (choices e)
+
+    pub switch-adds : unsaturated n cls own (edge g) a ≡ false
+        → AddsEdge n (edge (setEdge g a (transferAt n cls g a o) 0)) (substituteAt n cls g a o) (transferAt n cls g a o) (edge (neighborSwitch n cls g a o))
+    unfolding b t
+    switch-adds e = adds (choices e)
+
+    pub relieve-bytes : Relieved n cls own (edge g) a o (edge (relieveBytes n cls g a o))
     relieve-bytes =
         record {
           left = λ e v w l m. rw e;
-          switched = λ e. rw e (record { between = edge (setEdge g a t 0); removed = removes (choices e); added = adds (choices e) });
+          switched = λ e. rw e (record { between = edge (setEdge g a (transferAt n cls g a o) 0); removed = switch-removes e; added = switch-adds e });
         }
 
     -- nothing changes outside the vertices
@@ -90,7 +97,7 @@ module _ (n : ℕ) (cls : ℕ → ℕ) (T : ℕ → ℕ → ℕ) where
     relieve-outside x y xs ys out = go (unsaturated n cls own (edge g) a) refl
       where
         go : (u : Bool) → unsaturated n cls own (edge g) a ≡ u
-            → edge (cond u g (switchBytes g a (substituteAt n cls g a o) (transferAt n cls g a o))) x y ≡ edge g x y
+            → edge (cond u g (neighborSwitch n cls g a o)) x y ≡ edge g x y
         go true e = refl
         go false e = apart (choices e) x y xs ys out
 

@@ -1,28 +1,28 @@
 -- Making room at a vertex, and joining: the choices, the degrees in the array, the count of switches, and what holds for the next step.
 -- Assumes nothing.
-use mathlib.Core.Path.{_≡_, refl, sym, ap, _∙_}
+use mathlib.Core.Path.{_≡_, refl, sym, _∙_}
 use mathlib.Core.Bool.{Bool, true, false, cond}
 use mathlib.Core.List.{List}
-use Prim.Native.Nat.{ℕ, _+_, _-_, _≤_, _<_}
+use mathlib.Core.Logic.{_≢_}
+use Prim.Native.Nat.{ℕ, _+_, _<_}
 use native.Mathlib.Omega.{arith}
-use lib.Dec.{ltb}
-use lib.ListN.{length, getD, set}
-use borrow.Author.Tests.{ltb-false, lt-ltb, le-ltb}
+use lib.ListN.{length, getD}
+use borrow.Author.Tests.{ltb-false, le-ltb}
 use Rattle.finite.specs.Range.{δ}
-use Rattle.finite.proofs.Delta.{δ-self, δ-other}
+use Rattle.finite.proofs.Delta.{δ-other}
 use Rattle.graph.specs.Graph.{degree, AddsEdge}
-use Rattle.graph.specs.Switch.{unsaturated, transfer}
+use Rattle.graph.specs.Switch.{unsaturated}
 use Rattle.graph.specs.Tests.{degrees}
-use Rattle.graph.specs.Theorems.{Choices, Kept}
+use Rattle.graph.specs.Theorems.{Choices}
 use Rattle.graph.proofs.Switch.{switch-works}
 use Rattle.graph.proofs.Join.{Ready}
 use Rattle.graph.proofs.Resume.{relief-degree}
 use Rattle.graph.proofs.Update.{degree-adds}
 use Rattle.adjacency.specs.Adjacency.{adjacencySize, side, edge, setEdge}
-use Rattle.adjacency.proofs.Set.{set-adds}
-use Rattle.joining.specs.Join.{own, substituteAt, transferAt, switchAt, switchBytes, relieveBytes, inOrder, joinSwitches}
+use Rattle.adjacency.proofs.Set.{set-length, set-adds}
+use Rattle.joining.specs.Join.{own, substituteAt, transferAt, switchAt, neighborSwitch, relieveBytes, inOrder, joinSwitches}
 use Rattle.classes.specs.Inner.Block.{classFrom}
-use Rattle.joining.specs.Inner.Work.{degreesOf, Joinable, Placed, reliefOf, bothReliefs, cutOff, freed}
+use Rattle.joining.specs.Inner.Work.{DegreesKept, withEdge, withoutEdge, Joinable, Placed, reliefOf, bothReliefs, cutOff, freed}
 use Rattle.join_records.specs.Inner.Bytes.{InBytes}
 use Rattle.answer.specs.Switches.{noSwitch, firstSwitch, secondSwitch}
 use Rattle.answer.specs.declared.switches.Switch.{Switch}
@@ -30,9 +30,9 @@ use Rattle.answer.specs.declared.switches.Switches.{Switches}
 use Rattle.joining.specs.declared.End.{End}
 use Rattle.joining.specs.declared.Relief.{Relief}
 use Rattle.joining.specs.declared.Relief.the-variants.{Room, Switched}
-use Rattle.joining.proofs.Bytes.{relieve-bytes, ready-v, pair-w, sized-once}
+use Rattle.joining.proofs.Bytes.{switch-removes, switch-adds, relieve-bytes, ready-v, pair-w, sized-once}
 use Rattle.classes.proofs.Blocks.{start-most}
-use Rattle.joining.proofs.Held.{held-at, held-moved}
+use Rattle.joining.proofs.Held.{few-edges, with-edge, some-edge, without-edge}
 
 -- x and y: what the reliefs of v and w took. Together they are the join's switches, and x tells what was cut off from v.
 module _ {n : ℕ} {cls : ℕ → ℕ} {g : List ℕ} {v w : ℕ} (j : Joinable n cls g v w) {x : Relief} (ex : x ≡ reliefOf n cls g v w) where
@@ -67,26 +67,6 @@ module _ {n : ℕ} {cls : ℕ → ℕ} {g : List ℕ} {a o : ℕ} (j : Joinable 
     chosen : Choices n degrees cls own (j .table) (edge g) a o b t
     chosen = switch-works n degrees cls own (j .table) (edge g) a o (j .target) (j .partial) (j .pair) full .0
 
-    kept : Kept n degrees cls own (j .table) (edge g) a o b (edge (switchBytes g a b t))
-    kept =
-        switch-works n degrees cls own (j .table) (edge g) a o (j .target) (j .partial) (j .pair) full .1 (edge (switchBytes g a b t))
-        (rw full at (relieve-bytes n cls (j .table) g a o (j .sized) (j .few) (j .target) (j .partial) (j .pair) .switched full))
-
-    -- a has an edge to lose, and b has few
-    held-a : 0 < getD (degreesOf n g) a 0
-    held-a = omega (arith, held-at n (j .few) g a (j .pair .first), kept .from-a)
-
-    held-b : getD (degreesOf n g) b 0 < degrees
-    held-b = omega (arith, held-at n (j .few) g b (chosen .b-vertex), chosen .b-room, j .target .classed b (chosen .b-vertex))
-
-    held-switched : set (set (degreesOf n g) a (getD (degreesOf n g) a 0 - 1)) b (getD (degreesOf n g) b 0 + 1) ≡ degreesOf n (switchBytes g a b t)
-    held-switched =
-        held-moved n (j .few) g (switchBytes g a b t) a b (getD (degreesOf n g) a 0 - 1) (getD (degreesOf n g) b 0 + 1) (j .pair .first)
-        (chosen .b-vertex) (chosen .b-other)
-        (omega (arith, kept .from-a, held-at n (j .few) g a (j .pair .first)))
-        (omega (arith, kept .to-b, held-at n (j .few) g b (chosen .b-vertex)))
-        (kept .others)
-
   ready : Ready n degrees cls own (j .table) (edge g) a o (edge (relieveBytes n cls g a o))
   ready = ready-v n cls (j .table) g a o (j .sized) (j .few) (j .target) (j .partial) (j .pair)
 
@@ -109,64 +89,70 @@ module _ {n : ℕ} {cls : ℕ → ℕ} {g : List ℕ} {a o : ℕ} (j : Joinable 
       (j .pair .unlinked)
       (j .partial .simple .symmetric o a (j .pair .second) (j .pair .first) ∙ j .pair .unlinked)
 
-  more : (x : ℕ) → x < n → degree n (edge (setEdge g a o 1)) x ≡ degree n (edge g) x + (δ x a + δ x o)
-  more = degree-adds n (edge g) (edge (setEdge g a o 1)) a o adds (j .pair .first) (j .pair .second)
-
-  held-linked : set (set (degreesOf n g) a (getD (degreesOf n g) a 0 + 1)) o (getD (degreesOf n g) o 0 + 1) ≡ degreesOf n (setEdge g a o 1)
-  held-linked =
-      held-moved n (j .few) g (setEdge g a o 1) a o (getD (degreesOf n g) a 0 + 1) (getD (degreesOf n g) o 0 + 1) (j .pair .first)
-      (j .pair .second) (λ e. j .pair .distinct (sym e))
-      (omega (arith, more a (j .pair .first), held-at n (j .few) g a (j .pair .first), δ-self a, δ-other a o (j .pair .distinct)))
-      (omega (arith, more o (j .pair .second), held-at n (j .few) g o (j .pair .second), δ-self o, δ-other o a (λ e. j .pair .distinct (sym e))))
-      (λ x xn p q. omega (arith, more x xn, δ-other x a p, δ-other x o q))
-
--- The rest speaks of the choice b as the code has it.
+-- Switching a, step by step, with `held` beside the matrix: what each step asks for, and what it leaves.
 module _ {n : ℕ} {cls : ℕ → ℕ} {g : List ℕ} {a o : ℕ} (j : Joinable n cls g a o) (full : unsaturated n cls own (edge g) a ≡ false)
-    {b : ℕ} (chose : b ≡ substituteAt n cls g a o) where
-  t-is : transfer n (edge g) a b ≡ transferAt n cls g a o
-  t-is = ap (transfer n (edge g) a) chose
+    {held : List ℕ} (is : DegreesKept n held g) where
+  removes : AddsEdge n (edge (setEdge g a (t j) 0)) a (t j) (edge g)
+  removes = switch-removes n cls (j .table) g a o (j .sized) (j .few) (j .target) (j .partial) (j .pair) full
 
-  -- what the switch asks for, and what it leaves
-  pub b-inside : b < side
-  b-inside = rw chose (omega (arith, j .few, chosen j full .b-vertex))
-
-  pub switchable : (length g ≡ adjacencySize) × (n ≤ side) × (a < side) × (b < side) × (transfer n (edge g) a b < side)
-  switchable = (
+  pub unlinkable : (length g ≡ adjacencySize) × (a < side) × (transferAt n cls g a o < side) × (a ≢ transferAt n cls g a o)
+      × (0 < length held → (length held ≡ side) × (0 < getD held a 0) × (0 < getD held (transferAt n cls g a o) 0))
+  unlinkable = (
     j .sized,
-    j .few,
     omega (arith, j .few, j .pair .first),
-    b-inside,
-    rw t-is (omega (arith, j .few, chosen j full .t-vertex)),
+    omega (arith, j .few, chosen j full .t-vertex),
+    λ e. chosen j full .t-not-a (sym e),
+    some-edge (j .few) g is (j .pair .first) (chosen j full .t-vertex) (setEdge g a (t j) 0) (λ e. chosen j full .t-not-a (sym e)) removes,
   )
 
-  pub switch-relief : _≡_ {A = Relief} (Switched (record { a = a; b = b; t = transfer n (edge g) a b })) (reliefOf n cls g a o)
-  switch-relief = rw (t-is, chose, full)
+  unlinked : DegreesKept n (withoutEdge held a (t j)) (setEdge g a (t j) 0)
+  unlinked = without-edge (j .few) g is (j .pair .first) (chosen j full .t-vertex) (setEdge g a (t j) 0) (λ e. chosen j full .t-not-a (sym e)) removes
 
-  pub switch-bytes : switchBytes g a b (transfer n (edge g) a b) ≡ relieveBytes n cls g a o
-  switch-bytes = rw (t-is, chose, full)
+  -- without a – t every vertex has as many edges as before at most
+  fewer : (v : ℕ) → v < n → degree n (edge (setEdge g a (t j) 0)) v < degrees
+  fewer v l =
+      omega (
+        arith,
+        degree-adds n (edge (setEdge g a (t j) 0)) (edge g) a (t j) removes (j .pair .first) (chosen j full .t-vertex) v l,
+        j .partial .room v l,
+        j .target .classed v l,
+      )
 
-  -- the entries of a and b in the array of degrees
-  module _ {held : List ℕ} (is : held ≡ degreesOf n g) where
-    pub shiftable : (a < side) × (b < side) × (0 < getD held a 0) × (getD held b 0 < degrees)
-    shiftable = (switchable .2, b-inside, rw is (held-a j full), rw (is, chose) (held-b j full))
+  pub linkable-b : (length (setEdge g a (transferAt n cls g a o) 0) ≡ adjacencySize) × (substituteAt n cls g a o < side) × (transferAt n cls g a o < side)
+      × (substituteAt n cls g a o ≢ transferAt n cls g a o)
+      × (0 < length (withoutEdge held a (transferAt n cls g a o))
+      → (length (withoutEdge held a (transferAt n cls g a o)) ≡ side) × (getD (withoutEdge held a (transferAt n cls g a o)) (substituteAt n cls g a o) 0 < degrees)
+      × (getD (withoutEdge held a (transferAt n cls g a o)) (transferAt n cls g a o) 0 < degrees))
+  linkable-b = (
+    set-length g a (t j) 0 ∙ j .sized,
+    omega (arith, j .few, chosen j full .b-vertex),
+    omega (arith, j .few, chosen j full .t-vertex),
+    λ e. chosen j full .t-not-b (sym e),
+    few-edges (j .few) (setEdge g a (t j) 0) unlinked (chosen j full .b-vertex) (chosen j full .t-vertex) (fewer (b j) (chosen j full .b-vertex))
+        (fewer (t j) (chosen j full .t-vertex)),
+  )
 
-    pub switch-held : set (set held a (getD held a 0 - 1)) b (getD held b 0 + 1) ≡ degreesOf n (relieveBytes n cls g a o)
-    switch-held = rw (is, chose, full) (held-switched j full)
+  pub switch-kept : DegreesKept n (withEdge (withoutEdge held a (transferAt n cls g a o)) (substituteAt n cls g a o) (transferAt n cls g a o))
+      (neighborSwitch n cls g a o)
+  switch-kept =
+      with-edge (j .few) (setEdge g a (t j) 0) unlinked (chosen j full .b-vertex) (chosen j full .t-vertex) (neighborSwitch n cls g a o)
+      (λ e. chosen j full .t-not-b (sym e)) (switch-adds n cls (j .table) g a o (j .sized) (j .few) (j .target) (j .partial) (j .pair) full)
 
 -- what adding the edge a – o asks for, and what it leaves
-module _ {n : ℕ} {cls : ℕ → ℕ} {g held : List ℕ} {a o : ℕ} (j : Joinable n cls g a o) (is : held ≡ degreesOf n g) where
-  pub linkable : degree n (edge g) a < cls a → degree n (edge g) o < cls o
-      → (length g ≡ adjacencySize) × (a < side) × (o < side) × (getD held a 0 < degrees) × (getD held o 0 < degrees)
-  linkable room-a room-o = rw is (
+module _ {n : ℕ} {cls : ℕ → ℕ} {g held : List ℕ} {a o : ℕ} (j : Joinable n cls g a o) (is : DegreesKept n held g) where
+  pub linkable : degree n (edge g) a < cls a → degree n (edge g) o < cls o → (length g ≡ adjacencySize) × (a < side) × (o < side) × (a ≢ o)
+      × (0 < length held → (length held ≡ side) × (getD held a 0 < degrees) × (getD held o 0 < degrees))
+  linkable room-a room-o = (
     j .sized,
     omega (arith, j .few, j .pair .first),
     omega (arith, j .few, j .pair .second),
-    omega (arith, held-at n (j .few) g a (j .pair .first), j .target .classed a (j .pair .first)),
-    omega (arith, held-at n (j .few) g o (j .pair .second), j .target .classed o (j .pair .second)),
+    j .pair .distinct,
+    few-edges (j .few) g is (j .pair .first) (j .pair .second) (omega (arith, j .target .classed a (j .pair .first)))
+        (omega (arith, j .target .classed o (j .pair .second))),
   )
 
-  pub link-held : set (set held a (getD held a 0 + 1)) o (getD held o 0 + 1) ≡ degreesOf n (setEdge g a o 1)
-  link-held = rw is (held-linked j)
+  pub link-kept : DegreesKept n (withEdge held a o) (setEdge g a o 1)
+  link-kept = with-edge (j .few) g is (j .pair .first) (j .pair .second) (setEdge g a o 1) (j .pair .distinct) (adds j)
 
 -- the vertices of a join's switches are bytes, as what stands for one that was not needed
 pub switches-bytes : {n : ℕ} {cls : ℕ → ℕ} {g : List ℕ} {v w : ℕ} → Joinable n cls g v w → {s : Switches} → s ≡ joinSwitches n cls g v w

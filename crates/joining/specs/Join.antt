@@ -21,14 +21,17 @@ substituteAt n cls g a other = substitute n cls own (edge g) a other
 abbrev pub transferAt : ℕ → (ℕ → ℕ) → List ℕ → ℕ → ℕ → ℕ
 transferAt n cls g a other = transfer n (edge g) a (substituteAt n cls g a other)
 
--- the edge a – t is removed, b – t added
-abbrev pub switchBytes : List ℕ → ℕ → ℕ → ℕ → List ℕ
-switchBytes g a b t = setEdge (setEdge g a t 0) b t 1
+-- switching a, in the order of document 001's NeighborSwitch
+abbrev pub neighborSwitch : ℕ → (ℕ → ℕ) → List ℕ → ℕ → ℕ → List ℕ
+neighborSwitch n cls g a other =
+    let b = substituteAt n cls g a other in  -- 1
+    let t = transfer n (edge g) a b in  -- 2
+    let g′ = setEdge g a t 0 in  -- 3
+    setEdge g′ b t 1  -- 4
 
 -- room at a: a switch if it is saturated
 abbrev pub relieveBytes : ℕ → (ℕ → ℕ) → List ℕ → ℕ → ℕ → List ℕ
-relieveBytes n cls g a other =
-    cond (unsaturated n cls own (edge g) a) g (switchBytes g a (substituteAt n cls g a other) (transferAt n cls g a other))
+relieveBytes n cls g a other = cond (unsaturated n cls own (edge g) a) g (neighborSwitch n cls g a other)
 
 -- both steps, and the edge
 abbrev pub joinBytes : ℕ → (ℕ → ℕ) → List ℕ → ℕ → ℕ → List ℕ

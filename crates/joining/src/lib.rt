@@ -1,22 +1,22 @@
 // Joining two vertices of the adjacency matrix, with at most two neighbour switches. The degrees that the vertices have so far
-// stand in an array beside the matrix; for one join by itself, `once` counts those that it needs.
+// may stand beside the matrix; for one join by itself (`once`) they do not, and those that are asked for are counted.
 ghost use mathlib.Core.Path.{_≡_};
-ghost use Prim.Native.Nat.{ℕ, _+_, _-_, _/_, _≤_, _<_};
-ghost use lib.ListN.{length, getD, set};
-ghost use Rattle.finite.specs.Range.{sumTo, lowest};
+ghost use Prim.Native.Nat.{ℕ, _/_, _≤_, _<_};
+ghost use lib.ListN.{length, getD};
+ghost use Rattle.finite.specs.Range.{sumTo};
 ghost use Rattle.graph.specs.Graph.{Simple};
-ghost use Rattle.graph.specs.Switch.{orElse};
 ghost use Rattle.graph.specs.Tests.{degrees};
-ghost use Rattle.adjacency.specs.Adjacency.{adjacencySize, side, edge, setEdge};
+ghost use Rattle.adjacency.specs.Adjacency.{adjacencySize, side, edge};
 ghost use Rattle.joining.specs.Join.{relieveBytes, joinBytes, joinSwitches};
 ghost use Rattle.classes.specs.Inner.Block.{classFrom};
-ghost use Rattle.joining.specs.Inner.Work.{degreesOf, Joinable, Placed, canStandIn, reliefOf, bothReliefs, cutOff, freed};
+ghost use Rattle.joining.specs.Inner.Work.{degreesOf, DegreesKept, Joinable, Placed, reliefOf, bothReliefs, cutOff, freed};
 
 pub mod once;
 mod switch;
 
+use crate::switch::degree_at;
+use crate::switch::link;
 use crate::switch::neighbor_switch;
-use adjacency::set_edge;
 use answer::switches::Switch;
 use answer::switches::Switches;
 use classes::STARTS;
@@ -66,82 +66,24 @@ pub fn edges_held(held: &[usize; MOST_VERTICES], n: usize) -> usize
     sum / 2
 }
 
-fn can_stand_in(held: &[usize; MOST_VERTICES], class: usize, other: usize, b: usize) -> bool
-    requires { ⌜ b < side ⌝ }
-    ensures { λ r. ⌜ r ≡ canStandIn (λ i. getD (now (held .entry)) i 0) class other b ⌝ }
-{
-    (held[b] < class) & (b != other)
-}
-
-// Document 01's b: the lowest such vertex of the class, which ends at `to`; else the other named one.
-fn choose_substitute(
-    held: &[usize; MOST_VERTICES],
-    class: usize,
-    other: usize,
-    from: usize,
-    to: usize,
-) -> usize
-    requires { ⌜ (from ≤ to) × (to ≤ side) ⌝ }
-    ensures { λ r. ⌜ r ≡ orElse to other (lowest from to (canStandIn (λ i. getD (now (held .entry)) i 0) class other)) ⌝ }
-{
-    let mut b = from;
-    while b < to {
-        if can_stand_in(held, class, other, b) {
-            return b;
-        }
-        b += 1;
-    }
-    other
-}
-
-// One edge less at a, one more at b.
-fn shift_edge(held: &mut [usize; MOST_VERTICES], a: usize, b: usize)
-    requires { ⌜ (a < side) × (b < side) × (0 < getD (now held) a 0) × (getD (now held) b 0 < degrees) ⌝ }
-    ensures { λ _. ⌜ now (held .exit) ≡ set (set (now (held .entry)) a (getD (now (held .entry)) a 0 - 1)) b (getD (now (held .entry)) b 0 + 1) ⌝ }
-{
-    let less = held[a] - 1;
-    let more = held[b] + 1;
-    held[a] = less;
-    held[b] = more;
-}
-
 // Makes room at a: a neighbour switch if it is saturated.
 fn relieve(
     adjacency: &mut [u8],
-    held: &mut [usize; MOST_VERTICES],
+    held: &mut [usize],
     starts: &[usize; STARTS],
     n: usize,
     a: End,
     other: usize,
 ) -> Relief
-    requires { ⌜ Joinable n (classFrom (now starts)) (now adjacency) (a .at) other × Placed n (now starts) (now adjacency) a other × (now held ≡ degreesOf n (now adjacency)) ⌝ }
+    requires { ⌜ Joinable n (classFrom (now starts)) (now adjacency) (a .at) other × Placed n (now starts) (now adjacency) a other × DegreesKept n (now held) (now adjacency) ⌝ }
     ensures { λ r. ⌜ r ≡ reliefOf n (classFrom (now (starts .entry))) (now (adjacency .entry)) (a .at) other ⌝ }
     ensures { λ _. ⌜ now (adjacency .exit) ≡ relieveBytes n (classFrom (now (starts .entry))) (now (adjacency .entry)) (a .at) other ⌝ }
-    ensures { λ _. ⌜ now (held .exit) ≡ degreesOf n (relieveBytes n (classFrom (now (starts .entry))) (now (adjacency .entry)) (a .at) other) ⌝ }
+    ensures { λ _. ⌜ DegreesKept n (now (held .exit)) (relieveBytes n (classFrom (now (starts .entry))) (now (adjacency .entry)) (a .at) other) ⌝ }
 {
-    let v = a.at;
-    let k = a.class;
-    if held[v] < k {
+    if degree_at(adjacency, held, n, a.at) < a.class {
         return Relief::Room;
     }
-    let to = starts[k + 1];
-    let b = choose_substitute(held, k, other, a.low, to);
-    let t = neighbor_switch(adjacency, n, v, b);
-    shift_edge(held, v, b);
-    Relief::Switched(Switch { a: v, b, t })
-}
-
-// The edge v – w added.
-fn link(adjacency: &mut [u8], held: &mut [usize; MOST_VERTICES], v: usize, w: usize)
-    requires { ⌜ (length (now adjacency) ≡ adjacencySize) × (v < side) × (w < side) × (getD (now held) v 0 < degrees) × (getD (now held) w 0 < degrees) ⌝ }
-    ensures { λ _. ⌜ now (adjacency .exit) ≡ setEdge (now (adjacency .entry)) v w 1 ⌝ }
-    ensures { λ _. ⌜ now (held .exit) ≡ set (set (now (held .entry)) v (getD (now (held .entry)) v 0 + 1)) w (getD (now (held .entry)) w 0 + 1) ⌝ }
-{
-    set_edge(adjacency, v, w, 1);
-    let more_v = held[v] + 1;
-    let more_w = held[w] + 1;
-    held[v] = more_v;
-    held[w] = more_w;
+    Relief::Switched(neighbor_switch(adjacency, held, starts, n, a, other))
 }
 
 // The switches of both ends, in the order made.
@@ -171,6 +113,29 @@ fn cut_off(n: usize, x: Relief) -> usize
 }
 
 // Joins v and w: room at v, then at w, then the edge.
+fn join_ends(
+    adjacency: &mut [u8],
+    held: &mut [usize],
+    starts: &[usize; STARTS],
+    n: usize,
+    v: End,
+    w: End,
+) -> JoinDone
+    requires { ⌜ Joinable n (classFrom (now starts)) (now adjacency) (v .at) (w .at) × DegreesKept n (now held) (now adjacency) × Placed n (now starts) (now adjacency) v (w .at) × Placed n (now starts) (now adjacency) w (v .at) ⌝ }
+    ensures { λ r. ⌜ (r .switches ≡ joinSwitches n (classFrom (now (starts .entry))) (now (adjacency .entry)) (v .at) (w .at)) × (r .freed ≡ freed n (classFrom (now (starts .entry))) (now (adjacency .entry)) (v .at) (w .at)) ⌝ }
+    ensures { λ _. ⌜ now (adjacency .exit) ≡ joinBytes n (classFrom (now (starts .entry))) (now (adjacency .entry)) (v .at) (w .at) ⌝ }
+    ensures { λ _. ⌜ DegreesKept n (now (held .exit)) (joinBytes n (classFrom (now (starts .entry))) (now (adjacency .entry)) (v .at) (w .at)) ⌝ }
+{
+    let x = relieve(adjacency, held, starts, n, v, w.at);
+    let y = relieve(adjacency, held, starts, n, w, v.at);
+    link(adjacency, held, v.at, w.at);
+    JoinDone {
+        switches: both_reliefs(x, y),
+        freed: cut_off(n, x),
+    }
+}
+
+// Joins v and w, and keeps the degrees.
 pub fn join(
     adjacency: &mut [u8],
     held: &mut [usize; MOST_VERTICES],
@@ -184,11 +149,5 @@ pub fn join(
     ensures { λ _. ⌜ now (adjacency .exit) ≡ joinBytes n (classFrom (now (starts .entry))) (now (adjacency .entry)) (v .at) (w .at) ⌝ }
     ensures { λ _. ⌜ now (held .exit) ≡ degreesOf n (joinBytes n (classFrom (now (starts .entry))) (now (adjacency .entry)) (v .at) (w .at)) ⌝ }
 {
-    let x = relieve(adjacency, held, starts, n, v, w.at);
-    let y = relieve(adjacency, held, starts, n, w, v.at);
-    link(adjacency, held, v.at, w.at);
-    JoinDone {
-        switches: both_reliefs(x, y),
-        freed: cut_off(n, x),
-    }
+    join_ends(adjacency, held, starts, n, v, w)
 }

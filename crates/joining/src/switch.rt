@@ -1,19 +1,77 @@
-// The neighbour switch: the search for t, and the switch itself.
+// The neighbour switch, its two searches, and the edges that it moves. Beside the matrix `held` has the degrees that the vertices
+// have so far; where it is empty they are counted when they are asked for.
 ghost use mathlib.Core.Path.{_≡_};
 ghost use mathlib.Core.Bool.{false};
+ghost use mathlib.Core.Logic.{_≢_};
 ghost use Prim.Native.Nat.{ℕ, _+_, _*_, _≤_, _<_};
 ghost use lib.Dec.{leb};
-ghost use lib.ListN.{length};
+ghost use lib.ListN.{length, getD};
 ghost use Rattle.finite.specs.Range.{allTo};
-ghost use Rattle.graph.specs.Switch.{canTransfer, transfer};
-ghost use Rattle.adjacency.specs.Adjacency.{adjacencySize, side, edge};
-ghost use Rattle.joining.specs.Join.{switchBytes};
-ghost use Rattle.joining.specs.Inner.Work.{lanes};
+ghost use Rattle.graph.specs.Graph.{degree};
+ghost use Rattle.graph.specs.Switch.{unsaturated, canTransfer, transfer};
+ghost use Rattle.graph.specs.Tests.{degrees};
+ghost use Rattle.adjacency.specs.Adjacency.{adjacencySize, side, edge, setEdge};
+ghost use Rattle.classes.specs.Inner.Block.{classFrom};
+ghost use Rattle.joining.specs.Join.{own, substituteAt, neighborSwitch, switchAt};
+ghost use Rattle.joining.specs.Inner.Work.{lanes, DegreesKept, withEdge, withoutEdge, Joinable, Placed, canStandIn};
+use crate::End;
 use adjacency::SIDE;
+use adjacency::degree_of;
 use adjacency::set_edge;
+use answer::switches::Switch;
+use classes::STARTS;
 
 // How many bytes of a row are tested at once.
 const LANES: usize = 16;
+
+// How many edges v has.
+pub fn degree_at(adjacency: &[u8], held: &[usize], n: usize, v: usize) -> usize
+    requires { ⌜ (length (now adjacency) ≡ adjacencySize) × (n ≤ side) × (v < n) × DegreesKept n (now held) (now adjacency) ⌝ }
+    ensures { λ r. ⌜ r ≡ degree n (edge (now (adjacency .entry))) v ⌝ }
+{
+    if held.len() > 0 {
+        return held[v];
+    }
+    degree_of(adjacency, n, v)
+}
+
+fn can_stand_in(
+    adjacency: &[u8],
+    held: &[usize],
+    n: usize,
+    class: usize,
+    other: usize,
+    b: usize,
+) -> bool
+    requires { ⌜ (length (now adjacency) ≡ adjacencySize) × (n ≤ side) × (b < n) × DegreesKept n (now held) (now adjacency) ⌝ }
+    ensures { λ r. ⌜ r ≡ canStandIn (degree n (edge (now (adjacency .entry)))) class other b ⌝ }
+{
+    (degree_at(adjacency, held, n, b) < class) & (b != other)
+}
+
+// Document 01's b: the lowest vertex that can stand in for a; else the other named one.
+fn choose_substitute(
+    adjacency: &[u8],
+    held: &[usize],
+    starts: &[usize; STARTS],
+    n: usize,
+    a: End,
+    other: usize,
+) -> usize
+    requires { ⌜ Joinable n (classFrom (now starts)) (now adjacency) (a .at) other × Placed n (now starts) (now adjacency) a other × DegreesKept n (now held) (now adjacency) ⌝ }
+    ensures { λ r. ⌜ r ≡ substituteAt n (classFrom (now (starts .entry))) (now (adjacency .entry)) (a .at) other ⌝ }
+{
+    let class = a.class;
+    let to = starts[class + 1];
+    let mut b = a.low;
+    while b < to {
+        if can_stand_in(adjacency, held, n, class, other, b) {
+            return b;
+        }
+        b += 1;
+    }
+    other
+}
 
 fn can_transfer(adjacency: &[u8], a: usize, b: usize, t: usize) -> bool
     requires { ⌜ (length (now adjacency) ≡ adjacencySize) × (a < side) × (b < side) × (t < side) ⌝ }
@@ -66,14 +124,49 @@ fn choose_transfer(adjacency: &[u8], n: usize, a: usize, b: usize) -> usize
     t
 }
 
-// The neighbour switch of a, where b takes its place: the edge a – t removed, b – t added. t.
-pub fn neighbor_switch(adjacency: &mut [u8], n: usize, a: usize, b: usize) -> usize
-    requires { ⌜ (length (now adjacency) ≡ adjacencySize) × (n ≤ side) × (a < side) × (b < side) × (transfer n (edge (now adjacency)) a b < side) ⌝ }
-    ensures { λ r. ⌜ (r ≡ transfer n (edge (now (adjacency .entry))) a b) × (r < side) ⌝ }
-    ensures { λ _. ⌜ now (adjacency .exit) ≡ switchBytes (now (adjacency .entry)) a b (transfer n (edge (now (adjacency .entry))) a b) ⌝ }
+// The edge v – w removed.
+fn unlink(adjacency: &mut [u8], held: &mut [usize], v: usize, w: usize)
+    requires { ⌜ (length (now adjacency) ≡ adjacencySize) × (v < side) × (w < side) × (v ≢ w) × (0 < length (now held) → (length (now held) ≡ side) × (0 < getD (now held) v 0) × (0 < getD (now held) w 0)) ⌝ }
+    ensures { λ _. ⌜ now (adjacency .exit) ≡ setEdge (now (adjacency .entry)) v w 0 ⌝ }
+    ensures { λ _. ⌜ now (held .exit) ≡ withoutEdge (now (held .entry)) v w ⌝ }
 {
-    let t = choose_transfer(adjacency, n, a, b);
-    set_edge(adjacency, a, t, 0);
-    set_edge(adjacency, b, t, 1);
-    t
+    set_edge(adjacency, v, w, 0);
+    if held.len() > 0 {
+        held[v] -= 1;
+        held[w] -= 1;
+    }
+}
+
+// The edge v – w added.
+pub fn link(adjacency: &mut [u8], held: &mut [usize], v: usize, w: usize)
+    requires { ⌜ (length (now adjacency) ≡ adjacencySize) × (v < side) × (w < side) × (v ≢ w) × (0 < length (now held) → (length (now held) ≡ side) × (getD (now held) v 0 < degrees) × (getD (now held) w 0 < degrees)) ⌝ }
+    ensures { λ _. ⌜ now (adjacency .exit) ≡ setEdge (now (adjacency .entry)) v w 1 ⌝ }
+    ensures { λ _. ⌜ now (held .exit) ≡ withEdge (now (held .entry)) v w ⌝ }
+{
+    set_edge(adjacency, v, w, 1);
+    if held.len() > 0 {
+        held[w] += 1;
+        held[v] += 1;
+    }
+}
+
+// Document 001's NeighborSwitch, line by line: its w, w′ and t are a, b and t here.
+pub fn neighbor_switch(
+    adjacency: &mut [u8],
+    held: &mut [usize],
+    starts: &[usize; STARTS],
+    n: usize,
+    a: End,
+    other: usize,
+) -> Switch
+    requires { ⌜ Joinable n (classFrom (now starts)) (now adjacency) (a .at) other × Placed n (now starts) (now adjacency) a other × DegreesKept n (now held) (now adjacency) × (unsaturated n (classFrom (now starts)) own (edge (now adjacency)) (a .at) ≡ false) ⌝ }
+    ensures { λ r. ⌜ r ≡ switchAt n (classFrom (now (starts .entry))) (now (adjacency .entry)) (a .at) other ⌝ }
+    ensures { λ _. ⌜ now (adjacency .exit) ≡ neighborSwitch n (classFrom (now (starts .entry))) (now (adjacency .entry)) (a .at) other ⌝ }
+    ensures { λ _. ⌜ DegreesKept n (now (held .exit)) (neighborSwitch n (classFrom (now (starts .entry))) (now (adjacency .entry)) (a .at) other) ⌝ }
+{
+    let b = choose_substitute(adjacency, held, starts, n, a, other); // 1
+    let t = choose_transfer(adjacency, n, a.at, b); // 2
+    unlink(adjacency, held, a.at, t); // 3
+    link(adjacency, held, b, t); // 4
+    Switch { a: a.at, b, t }
 }

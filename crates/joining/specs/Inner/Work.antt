@@ -3,9 +3,9 @@
 use mathlib.Core.Path.{_≡_}
 use mathlib.Core.Bool.{Bool, false, _&&_, not, cond}
 use mathlib.Core.List.{List}
-use Prim.Native.Nat.{ℕ, _+_, _≤_, _<_}
+use Prim.Native.Nat.{ℕ, _+_, _-_, _≤_, _<_}
 use lib.Dec.{eqb, ltb}
-use lib.ListN.{length, getD, replicate}
+use lib.ListN.{length, getD, set, replicate}
 use Rattle.finite.specs.Inner.Fill.{fillTo}
 use Rattle.graph.specs.Graph.{degree}
 use Rattle.graph.specs.Target.{Target, Partial, Open}
@@ -29,6 +29,17 @@ lanes = 16
 -- the degrees of the n vertices, in an array of 200 with zeros behind them
 abbrev pub degreesOf : ℕ → List ℕ → List ℕ
 degreesOf n g = fillTo n (degree n (edge g)) (replicate mostVertices 0)
+
+-- what stands beside the matrix: the degrees of the n vertices, or nothing
+abbrev pub DegreesKept : ℕ → List ℕ → List ℕ → Type 0
+DegreesKept n held g = 0 < length held → held ≡ degreesOf n g
+
+-- the degrees after the edge v – w was added, or removed
+abbrev pub withEdge : List ℕ → ℕ → ℕ → List ℕ
+withEdge held v w = set (set held w (getD held w 0 + 1)) v (getD held v 0 + 1)
+
+abbrev pub withoutEdge : List ℕ → ℕ → ℕ → List ℕ
+withoutEdge held v w = set (set held v (getD held v 0 - 1)) w (getD held w 0 - 1)
 
 -- v and w may be joined: g is a partial graph of some table, and the pair is open
 pub record Joinable (n : ℕ) (cls : ℕ → ℕ) (g : List ℕ) (v w : ℕ) : Type 0 where

@@ -1,0 +1,10 @@
+-- `joining::switch::can_stand_in` meets its contract.
+-- Assumes nothing.
+use Rattle.joining.proofs.switch.can_stand_in.Statement.{statement}
+use Rattle.joining.proofs.switch.can_stand_in.Tie as tie
+
+pub can-stand-in-spec : {M : Type 1} → statement M
+can-stand-in-spec =
+    tie.close (tie.spec
+    (λ c κs. c .before .before .pre)  -- degree-at-requires
+    (λ c. rw (c .degree-at .ensures)))  -- returns
