@@ -24,6 +24,27 @@ use classes::STARTS;
 // How many bytes of a row are tested at once.
 const LANES: usize = 16;
 
+// Document 001's NeighborSwitch, line by line: its w, w′ and t are a, b and t here.
+pub fn neighbor_switch(
+    adjacency: &mut [u8],
+    held: &mut [usize],
+    starts: &[usize; STARTS],
+    n: usize,
+    a: End,
+    other: usize,
+) -> Switch
+    requires { ⌜ Joinable n (classFrom (now starts)) (now adjacency) (a .at) other × Placed n (now starts) (now adjacency) a other × DegreesKept n (now held) (now adjacency) × (unsaturated n (classFrom (now starts)) own (edge (now adjacency)) (a .at) ≡ false) ⌝ }
+    ensures { λ r. ⌜ r ≡ switchAt n (classFrom (now (starts .entry))) (now (adjacency .entry)) (a .at) other ⌝ }
+    ensures { λ _. ⌜ now (adjacency .exit) ≡ neighborSwitch n (classFrom (now (starts .entry))) (now (adjacency .entry)) (a .at) other ⌝ }
+    ensures { λ _. ⌜ DegreesKept n (now (held .exit)) (neighborSwitch n (classFrom (now (starts .entry))) (now (adjacency .entry)) (a .at) other) ⌝ }
+{
+    let b = choose_substitute(adjacency, held, starts, n, a, other); // 1
+    let t = choose_transfer(adjacency, n, a.at, b); // 2
+    unlink(adjacency, held, a.at, t); // 3
+    link(adjacency, held, b, t); // 4
+    Switch { a: a.at, b, t }
+}
+
 // How many edges v has.
 pub fn degree_at(adjacency: &[u8], held: &[usize], n: usize, v: usize) -> usize
     requires { ⌜ (length (now adjacency) ≡ adjacencySize) × (n ≤ side) × (v < n) × DegreesKept n (now held) (now adjacency) ⌝ }
@@ -144,29 +165,9 @@ pub fn link(adjacency: &mut [u8], held: &mut [usize], v: usize, w: usize)
     ensures { λ _. ⌜ now (held .exit) ≡ withEdge (now (held .entry)) v w ⌝ }
 {
     set_edge(adjacency, v, w, 1);
+    // w first: `unlink` writes it last, so that a switch, where w is t, takes fewer instructions.
     if held.len() > 0 {
         held[w] += 1;
         held[v] += 1;
     }
-}
-
-// Document 001's NeighborSwitch, line by line: its w, w′ and t are a, b and t here.
-pub fn neighbor_switch(
-    adjacency: &mut [u8],
-    held: &mut [usize],
-    starts: &[usize; STARTS],
-    n: usize,
-    a: End,
-    other: usize,
-) -> Switch
-    requires { ⌜ Joinable n (classFrom (now starts)) (now adjacency) (a .at) other × Placed n (now starts) (now adjacency) a other × DegreesKept n (now held) (now adjacency) × (unsaturated n (classFrom (now starts)) own (edge (now adjacency)) (a .at) ≡ false) ⌝ }
-    ensures { λ r. ⌜ r ≡ switchAt n (classFrom (now (starts .entry))) (now (adjacency .entry)) (a .at) other ⌝ }
-    ensures { λ _. ⌜ now (adjacency .exit) ≡ neighborSwitch n (classFrom (now (starts .entry))) (now (adjacency .entry)) (a .at) other ⌝ }
-    ensures { λ _. ⌜ DegreesKept n (now (held .exit)) (neighborSwitch n (classFrom (now (starts .entry))) (now (adjacency .entry)) (a .at) other) ⌝ }
-{
-    let b = choose_substitute(adjacency, held, starts, n, a, other); // 1
-    let t = choose_transfer(adjacency, n, a.at, b); // 2
-    unlink(adjacency, held, a.at, t); // 3
-    link(adjacency, held, b, t); // 4
-    Switch { a: a.at, b, t }
 }
