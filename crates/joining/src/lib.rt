@@ -113,6 +113,23 @@ fn cut_off(n: usize, x: Relief) -> usize
 }
 
 // Joins v and w: room at v, then at w, then the edge.
+pub fn join(
+    adjacency: &mut [u8],
+    held: &mut [usize; MOST_VERTICES],
+    starts: &[usize; STARTS],
+    n: usize,
+    v: End,
+    w: End,
+) -> JoinDone
+    requires { ⌜ Joinable n (classFrom (now starts)) (now adjacency) (v .at) (w .at) × (now held ≡ degreesOf n (now adjacency)) × Placed n (now starts) (now adjacency) v (w .at) × Placed n (now starts) (now adjacency) w (v .at) ⌝ }
+    ensures { λ r. ⌜ (r .switches ≡ joinSwitches n (classFrom (now (starts .entry))) (now (adjacency .entry)) (v .at) (w .at)) × (r .freed ≡ freed n (classFrom (now (starts .entry))) (now (adjacency .entry)) (v .at) (w .at)) ⌝ }
+    ensures { λ _. ⌜ now (adjacency .exit) ≡ joinBytes n (classFrom (now (starts .entry))) (now (adjacency .entry)) (v .at) (w .at) ⌝ }
+    ensures { λ _. ⌜ now (held .exit) ≡ degreesOf n (joinBytes n (classFrom (now (starts .entry))) (now (adjacency .entry)) (v .at) (w .at)) ⌝ }
+{
+    join_ends(adjacency, held, starts, n, v, w)
+}
+
+// The same, whether or not degrees stand beside the matrix.
 fn join_ends(
     adjacency: &mut [u8],
     held: &mut [usize],
@@ -133,21 +150,4 @@ fn join_ends(
         switches: both_reliefs(x, y),
         freed: cut_off(n, x),
     }
-}
-
-// Joins v and w, and keeps the degrees.
-pub fn join(
-    adjacency: &mut [u8],
-    held: &mut [usize; MOST_VERTICES],
-    starts: &[usize; STARTS],
-    n: usize,
-    v: End,
-    w: End,
-) -> JoinDone
-    requires { ⌜ Joinable n (classFrom (now starts)) (now adjacency) (v .at) (w .at) × (now held ≡ degreesOf n (now adjacency)) × Placed n (now starts) (now adjacency) v (w .at) × Placed n (now starts) (now adjacency) w (v .at) ⌝ }
-    ensures { λ r. ⌜ (r .switches ≡ joinSwitches n (classFrom (now (starts .entry))) (now (adjacency .entry)) (v .at) (w .at)) × (r .freed ≡ freed n (classFrom (now (starts .entry))) (now (adjacency .entry)) (v .at) (w .at)) ⌝ }
-    ensures { λ _. ⌜ now (adjacency .exit) ≡ joinBytes n (classFrom (now (starts .entry))) (now (adjacency .entry)) (v .at) (w .at) ⌝ }
-    ensures { λ _. ⌜ now (held .exit) ≡ degreesOf n (joinBytes n (classFrom (now (starts .entry))) (now (adjacency .entry)) (v .at) (w .at)) ⌝ }
-{
-    join_ends(adjacency, held, starts, n, v, w)
 }
