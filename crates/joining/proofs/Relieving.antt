@@ -1,12 +1,10 @@
--- Making room at a vertex, and joining: the choices, the degrees in the array, the count of switches, and what holds for the next step.
+-- Making room at a vertex, and joining: the switches, what each step asks for, the degrees beside the matrix, and what holds for the next step.
 -- Assumes nothing.
 use mathlib.Core.Path.{_≡_, refl, sym, _∙_}
 use mathlib.Core.Bool.{Bool, true, false, cond}
 use mathlib.Core.List.{List}
-use mathlib.Core.Logic.{_≢_}
 use Prim.Native.Nat.{ℕ, _+_, _<_}
 use native.Mathlib.Omega.{arith}
-use lib.ListN.{length, getD}
 use borrow.Author.Tests.{ltb-false, le-ltb}
 use Rattle.finite.specs.Range.{δ}
 use Rattle.finite.proofs.Delta.{δ-other}
@@ -18,11 +16,11 @@ use Rattle.graph.proofs.Switch.{switch-works}
 use Rattle.graph.proofs.Join.{Ready}
 use Rattle.graph.proofs.Resume.{relief-degree}
 use Rattle.graph.proofs.Update.{degree-adds}
-use Rattle.adjacency.specs.Adjacency.{adjacencySize, side, edge, setEdge}
+use Rattle.adjacency.specs.Adjacency.{edge, setEdge}
 use Rattle.adjacency.proofs.Set.{set-length, set-adds}
 use Rattle.joining.specs.Join.{own, substituteAt, transferAt, switchAt, neighborSwitch, relieveBytes, inOrder, joinSwitches}
 use Rattle.classes.specs.Inner.Block.{classFrom}
-use Rattle.joining.specs.Inner.Work.{DegreesKept, withEdge, withoutEdge, Joinable, Placed, reliefOf, bothReliefs, cutOff, freed}
+use Rattle.joining.specs.Inner.Work.{DegreesKept, withEdge, withoutEdge, Unlinkable, Linkable, Joinable, Placed, reliefOf, bothReliefs, cutOff, freed}
 use Rattle.join_records.specs.Inner.Bytes.{InBytes}
 use Rattle.answer.specs.Switches.{noSwitch, firstSwitch, secondSwitch}
 use Rattle.answer.specs.declared.switches.Switch.{Switch}
@@ -95,8 +93,7 @@ module _ {n : ℕ} {cls : ℕ → ℕ} {g : List ℕ} {a o : ℕ} (j : Joinable 
   removes : AddsEdge n (edge (setEdge g a (t j) 0)) a (t j) (edge g)
   removes = switch-removes n cls (j .table) g a o (j .sized) (j .few) (j .target) (j .partial) (j .pair) full
 
-  pub unlinkable : (length g ≡ adjacencySize) × (a < side) × (transferAt n cls g a o < side) × (a ≢ transferAt n cls g a o)
-      × (0 < length held → (length held ≡ side) × (0 < getD held a 0) × (0 < getD held (transferAt n cls g a o) 0))
+  pub unlinkable : Unlinkable g held a (transferAt n cls g a o)
   unlinkable = (
     j .sized,
     omega (arith, j .few, j .pair .first),
@@ -118,11 +115,7 @@ module _ {n : ℕ} {cls : ℕ → ℕ} {g : List ℕ} {a o : ℕ} (j : Joinable 
         j .target .classed v l,
       )
 
-  pub linkable-b : (length (setEdge g a (transferAt n cls g a o) 0) ≡ adjacencySize) × (substituteAt n cls g a o < side) × (transferAt n cls g a o < side)
-      × (substituteAt n cls g a o ≢ transferAt n cls g a o)
-      × (0 < length (withoutEdge held a (transferAt n cls g a o))
-      → (length (withoutEdge held a (transferAt n cls g a o)) ≡ side) × (getD (withoutEdge held a (transferAt n cls g a o)) (substituteAt n cls g a o) 0 < degrees)
-      × (getD (withoutEdge held a (transferAt n cls g a o)) (transferAt n cls g a o) 0 < degrees))
+  pub linkable-b : Linkable (setEdge g a (transferAt n cls g a o) 0) (withoutEdge held a (transferAt n cls g a o)) (substituteAt n cls g a o) (transferAt n cls g a o)
   linkable-b = (
     set-length g a (t j) 0 ∙ j .sized,
     omega (arith, j .few, chosen j full .b-vertex),
@@ -140,8 +133,7 @@ module _ {n : ℕ} {cls : ℕ → ℕ} {g : List ℕ} {a o : ℕ} (j : Joinable 
 
 -- what adding the edge a – o asks for, and what it leaves
 module _ {n : ℕ} {cls : ℕ → ℕ} {g held : List ℕ} {a o : ℕ} (j : Joinable n cls g a o) (is : DegreesKept n held g) where
-  pub linkable : degree n (edge g) a < cls a → degree n (edge g) o < cls o → (length g ≡ adjacencySize) × (a < side) × (o < side) × (a ≢ o)
-      × (0 < length held → (length held ≡ side) × (getD held a 0 < degrees) × (getD held o 0 < degrees))
+  pub linkable : degree n (edge g) a < cls a → degree n (edge g) o < cls o → Linkable g held a o
   linkable room-a room-o = (
     j .sized,
     omega (arith, j .few, j .pair .first),

@@ -2,18 +2,16 @@
 // have so far; where it is empty they are counted when they are asked for.
 ghost use mathlib.Core.Path.{_≡_};
 ghost use mathlib.Core.Bool.{false};
-ghost use mathlib.Core.Logic.{_≢_};
 ghost use Prim.Native.Nat.{ℕ, _+_, _*_, _≤_, _<_};
 ghost use lib.Dec.{leb};
-ghost use lib.ListN.{length, getD};
+ghost use lib.ListN.{length};
 ghost use Rattle.finite.specs.Range.{allTo};
 ghost use Rattle.graph.specs.Graph.{degree};
 ghost use Rattle.graph.specs.Switch.{unsaturated, canTransfer, transfer};
-ghost use Rattle.graph.specs.Tests.{degrees};
 ghost use Rattle.adjacency.specs.Adjacency.{adjacencySize, side, edge, setEdge};
 ghost use Rattle.classes.specs.Inner.Block.{classFrom};
 ghost use Rattle.joining.specs.Join.{own, substituteAt, neighborSwitch, switchAt};
-ghost use Rattle.joining.specs.Inner.Work.{lanes, DegreesKept, withEdge, withoutEdge, Joinable, Placed, canStandIn};
+ghost use Rattle.joining.specs.Inner.Work.{lanes, DegreesKept, withEdge, withoutEdge, Unlinkable, Linkable, Joinable, Placed, canStandIn};
 use crate::End;
 use adjacency::SIDE;
 use adjacency::degree_of;
@@ -147,7 +145,7 @@ fn choose_transfer(adjacency: &[u8], n: usize, a: usize, b: usize) -> usize
 
 // The edge v – w removed.
 fn unlink(adjacency: &mut [u8], held: &mut [usize], v: usize, w: usize)
-    requires { ⌜ (length (now adjacency) ≡ adjacencySize) × (v < side) × (w < side) × (v ≢ w) × (0 < length (now held) → (length (now held) ≡ side) × (0 < getD (now held) v 0) × (0 < getD (now held) w 0)) ⌝ }
+    requires { ⌜ Unlinkable (now adjacency) (now held) v w ⌝ }
     ensures { λ _. ⌜ now (adjacency .exit) ≡ setEdge (now (adjacency .entry)) v w 0 ⌝ }
     ensures { λ _. ⌜ now (held .exit) ≡ withoutEdge (now (held .entry)) v w ⌝ }
 {
@@ -160,7 +158,7 @@ fn unlink(adjacency: &mut [u8], held: &mut [usize], v: usize, w: usize)
 
 // The edge v – w added.
 pub fn link(adjacency: &mut [u8], held: &mut [usize], v: usize, w: usize)
-    requires { ⌜ (length (now adjacency) ≡ adjacencySize) × (v < side) × (w < side) × (v ≢ w) × (0 < length (now held) → (length (now held) ≡ side) × (getD (now held) v 0 < degrees) × (getD (now held) w 0 < degrees)) ⌝ }
+    requires { ⌜ Linkable (now adjacency) (now held) v w ⌝ }
     ensures { λ _. ⌜ now (adjacency .exit) ≡ setEdge (now (adjacency .entry)) v w 1 ⌝ }
     ensures { λ _. ⌜ now (held .exit) ≡ withEdge (now (held .entry)) v w ⌝ }
 {

@@ -3,6 +3,7 @@
 use mathlib.Core.Path.{_≡_}
 use mathlib.Core.Bool.{Bool, false, _&&_, not, cond}
 use mathlib.Core.List.{List}
+use mathlib.Core.Logic.{_≢_}
 use Prim.Native.Nat.{ℕ, _+_, _-_, _≤_, _<_}
 use lib.Dec.{eqb, ltb}
 use lib.ListN.{length, getD, set, replicate}
@@ -12,7 +13,7 @@ use Rattle.graph.specs.Target.{Target, Partial, Open}
 use Rattle.graph.specs.Switch.{unsaturated}
 use Rattle.graph.specs.Tests.{degrees}
 use Rattle.layout.specs.Layout.{mostVertices}
-use Rattle.adjacency.specs.Adjacency.{adjacencySize, edge}
+use Rattle.adjacency.specs.Adjacency.{adjacencySize, side, edge}
 use Rattle.answer.specs.declared.switches.Switch.{Switch}
 use Rattle.answer.specs.declared.switches.Switches.{Switches}
 use Rattle.answer.specs.declared.switches.Switches.the-variants.{None, One, Two}
@@ -40,6 +41,17 @@ withEdge held v w = set (set held w (getD held w 0 + 1)) v (getD held v 0 + 1)
 
 abbrev pub withoutEdge : List ℕ → ℕ → ℕ → List ℕ
 withoutEdge held v w = set (set held v (getD held v 0 - 1)) w (getD held w 0 - 1)
+
+-- the edge v – w may be removed, or added: there are bytes for it and, where degrees stand beside the matrix, one to take away, or room
+abbrev pub Unlinkable : List ℕ → List ℕ → ℕ → ℕ → Type 0
+Unlinkable g held v w =
+    (length g ≡ adjacencySize) × (v < side) × (w < side) × (v ≢ w)
+    × (0 < length held → (length held ≡ side) × (0 < getD held v 0) × (0 < getD held w 0))
+
+abbrev pub Linkable : List ℕ → List ℕ → ℕ → ℕ → Type 0
+Linkable g held v w =
+    (length g ≡ adjacencySize) × (v < side) × (w < side) × (v ≢ w)
+    × (0 < length held → (length held ≡ side) × (getD held v 0 < degrees) × (getD held w 0 < degrees))
 
 -- v and w may be joined: g is a partial graph of some table, and the pair is open
 pub record Joinable (n : ℕ) (cls : ℕ → ℕ) (g : List ℕ) (v w : ℕ) : Type 0 where
