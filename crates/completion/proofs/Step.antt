@@ -7,12 +7,11 @@ use Prim.Native.Nat.{ℕ, _+_, _*_, _≤_, _<_, min}
 use native.Mathlib.Decide.{decLt}
 use native.Mathlib.Omega.{arith}
 use lib.Dec.{ltb}
-use lib.ListN.{length, getD, take, length-replicate, replicate}
+use lib.ListN.{length, getD, take}
 use lib.Seq.{sets}
 use borrow.Author.Tests.{le-ltb, ltb-false}
 use Rattle.finite.specs.Range.{lowest}
 use Rattle.finite.proofs.Lowest.{lowest-le, lowest-ge, lowest-before}
-use Rattle.finite.proofs.Fold.{fillTo-at}
 use Rattle.answer.specs.Switches.{switchCount}
 use Rattle.answer.specs.declared.switches.Switches.{Switches}
 use Rattle.graph.specs.Graph.{degree}
@@ -21,6 +20,7 @@ use Rattle.graph.specs.Tests.{degrees}
 use Rattle.graph.proofs.Resume.{join-degree}
 use Rattle.layout.specs.Layout.{mostVertices}
 use Rattle.adjacency.specs.Adjacency.{edge}
+use Rattle.joining.proofs.Held.{held-is}
 use Rattle.joining.specs.Join.{own, joinBytes, joinSwitches}
 use Rattle.classes.specs.Inner.Block.{classFrom}
 use Rattle.joining.specs.Inner.Work.{degreesOf, Joinable, Placed, freed}
@@ -45,15 +45,12 @@ low-saturated : (n : ℕ) (cls : ℕ → ℕ) (g held : List ℕ) (k from to low
     → held ≡ degreesOf n g → low ≤ to → Saturated n cls g k low → r ≡ lowest low to (λ i. ltb (getD held i 0) k) → Saturated n cls g k r
 low-saturated n cls g held k from to low r few range eh lt sat er i ir ik = go (decLt i low)
   where
-    held-at : i < to → getD (degreesOf n g) i 0 ≡ degree n (edge g) i
-    held-at h = fillTo-at (degree n (edge g)) (replicate mostVertices 0) n i (rw length-replicate few) (omega (arith, range .within))
-
     go : Dec (i < low) → unsaturated n cls own (edge g) i ≡ false
     go (yes p) = sat i p ik
     go (no p) =
         let passed = lowest-before low to (λ i. ltb (getD held i 0) k) lt i (omega arith) (omega arith) in
         let i-to : i < to = omega (arith, lowest-le low to (λ i. ltb (getD held i 0) k) lt) in
-        rw ik (rw (eh, held-at i-to) at passed)
+        rw ik (rw (held-is n few g eh i (omega (arith, range .within))) at passed)
 
 module _ {n : ℕ} {cls : ℕ → ℕ} {c : Cell} {u : Cursor} {room : ℕ} {s : Ran} {held : List ℕ} (p : Steppable n cls c u room s held) where
   abbrev g : List ℕ

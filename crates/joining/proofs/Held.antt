@@ -1,4 +1,4 @@
--- The array of degrees beside the matrix: what it holds, and that two entries set keep it right after two vertices' degrees change.
+-- The degrees beside the matrix: what the array holds, and that it stays right when an edge is added or removed.
 -- Assumes nothing.
 use mathlib.Core.Path.{_≡_, refl, sym, ap, _∙_}
 use mathlib.Core.Logic.{_≢_}
