@@ -43,7 +43,7 @@ module _ (j : List ℕ) (i : ℕ) where
   slot-too-long h = go (decLt i (blocks j))
     where
       go : Dec (i < blocks j) → slotOk j i ≡ false
-      go (yes l) = slot-used l ∙ rw (lt-leb (slotLength j i) blockMost h, and-false (ltb 0 (slotLength j i)))
+      go (yes l) = slot-used l ∙ rw (lt-leb (slotLength j i) blockMost h)
       go (no l) = slot-unused (omega arith) ∙ rw (ne-eqb (slotLength j i) 0 (λ e. absurd (omega arith)))
 
 pub journal-facts : (j : List ℕ) → journalOk j ≡ true → Facts j
@@ -79,7 +79,7 @@ facts-journal j f =
 
 -- what a block's length says
 pub length-most : (n : ℕ) → blockLength n ≡ true → n ≤ blockMost
-length-most n h = leb-true n blockMost (and-right (ltb 0 n) (leb n blockMost) (and-left (ltb 0 n && leb n blockMost) _ h))
+length-most n h = leb-true n blockMost (and-left (leb n blockMost) _ h)
 
 module _ (j : List ℕ) (f : Facts j) (i : ℕ) (l : i < mostBlocks) where
   pub slot-most : slotLength j i ≤ blockMost

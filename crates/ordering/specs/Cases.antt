@@ -1,12 +1,13 @@
--- More worked examples, of worked's kind: `ordered` are those that show the order of checks, `withIsolated` those of document 02's idle boards.
+-- More worked examples, of worked's kind: `ordered` are those that show the order of checks, `withIsolated` those of document 02's idle boards,
+-- `withEmpty` those of its blocks of no bytes.
 -- Assumes nothing.
 use mathlib.Core.Path.{_≡_}
 use mathlib.Core.Bool.{true}
 use mathlib.Core.List.{List, [], _∷_}
 use Prim.Native.Nat.{ℕ, zero, suc, _+_}
 use lib.ListN.{replicate}
-use Rattle.demands.specs.Calls.{take, layOut, add, remove, complete, list, figures, survey}
-use Rattle.worked.specs.Cases.{Step, _gives_, Case, allHold, taken, held, laidOut, finished, written, report, no, noInto, joined, noJoin, join, sevens, rec}
+use Rattle.demands.specs.Calls.{take, layOut, add, remove, complete, readBack, list, figures, survey}
+use Rattle.worked.specs.Cases.{Step, _gives_, Case, allHold, taken, held, part, laidOut, finished, written, report, no, noInto, joined, noJoin, join, sevens, rec}
 
 -- The order of checks (document 01: "Checks run in table order, among those that concern the call"): calls in which refusals compete, and the
 -- one that is to come out. Left to the tests: survey's 18 on 200 vertices, and 200 isolated vertices laid out. A new block on a laid state with
@@ -19,16 +20,16 @@ pair = rec 1 1 2 []
 abbrev pub pairs : List ℕ
 pairs = rec 1 1 4 []
 
--- blocks that 4 or 5 refuse, under one number: no bytes; 5 and 68 bytes, whose records are bad as well; a bad second record
+-- blocks that 4 or 5 refuse, under one number: 1, 5 and 68 bytes, whose records are bad as well; a bad second record
 abbrev pub malformed : ℕ → List Step → List Step
 malformed number rest =
-    take number [] gives no 4 0 0 ∷ take number (replicate 5 41) gives no 4 0 0 ∷ take number (replicate 68 41) gives no 4 0 0
+    take number (replicate 1 41) gives no 4 0 0 ∷ take number (replicate 5 41) gives no 4 0 0 ∷ take number (replicate 68 41) gives no 4 0 0
     ∷ take number (rec 1 1 2 (rec 2 1 2 [])) gives no 5 1 0 ∷ rest
 
--- n blocks taken
-abbrev pub filled : ℕ → List Step → List Step
-filled zero rest = rest
-filled (suc n) rest = filled n (take n pair gives taken (n + 1) ∷ rest)
+-- b taken n times
+abbrev pub filled : List ℕ → ℕ → List Step → List Step
+filled b zero rest = rest
+filled b (suc n) rest = filled b n (take n b gives taken (n + 1) ∷ rest)
 
 -- the n edges from v to the vertices after it
 abbrev pub star : ℕ → ℕ → List ℕ → List ℕ
@@ -60,7 +61,7 @@ ordered =
     -- with 64 blocks: 4, 5, 6, 7 and held before 8
     ∷ record {
       steps =
-          filled 64 (malformed 64
+          filled pair 64 (malformed 64
           (take 65 pair gives no 6 0 0 ∷ take 63 pairs gives no 7 0 0 ∷ take 63 pair gives held ∷ take 64 pair gives no 8 0 0 ∷ []));
       edges = [];
     }
@@ -152,3 +153,34 @@ withIsolated =
 -- one theorem over the list: proofs/Cases.antt `with-isolated-hold`
 abbrev pub WithIsolatedHold : Type 0
 WithIsolatedHold = allHold withIsolated ≡ true
+
+-- blocks of no bytes (document 02, P4)
+abbrev pub withEmpty : List Case
+withEmpty =
+    -- the first, one between and the last; 6 for a number too high; resent, held; 7 for a full one over it and for it over a full one; read back, a
+    -- part of length 0, while what is not held is 6; N and figures as without them, but for the count of blocks; laid out, held and 7 as before, and 3
+    record {
+      steps =
+          take 1 [] gives no 6 0 0 ∷ take 0 [] gives taken 1 ∷ take 0 [] gives held ∷ take 0 pair gives no 7 0 0
+          ∷ take 1 pair gives taken 2 ∷ take 1 [] gives no 7 0 0 ∷ take 2 [] gives taken 3 ∷ take 3 pairs gives taken 4 ∷ take 4 [] gives taken 5
+          ∷ readBack 0 gives part [] ∷ readBack 1 gives part pair ∷ readBack 4 gives part [] ∷ readBack 5 gives no 6 0 0
+          ∷ layOut gives laidOut 6 ∷ figures gives report 1 5 6 3 0
+          ∷ take 4 [] gives held ∷ take 3 [] gives no 7 0 0 ∷ take 4 pair gives no 7 0 0 ∷ take 5 [] gives no 3 0 0 ∷ take 6 [] gives no 6 0 0
+          ∷ readBack 2 gives part [] ∷ readBack 5 gives no 6 0 0 ∷ [];
+      edges = [];
+    }
+    -- no other block: no vertices
+    ∷ record { steps = take 0 [] gives taken 1 ∷ layOut gives laidOut 0 ∷ complete [] gives finished 0 0 0 [] ∷ []; edges = [] }
+    -- 64 of them, then 8; 6, 7 and held before 8; laid out, 3
+    ∷ record {
+      steps =
+          filled [] 64
+          (take 65 [] gives no 6 0 0 ∷ take 63 pair gives no 7 0 0 ∷ take 63 [] gives held ∷ take 64 [] gives no 8 0 0 ∷ take 64 pair gives no 8 0 0
+          ∷ readBack 63 gives part [] ∷ readBack 64 gives no 6 0 0 ∷ layOut gives laidOut 0 ∷ take 64 [] gives no 3 0 0 ∷ figures gives report 1 64 0 0 0 ∷ []);
+      edges = [];
+    }
+    ∷ []
+
+-- one theorem over the list: proofs/Cases.antt `with-empty-hold`
+abbrev pub WithEmptyHold : Type 0
+WithEmptyHold = allHold withEmpty ≡ true

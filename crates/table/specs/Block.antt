@@ -30,9 +30,9 @@ isDegree x = leb leastDegree x && leb x mostDegree
 abbrev pub madeDegree : ℕ → MadeDegree
 madeDegree x = cond (isDegree x) (Made (record { 0 = x })) OutOfRange
 
--- a block of n bytes: 1 to 16 whole records
+-- a block of n bytes: up to 16 whole records; one of no bytes is a report too, that there is nothing to report (document 02, P4)
 abbrev pub blockLength : ℕ → Bool
-blockLength n = ltb 0 n && leb n blockMost && eqb (n % recordSize) 0
+blockLength n = leb n blockMost && eqb (n % recordSize) 0
 
 -- record i of the block b: k, l, and the count, low byte first
 abbrev pub records : List ℕ → ℕ

@@ -16,11 +16,11 @@ pub const MOST_RECORDS: usize = 16;
 
 pub const BLOCK_MOST: usize = RECORD_SIZE * MOST_RECORDS;
 
-// Whether a block may have n bytes.
+// Whether a block may have n bytes. It may have none.
 pub fn block_length(n: usize) -> bool
     ensures { λ r. ⌜ r ≡ blockLength n ⌝ }
 {
-    (0 < n) & (n <= BLOCK_MOST) & (n % RECORD_SIZE == 0)
+    (n <= BLOCK_MOST) & (n % RECORD_SIZE == 0)
 }
 
 pub fn record_count(block: &[u8], i: usize) -> usize

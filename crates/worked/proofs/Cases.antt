@@ -35,6 +35,7 @@ use Rattle.state.specs.Laid.{vertexCount}
 use Rattle.state.proofs.Checks.{state-go}
 use Rattle.state.proofs.Facts.{valid-facts}
 use Rattle.taking.specs.Take.{takeOnValid, takeJournal}
+use Rattle.reading_back.specs.Held.{heldPart}
 use Rattle.laying_out.specs.LayOut.{laidOut, layOutJournal}
 use Rattle.figures.specs.Figures.{figuresOf}
 use Rattle.adding.specs.Add.{addLaid, addAdjacency}
@@ -78,7 +79,7 @@ answerRest s (remove v w) = six (removeNumbers (removeRest (s .journal) (s .adja
 answerRest s (complete out) =
     let a = completeRest (s .journal) (s .adjacency) (length out) in
     six (completeNumbers a) ++ completeOutput a (s .journal) (s .adjacency) out
-answerRest s (readBack number) = six (lengthNumbers (lengthRest (s .journal) number))
+answerRest s (readBack number) = let a = lengthRest (s .journal) number in six (lengthNumbers a) ++ heldPart a (s .journal) number
 answerRest s (list out) =
     let a = listRest (s .journal) (s .adjacency) (length out) in
     six (writtenNumbers a) ++ listOutput a (s .journal) (s .adjacency) out

@@ -11,7 +11,7 @@ use lib.ListN.{length, replicate}
 use Rattle.answer.specs.Numbers.{Numbers, JoinNumbers, done, takeNumbers, layOutNumbers, addNumbers, removeNumbers, completeNumbers, lengthNumbers, writtenNumbers, figuresNumbers}
 use Rattle.state.specs.Laid.{vertexCount}
 use Rattle.taking.specs.Take.{takeAnswer}
-use Rattle.reading_back.specs.Held.{lengthAnswer}
+use Rattle.reading_back.specs.Held.{lengthAnswer, heldPart}
 use Rattle.laying_out.specs.LayOut.{layOutAnswer}
 use Rattle.figures.specs.Figures.{figuresAnswer}
 use Rattle.adding.specs.Add.{addAnswer}
@@ -28,7 +28,7 @@ six n = n .number ∷ n .first ∷ n .second ∷ n .third ∷ n .fourth ∷ n .f
 abbrev pub nine : JoinNumbers → List ℕ
 nine n = n .number ∷ n .first ∷ n .second ∷ n .a1 ∷ n .b1 ∷ n .t1 ∷ n .a2 ∷ n .b2 ∷ n .t2 ∷ []
 
--- what a call hands back: its answer in document 01's numbers, then the bytes of its output
+-- what a call hands back: its answer in document 01's numbers, then the bytes of its output, or of the part that it reads back
 abbrev pub answerOf : State → Call → List ℕ
 answerOf s (take number b) = six (takeNumbers (takeAnswer (s .journal) (s .adjacency) number b))
 answerOf s layOut = six (layOutNumbers (layOutAnswer (s .journal) (s .adjacency)))
@@ -37,7 +37,9 @@ answerOf s (remove v w) = six (removeNumbers (removeAnswer (s .journal) (s .adja
 answerOf s (complete out) =
     let a = completeAnswer (s .journal) (s .adjacency) (length out) in
     six (completeNumbers a) ++ completeOutput a (s .journal) (s .adjacency) out
-answerOf s (readBack number) = six (lengthNumbers (lengthAnswer (s .journal) (s .adjacency) number))
+answerOf s (readBack number) =
+    let a = lengthAnswer (s .journal) (s .adjacency) number in
+    six (lengthNumbers a) ++ heldPart a (s .journal) number
 answerOf s (list out) =
     let a = listAnswer (s .journal) (s .adjacency) (length out) in
     six (writtenNumbers a) ++ listOutput a (s .journal) (s .adjacency) out
@@ -79,13 +81,16 @@ abbrev pub allHold : List Case → Bool
 allHold [] = true
 allHold (c ∷ cs) = holds c && allHold cs
 
--- answers by name: a block taken, with the number of the next; a block held; N laid out; joins, switches and output of a finish; an output with
--- its written length; the figures; a refusal, with the output as it was
+-- answers by name: a block taken, with the number of the next; a block held; a block read back, with its length; N laid out; joins, switches and
+-- output of a finish; an output with its written length; the figures; a refusal, with the output as it was
 abbrev pub taken : ℕ → List ℕ
 taken next = six (done 0 next)
 
 abbrev pub held : List ℕ
 held = six (done 1 0)
+
+abbrev pub part : List ℕ → List ℕ
+part b = six (done (length b) 0) ++ b
 
 abbrev pub laidOut : ℕ → List ℕ
 laidOut n = six (done n 0)
