@@ -20,7 +20,7 @@ use Rattle.state.proofs.Facts.{lengths-journal, valid-journal}
 use Rattle.taking.specs.Take.{takeAnswer, takeJournal}
 use Rattle.laying_out.specs.LayOut.{layOutAnswer, layOutJournal}
 use Rattle.clearing.proofs.Cleared.{cleared-state}
-use Rattle.taking.proofs.Take.{taken-facts, held-facts, stored-low, stored-same}
+use Rattle.taking.proofs.Take.{taken-facts, held-facts, facts-held, take-differs, stored-low, stored-same}
 use Rattle.reading_back.proofs.Held.{read-back}
 use Rattle.demands.specs.Calls.{Call, take, layOut, add, remove, complete, readBack, list, figures, survey, State, cleared, after, afterAll}
 use Rattle.demands.specs.Tally.{Tally, noTally, told, tally, tallyAll}
@@ -155,6 +155,13 @@ reads-back =
     held : (calls : List Call) (number : ℕ) (b : List ℕ) → Has (afterAll cleared calls) number b → Holds (afterAll cleared calls) number b
     held calls number b h =
         let r = reach calls in
-        let q = read-back (afterAll cleared calls .journal) (afterAll cleared calls .adjacency) number
-        (record { lengths = r .lengths; sound = r .sound; low = h .low }) in
-        record { low = h .low; sized = q .0 ∙ ap (λ (x : List ℕ). Length (length x)) (h .same); same = q .1 ∙ h .same }
+        let j = afterAll cleared calls .journal in
+        let g = afterAll cleared calls .adjacency in
+        let q = read-back j g number (record { lengths = r .lengths; sound = r .sound; low = h .low }) in
+        record {
+          low = h .low;
+          sized = q .0 ∙ ap (λ (x : List ℕ). Length (length x)) (h .same);
+          same = q .1 ∙ h .same;
+          resent = facts-held j g number b (record { lengths = r .lengths; sound = r .sound; low = h .low; same = h .same });
+          differs = λ b′ w other. take-differs j g number b′ (r .lengths) (r .sound) w (h .low) (λ e. other (sym (h .same) ∙ e));
+        }

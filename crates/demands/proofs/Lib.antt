@@ -2,6 +2,7 @@ pub mod Chains
 pub mod Demand1
 pub mod Reach
 pub mod Kept
+pub mod EmptyBlocks
 pub mod Demand2
 pub mod Demand3
 pub mod Uses

@@ -6,6 +6,7 @@ pub mod Demand1
 pub mod Demand2
 pub mod Demand3
 pub mod ReadBack
+pub mod EmptyBlocks
 pub mod Listed
 pub mod Playback
 pub mod Isolated

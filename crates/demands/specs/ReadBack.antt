@@ -1,20 +1,29 @@
 -- What is read back is what was taken, after every list of calls from a cleared state.
 -- Assumes nothing.
 use mathlib.Core.Path.{_≡_}
+use mathlib.Core.Bool.{true}
 use mathlib.Core.List.{List}
 use Prim.Native.Nat.{ℕ, _<_}
 use lib.ListN.{length}
+use Rattle.answer.specs.Refusals.{refusal}
+use Rattle.answer.specs.declared.Cause.the-variants.{Conflict}
+use Rattle.answer.specs.declared.TakeAnswer.the-variants.{Held, Refused}
 use Rattle.answer.specs.declared.LengthAnswer.the-variants.{Length}
+use Rattle.table.specs.Block.{wellFormed}
 use Rattle.journal.specs.Journal.{blocks}
+use Rattle.taking.specs.Take.{takeAnswer}
 use Rattle.reading_back.specs.Held.{lengthAnswer, heldPart}
 use Rattle.demands.specs.Calls.{Call, State, cleared, afterAll}
 use Rattle.demands.specs.Accepted.{AcceptedIn}
 
--- under this number the state holds block b: it is one of its blocks, and reading it back gives b's length and b's bytes
+-- under this number the state holds block b: it is one of its blocks; reading it back gives b's length and b's bytes; b sent again is held, and any
+-- other block is 7
 pub record Holds (s : State) (number : ℕ) (b : List ℕ) : Type 0 where
   pub low : number < blocks (s .journal)
   pub sized : lengthAnswer (s .journal) (s .adjacency) number ≡ Length (length b)
   pub same : heldPart (lengthAnswer (s .journal) (s .adjacency) number) (s .journal) number ≡ b
+  pub resent : takeAnswer (s .journal) (s .adjacency) number b ≡ Held
+  pub differs : (b′ : List ℕ) → wellFormed b′ ≡ true → (b ≡ b′ → ⊥) → takeAnswer (s .journal) (s .adjacency) number b′ ≡ Refused (refusal Conflict 0 0)
 
 pub record ReadsBack : Type 0 where
   -- every block answered as taken or held is held from then on, whatever calls came after it ..

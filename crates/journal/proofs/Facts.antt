@@ -2,7 +2,7 @@
 -- Assumes nothing.
 use mathlib.Core.Path.{_≡_, sym, _∙_}
 use mathlib.Core.Bool.{Bool, true, false, _&&_, cond}
-use mathlib.Core.List.{List}
+use mathlib.Core.List.{List, []}
 use Prim.Native.Nat.{ℕ, _+_, _≤_, _<_}
 use native.Mathlib.Decide.{decLt}
 use native.Mathlib.Omega.{arith}
@@ -14,6 +14,7 @@ use Rattle.finite.specs.Range.{allTo}
 use Rattle.finite.proofs.All.{and-left, and-right, and-both, and-false, allTo-at, allTo-holds}
 use Rattle.slices.specs.Slices.{allZero}
 use Rattle.table.specs.Block.{blockMost, blockLength, records, firstBad, wellFormed}
+use Rattle.table.proofs.Empty.{empty-well-formed}
 use Rattle.journal.specs.Journal.{journalSize, mostBlocks, phase, blocks, slotAt, slotLength, blockAt, slotRest, slotOk, journalOk}
 
 -- phase 0 or 1; at most 64 blocks; a used slot has a block's length and good records, an unused one length 0; zeros behind
@@ -45,6 +46,21 @@ module _ (j : List ℕ) (i : ℕ) where
       go : Dec (i < blocks j) → slotOk j i ≡ false
       go (yes l) = slot-used l ∙ rw (lt-leb (slotLength j i) blockMost h)
       go (no l) = slot-unused (omega arith) ∙ rw (ne-eqb (slotLength j i) 0 (λ e. absurd (omega arith)))
+
+  -- a slot of length 0, all of it zero, is ok: used, it holds the block of no bytes, and only the count of blocks tells it from an unused one
+  pub empty-slot : slotLength j i ≡ 0 → allZero (slotRest j i) ≡ true → slotOk j i ≡ true
+  unfolding usedOk
+  empty-slot e z = go (decLt i (blocks j))
+    where
+      none : blockAt j i ≡ []
+      none = rw e
+
+      well-formed : usedOk j i ≡ true
+      well-formed = rw (none, e) empty-well-formed
+
+      go : Dec (i < blocks j) → slotOk j i ≡ true
+      go (yes l) = slot-used l ∙ and-both (usedOk j i) (allZero (slotRest j i)) well-formed z
+      go (no l) = slot-unused (omega arith) ∙ and-both (eqb (slotLength j i) 0) (allZero (slotRest j i)) (eq-eqb (slotLength j i) 0 e) z
 
 pub journal-facts : (j : List ℕ) → journalOk j ≡ true → Facts j
 unfolding usedOk

@@ -2,13 +2,13 @@
 -- Assumes nothing.
 use mathlib.Core.Path.{_≡_, sym, ap, _∙_}
 use mathlib.Core.Bool.{true}
-use mathlib.Core.List.{List, _∷_}
+use mathlib.Core.List.{List, [], _∷_}
 use Prim.Native.Nat.{ℕ, suc, _+_, _≤_, _<_}
 use native.Mathlib.Nat.{add-zero}
 use native.Mathlib.Decide.{ℕ-discrete, decLt}
 use native.Mathlib.Omega.{arith}
-use lib.ListN.{length, getD, take, drop, length-set}
-use lib.Seq.{sets, length-sets, getD-set-same, getD-set-other, ext-getD}
+use lib.ListN.{length, getD, set, take, drop, length-set}
+use lib.Seq.{sets, length-sets, getD-set-same, getD-set-other, set-getD, ext-getD}
 use Rattle.finite.proofs.Sum.{sumTo-more, sumTo-cong}
 use Rattle.finite.specs.Range.{sumTo}
 use Rattle.graph.proofs.Counts.{same-table}
@@ -156,3 +156,11 @@ module _ (j b : List ℕ) (size : length j ≡ journalSize) (ok : journalOk j �
 
   pub table-stored : tableOf (stored j b) ≡ plus (tableOf j) b
   table-stored = same-table (λ k l. sum-stored (λ b. blockCell b k l)) (sum-stored blockIsolated)
+
+-- storing the block of no bytes counts it, and writes no other byte: its slot is zero already
+pub stored-empty : (j : List ℕ) → journalOk j ≡ true → blocks j < mostBlocks → stored j [] ≡ set j 1 (blocks j + 1)
+stored-empty j ok room = ap (λ (x : List ℕ). set x 1 (blocks j + 1)) unchanged
+  where
+    unchanged : set j (slotAt (blocks j)) 0 ≡ j
+    unchanged =
+        ap (set j (slotAt (blocks j))) (sym (journal-facts j ok .unused (blocks j) (omega arith) room)) ∙ set-getD j (slotAt (blocks j)) 0

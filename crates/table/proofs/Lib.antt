@@ -1,3 +1,4 @@
 pub mod Block
 pub mod Made
 pub mod Matrix
+pub mod Empty

@@ -170,6 +170,17 @@ module _ (j g : List ℕ) (number : ℕ) (b : List ℕ) where
         eq-same-bytes (blockAt j number) b (f .same),
       )
 
+  -- any other block under the number of a held one is refused with 7, in either phase
+  pub take-differs : lengthsOk j g ≡ true → valid j g ≡ true → wellFormed b ≡ true → number < blocks j → (blockAt j number ≡ b → ⊥)
+      → takeAnswer j g number b ≡ Refused (refusal Conflict 0 0)
+  take-differs l v h low other =
+      take-numbered l v h
+      ∙ rw (le-leb number (blocks j) (omega arith), lt-ltb number (blocks j) low, go (sameBlock j number b) refl)
+    where
+      go : (t : Bool) → sameBlock j number b ≡ t → sameBlock j number b ≡ false
+      go true e = absurd (other (same-bytes-eq (blockAt j number) b e))
+      go false e = e
+
   -- and changes nothing
   pub held-keeps : takeAnswer j g number b ≡ Held → takeJournal (takeAnswer j g number b) j b ≡ j
   held-keeps e = rw e

@@ -1,0 +1,71 @@
+-- A block of no bytes is one like any other (specs/EmptyBlocks.antt): what holds of blocks, read for this one.
+-- Assumes nothing.
+use mathlib.Core.Path.{_≡_, refl, ap, _∙_}
+use mathlib.Core.Bool.{Bool, true, false, cond}
+use mathlib.Core.List.{[]}
+use Prim.Native.Nat.{_+_, _<_}
+use native.Mathlib.Omega.{arith}
+use lib.ListN.{length}
+use borrow.Author.Tests.{eq-eqb, lt-ltb}
+use Rattle.graph.specs.Graph.{DegreeTable}
+use Rattle.table.proofs.Block.{other-length}
+use Rattle.table.proofs.Empty.{empty-well-formed, empty-adds}
+use Rattle.journal.specs.Journal.{mostBlocks, phase, blocks, tableOf}
+use Rattle.journal.proofs.Store.{stored-empty}
+use Rattle.state.proofs.Facts.{valid-journal}
+use Rattle.taking.proofs.Length.{take-length}
+use Rattle.taking.proofs.Take.{TakenFacts, facts-taken, taken-table}
+use Rattle.demands.specs.Calls.{State}
+use Rattle.demands.specs.Tally.{Tally, counts, withBlock}
+use Rattle.demands.specs.EmptyBlocks.{Sound, TakesEmpty, EmptyBlocks}
+use Rattle.demands.proofs.Kept.{reads-back}
+
+module _ (s : State) (sound : Sound s) (taking : phase (s .journal) ≡ 0) (room : blocks (s .journal) < mostBlocks) where
+  facts : TakenFacts (s .journal) (s .adjacency) (blocks (s .journal)) []
+  facts =
+      record {
+        lengths = sound .lengths;
+        sound = sound .sound;
+        good = empty-well-formed;
+        next = refl;
+        taking = taking;
+        room = room;
+      }
+
+  takes-empty : TakesEmpty s
+  takes-empty =
+      let a = facts-taken (s .journal) (s .adjacency) (blocks (s .journal)) [] facts in
+      record {
+        answer = a;
+        counted = rw (a, stored-empty (s .journal) (valid-journal (s .journal) (s .adjacency) (sound .sound)) room);
+        adds-nothing = taken-table (s .journal) (s .adjacency) (blocks (s .journal)) [] _ a ∙ empty-adds (tableOf (s .journal));
+      }
+
+-- the tally counts it
+counted : (t : Tally) → t .laid ≡ false → t .blocks < mostBlocks → counts t (t .blocks) [] ≡ true
+counted t e l = rw (empty-well-formed, eq-eqb (t .blocks) (t .blocks) refl, e, lt-ltb (t .blocks) mostBlocks l)
+
+-- one block more, with this table
+withTable : Tally → DegreeTable → Tally
+withTable t u = record { blocks = t .blocks + 1; table = u; laid = t .laid; edges = t .edges }
+
+pub empty-blocks : EmptyBlocks
+unfolding withTable
+empty-blocks =
+    record {
+      taken = takes-empty;
+      held = λ calls number a.
+          let h = reads-back .accepted-held calls number [] a in
+          record {
+            resent = h .resent;
+            full-differs = λ b w l. h .differs b w (λ e. absurd (omega (arith, ap length e)));
+            length-0 = h .sized;
+            part = h .same;
+          };
+      differs = λ calls number b a l. reads-back .accepted-held calls number b a .differs [] empty-well-formed (λ e. absurd (omega (arith, ap length e)));
+      other-lengths = λ s v number b.
+          let four = take-length (s .journal) number b (s .adjacency) (v .lengths) (v .sound) in
+          let other = other-length (length b) in
+          (λ e. other .0 (four .0 e), λ h. four .1 (other .1 h));
+      tallied = λ t e l. ap (λ (c : Bool). cond c (withBlock t []) t) (counted t e l) ∙ ap (withTable t) (empty-adds (t .table));
+    }
