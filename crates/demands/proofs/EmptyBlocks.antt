@@ -8,8 +8,7 @@ use native.Mathlib.Omega.{arith}
 use lib.ListN.{length}
 use borrow.Author.Tests.{eq-eqb, lt-ltb}
 use Rattle.graph.specs.Graph.{DegreeTable}
-use Rattle.table.proofs.Block.{other-length}
-use Rattle.table.proofs.Empty.{empty-well-formed, empty-adds}
+use Rattle.table.proofs.Empty.{empty-well-formed, empty-adds, other-length}
 use Rattle.journal.specs.Journal.{mostBlocks, phase, blocks, tableOf}
 use Rattle.journal.proofs.Store.{stored-empty}
 use Rattle.state.proofs.Facts.{valid-journal}

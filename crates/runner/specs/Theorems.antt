@@ -4,16 +4,16 @@ use mathlib.Core.Path.{_≡_}
 use mathlib.Core.Bool.{_&&_, cond}
 use mathlib.Core.List.{List, [], _++_}
 use mathlib.Core.Logic.{_⊎_}
-use Prim.Native.Nat.{ℕ}
+use Prim.Native.Nat.{ℕ, _*_, _<_}
 use lib.Dec.{eqb, ltb}
-use lib.ListN.{take, replicate}
+use lib.ListN.{length, take, replicate}
 use Rattle.finite.specs.Range.{sumTo, catTo}
 use Rattle.graph.specs.Graph.{Simple, ownJdm, isolated, DegreeTable, edges}
 use Rattle.answer.specs.declared.Refusal.{Refusal}
 use Rattle.answer.specs.declared.Verdict.the-variants.{Go}
 use Rattle.answer.specs.declared.LayOutAnswer.the-variants.{LaidOut}
 use Rattle.answer.specs.declared.CompleteAnswer.the-variants.{Completed}
-use Rattle.table.specs.Block.{blockCell, blockIsolated}
+use Rattle.table.specs.Block.{blockMost, blockCell, blockIsolated}
 use Rattle.graph.specs.Tests.{vertices}
 use Rattle.journal.specs.Journal.{journalSize, tableOf}
 use Rattle.adjacency.specs.Adjacency.{adjacencySize, edge}
@@ -21,6 +21,14 @@ use Rattle.laying_out.specs.LayOut.{layOutAnswer, layOutJournal}
 use Rattle.completion.specs.Complete.{completeAnswer}
 use Rattle.text.specs.Text.{refusedLine, headLine, edgeLine}
 use Rattle.runner.specs.Program.{blocksIn, blockIn, takeAll, recordsMost, programText, inputMost}
+
+-- "cuts them into blocks of 64 bytes (the last may be shorter)": an empty input is no block at all, one of m full blocks is m blocks; no block is
+-- empty, although an empty one would be taken; and the blocks, one behind the other, are the input
+pub record InputCut : Type 0 where
+  pub none : blocksIn [] ≡ 0
+  pub full : (input : List ℕ) (m : ℕ) → length input ≡ blockMost * m → blocksIn input ≡ m
+  pub not-empty : (input : List ℕ) (i : ℕ) → i < blocksIn input → 0 < length (blockIn input i)
+  pub together : (input : List ℕ) → catTo (blocksIn input) (blockIn input) ≡ input
 
 -- what lies behind 65 blocks cannot matter: the program need not read it
 abbrev pub ReadsEnough : Type 0

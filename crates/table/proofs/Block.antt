@@ -1,19 +1,18 @@
--- Which lengths 4 refuses, what a good record is, and what a block adds to the cells: the same to (k, l) as to (l, k), and nothing to a degree out of range.
+-- What a good record is, and what a block adds to the cells: the same to (k, l) as to (l, k), and nothing to a degree out of range.
 -- Assumes nothing.
 use mathlib.Core.Path.{_≡_, refl, sym, _∙_}
 use mathlib.Core.Bool.{Bool, true, false, _&&_, _||_, not, cond, true≢false, and-true, or-true}
 use mathlib.Core.List.{List}
-use mathlib.Core.Logic.{_⊎_, inl, inr, _↔_}
-use Prim.Native.Nat.{ℕ, _%_, _≤_, _<_}
-use native.Mathlib.Decide.{ℕ-discrete, decLt}
+use Prim.Native.Nat.{ℕ, _≤_, _<_}
+use native.Mathlib.Decide.{ℕ-discrete}
 use native.Mathlib.Omega.{arith}
 use lib.Dec.{eqb, leb}
-use borrow.Author.Tests.{leb-true, le-leb, lt-leb, eqb-true, eq-eqb, ne-eqb, not-false}
-use Rattle.finite.proofs.All.{and-left, and-right, and-both, and-false}
+use borrow.Author.Tests.{leb-true, eqb-true, eq-eqb, ne-eqb, not-false}
+use Rattle.finite.proofs.All.{and-left, and-right, and-false}
 use Rattle.finite.proofs.Lowest.{lowest-before}
 use Rattle.finite.proofs.Sum.{sumTo-cong, sumTo-zero}
 use Rattle.graph.specs.Tests.{leastDegree, mostDegree}
-use Rattle.table.specs.Block.{recordSize, blockMost, isDegree, blockLength, records, recordK, recordL, recordCount, ofIsolated, ofCell, goodRecord, firstBad, samePair, recordCell, recordIsolated, blockCell}
+use Rattle.table.specs.Block.{isDegree, records, recordK, recordL, recordCount, ofIsolated, ofCell, goodRecord, firstBad, samePair, recordCell, recordIsolated, blockCell}
 
 -- k and l of a record of isolated vertices
 isolated-zeros : (b : List ℕ) (i : ℕ) → ofIsolated b i ≡ true → (recordK b i ≡ 0) × (recordL b i ≡ 0)
@@ -55,19 +54,6 @@ good-record b i e = go (ofCell b i) refl
         let z : ofIsolated b i ≡ true = rw c at e in
         let zeros = isolated-zeros b i z in
         record { least = λ n. absurd (true≢false (sym z ∙ n)); ordered = omega (arith, zeros); most = omega (arith, zeros) }
-
--- the lengths that 4 refuses: too many bytes, or no whole records
-pub other-length : (n : ℕ) → (blockLength n ≡ false) ↔ ((blockMost < n) ⊎ (n % recordSize ≡ 0 → ⊥))
-other-length n = (λ h. there h (decLt blockMost n), back)
-  where
-    there : blockLength n ≡ false → Dec (blockMost < n) → (blockMost < n) ⊎ (n % recordSize ≡ 0 → ⊥)
-    there h (yes l) = inl l
-    there h (no l) =
-        inr (λ e. true≢false (sym (and-both (leb n blockMost) _ (le-leb n blockMost (omega arith)) (eq-eqb (n % recordSize) 0 e)) ∙ h))
-
-    back : (blockMost < n) ⊎ (n % recordSize ≡ 0 → ⊥) → blockLength n ≡ false
-    back (inl l) = rw (lt-leb n blockMost l)
-    back (inr h) = rw (ne-eqb (n % recordSize) 0 h) (and-false (leb n blockMost))
 
 -- in a block with no bad record each one is good
 pub all-good : (b : List ℕ) → firstBad b ≡ records b → (i : ℕ) → i < records b → goodRecord b i ≡ true
