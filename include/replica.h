@@ -43,7 +43,8 @@
  *   - with k = l = 0 it adds that many isolated vertices.
  *
  * The same pair may come in several records; counts add up.
- * A block is 1 to 16 records, so 4 to 64 bytes.
+ * A block is up to 16 records, so at most 64 bytes and a multiple of 4. One of 0 bytes is a block
+ * too, sent by whoever has nothing to report: it takes a number and adds nothing.
  * An edge list is 2 bytes an edge, v then w, v < w, ascending by v and then w.
  *
  * A switch moves an edge that nobody named. It is three vertices a, b, t: the edge a-t went and the
@@ -143,7 +144,7 @@ enum {
     REPLICA_REFUSED_INVALID = 2,
     /* Not in this phase: laid out already, or not laid out yet. */
     REPLICA_REFUSED_PHASE = 3,
-    /* The block has 0 bytes, more than 64, or not a multiple of 4. */
+    /* The block has more than 64 bytes, or not a multiple of 4. */
     REPLICA_REFUSED_BLOCK_LENGTH = 4,
     /* A record has a degree outside 1 to 40, or k > l; 0, 0 is the only pair with a zero that is
      * allowed. first: index of the first such record. */
@@ -200,6 +201,10 @@ struct ReplicaAnswer replica_clear(uint8_t *journal, size_t journal_length,
  *              answered after laying out too.
  *   second  when new: the number the next block will have
  *
+ * A block of 0 bytes is passed as length 0 and any pointer but NULL, to a byte of yours, say: it is
+ * not read. It is new and held like any other; a block with bytes under its number is 7, and so is
+ * a block of 0 bytes under the number of one with bytes.
+ *
  * Refused: 1, 2, 4, 5, 6 (number above the count of blocks held), 7, 3 (new, but laid out already),
  * 8.
  */
@@ -212,9 +217,9 @@ struct ReplicaAnswer replica_take_block(uint8_t *journal, size_t journal_length,
  * Finds a block that is held. Its bytes lie in your journal, at journal + first.
  *
  *   first   offset of the block in the journal
- *   second  its length in bytes
+ *   second  its length in bytes, 0 for a block of 0 bytes
  *
- * Refused: 1, 2, 6.
+ * Refused: 1, 2, 6. So `number` tells a block of 0 bytes from none.
  */
 struct ReplicaAnswer replica_held_block(const uint8_t *journal, size_t journal_length,
                                         const uint8_t *adjacency, size_t adjacency_length,
@@ -224,7 +229,7 @@ struct ReplicaAnswer replica_held_block(const uint8_t *journal, size_t journal_l
  * Tests that a simple graph has the sum of all blocks, and fixes the vertices. No new block is taken
  * afterwards.
  *
- *   first   the number of vertices, the isolated ones included; 0 if there are no blocks
+ *   first   the number of vertices, the isolated ones included; 0 if the blocks add up to nothing
  *
  * Refused: 1, 2, 3 (laid out already), 9, 10, 11 (no simple graph of any size has this matrix), 12
  * (there is one, but with the isolated vertices it has more than 200). After 9 to 12 further blocks

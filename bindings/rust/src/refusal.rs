@@ -102,7 +102,7 @@ impl fmt::Display for Cause {
             Cause::WrongLength => "the journal or the adjacency matrix has another length",
             Cause::InvalidState => "journal and adjacency matrix are not a valid state",
             Cause::WrongPhase => "the call does not fit the phase",
-            Cause::BlockLength => "a block has 4 to 64 bytes, a multiple of 4",
+            Cause::BlockLength => "a block has at most 64 bytes, a multiple of 4",
             Cause::BadRecord => "a record needs degrees from 1 to 40, the lower first, or 0 and 0",
             Cause::BlockNumber => "no block with this number is held or can come next",
             Cause::BlockDiffers => "another block is held under this number",

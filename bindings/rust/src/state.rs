@@ -180,8 +180,9 @@ impl State {
         Ok(())
     }
 
-    /// Takes a block of 1 to 16 records, of cells or of isolated vertices. Its number must be that of
-    /// the next block, or that of a held block with the same bytes.
+    /// Takes a block of up to 16 records, of cells or of isolated vertices. Its number must be that of
+    /// the next block, or that of a held block with the same bytes. One without records is a block
+    /// too, from whoever has nothing to report: it takes a number and adds nothing.
     ///
     /// ```
     /// # use replica::{Cause, State, Take};
@@ -192,6 +193,8 @@ impl State {
     /// assert_eq!(refusal.cause, Cause::BlockDiffers);
     /// let refusal = state.take_block(1, &[1, 1, 2, 0, 3, 2, 1, 0]).unwrap_err();
     /// assert_eq!((refusal.cause, refusal.places), (Cause::BadRecord, (1, 0)));
+    /// assert_eq!(state.take_block(1, &[]), Ok(Take::Taken(2))); // nothing to report
+    /// assert_eq!(state.take_block(1, &[]), Ok(Take::Held));
     /// ```
     pub fn take_block(&mut self, number: u64, block: &[u8]) -> Result<Take, Refusal> {
         let answer = raw::take_block(&mut self.journal, &self.adjacency, number, block);
@@ -202,14 +205,16 @@ impl State {
         })
     }
 
-    /// The bytes of a held block, lying in the journal.
+    /// The bytes of a held block, lying in the journal; a block without records has none.
     ///
     /// ```
     /// # use replica::{Cause, State};
     /// let mut state = State::new();
     /// state.take_block(0, &[1, 1, 2, 0]).unwrap();
+    /// state.take_block(1, &[]).unwrap();
     /// assert_eq!(state.held_block(0), Ok(&[1, 1, 2, 0][..]));
-    /// assert_eq!(state.held_block(1).unwrap_err().cause, Cause::BlockNumber);
+    /// assert_eq!(state.held_block(1), Ok(&[][..]));
+    /// assert_eq!(state.held_block(2).unwrap_err().cause, Cause::BlockNumber);
     /// ```
     pub fn held_block(&self, number: u64) -> Result<&[u8], Refusal> {
         let answer = raw::held_block(&self.journal, &self.adjacency, number);
