@@ -68,7 +68,7 @@ fn table_of(journal: &[u8; JOURNAL_LENGTH]) -> Option<Table> {
     let (used, unused) = journal[2..].split_at(SLOT_LENGTH * blocks);
     for slot in used.chunks_exact(SLOT_LENGTH) {
         let length = slot[0] as usize;
-        if length == 0 || length > BLOCK_LENGTH || length % 4 != 0 {
+        if length > BLOCK_LENGTH || length % 4 != 0 {
             return None;
         }
         let (block, rest) = slot[1..].split_at(length);

@@ -5,9 +5,32 @@ use reference::journal::record;
 use reference::random::Random;
 use reference::{Table, BLOCK_LENGTH, MOST_BLOCKS, MOST_DEGREE, MOST_VERTICES};
 
+/// The records of a table cut into blocks, now and then with empty ones among them, all of which a
+/// journal has room for.
+pub fn cut(table: &Table, random: &mut Random) -> Vec<Vec<u8>> {
+    let blocks = blocks_of(table, random);
+    with_empty(blocks, random)
+}
+
+/// The same blocks, and now and then empty ones at any place, the first and the last among them:
+/// three at most, or as many as there is room for in a journal.
+fn with_empty(mut blocks: Vec<Vec<u8>>, random: &mut Random) -> Vec<Vec<u8>> {
+    let room = MOST_BLOCKS.saturating_sub(blocks.len());
+    let more = match random.below(60) {
+        0 => room,
+        1..=15 => random.between(1, 3).min(room),
+        _ => 0,
+    };
+    for _ in 0..more {
+        let place = random.below(blocks.len() + 1);
+        blocks.insert(place, Vec::new());
+    }
+    blocks
+}
+
 /// The records of a table cut into blocks: some counts split over several records, some records
 /// of count 0 among them, all in random order.
-pub fn cut(table: &Table, random: &mut Random) -> Vec<Vec<u8>> {
+fn blocks_of(table: &Table, random: &mut Random) -> Vec<Vec<u8>> {
     let mut counts = table.matrix.nonzero_cells();
     if table.isolated > 0 {
         counts.push((0, 0, table.isolated));
@@ -54,9 +77,12 @@ fn any_pair(most: usize, random: &mut Random) -> (usize, usize) {
     degrees(most, random)
 }
 
-/// A well-formed block of records with degrees and counts up to the given ones.
+/// A well-formed block of records with degrees and counts up to the given ones, now and then empty.
 pub fn any_block(most_degree: usize, most_count: usize, random: &mut Random) -> Vec<u8> {
     let mut block = Vec::new();
+    if random.chance(15) {
+        return block;
+    }
     for _ in 0..random.between(1, 16) {
         let (k, l) = any_pair(most_degree, random);
         block.extend(record(k, l, random.below(most_count + 1) as u64));
@@ -67,12 +93,13 @@ pub fn any_block(most_degree: usize, most_count: usize, random: &mut Random) -> 
 /// A block with one thing changed. It may be malformed, or well-formed but another one.
 pub fn spoil(block: &[u8], random: &mut Random) -> Vec<u8> {
     let mut spoiled = block.to_vec();
-    let records = (block.len() / 4).max(1);
-    let start = 4 * random.below(records);
-    if spoiled.len() < start + 4 {
-        return random.bytes(3);
+    let records = block.len() / 4;
+    if records == 0 {
+        return instead_of_none(random);
     }
+    let start = 4 * random.below(records);
     match random.below(11) {
+        // Another well-formed block.
         0 => spoiled.clear(),
         1 => spoiled.truncate(block.len() - random.between(1, 4)),
         2 => spoiled.push(0),
@@ -95,6 +122,16 @@ pub fn spoil(block: &[u8], random: &mut Random) -> Vec<u8> {
     spoiled
 }
 
+/// What comes in place of no record: one, or bytes that are none. A record of nothing leaves only the
+/// length to tell it from an empty block.
+fn instead_of_none(random: &mut Random) -> Vec<u8> {
+    match random.below(3) {
+        0 => record(1, 2, 1).to_vec(),
+        1 => record(0, 0, 0).to_vec(),
+        _ => random.bytes(3),
+    }
+}
+
 /// How large the tables of a call list may be.
 #[derive(Clone, Copy, Debug)]
 pub enum Size {
@@ -113,10 +150,11 @@ impl Size {
     }
 }
 
-/// The blocks a call list sends: of a table with a graph, of one nearly so, or of any table.
+/// The blocks a call list sends: of a table with a graph, of one nearly so, or of any table, and
+/// empty ones at any place.
 pub fn plan(size: Size, random: &mut Random) -> Vec<Vec<u8>> {
     let graph = graphs::any(size.most_vertices(), random);
-    match random.below(15) {
+    let blocks = match random.below(16) {
         0 | 5 => nearly(&graph, random),
         1 => (0..random.between(1, 3))
             .map(|_| any_block(4, 6, random))
@@ -127,13 +165,15 @@ pub fn plan(size: Size, random: &mut Random) -> Vec<Vec<u8>> {
             .map(|_| any_block(MOST_DEGREE, 65_535, random))
             .collect(),
         6 => only_isolated(random),
-        _ => cut(&graph.table(), random),
-    }
+        7 => only_empty(random),
+        _ => blocks_of(&graph.table(), random),
+    };
+    with_empty(blocks, random)
 }
 
 /// A table with a graph, and one record more: it may have none any more.
 fn nearly(graph: &Graph, random: &mut Random) -> Vec<Vec<u8>> {
-    let mut blocks = cut(&graph.table(), random);
+    let mut blocks = blocks_of(&graph.table(), random);
     blocks.truncate(MOST_BLOCKS - 1);
     let used = graph.degrees().into_iter().max().unwrap_or(0);
     let (k, l) = degrees((used + 1).min(MOST_DEGREE), random);
@@ -156,7 +196,7 @@ fn even_multiple(k: usize, l: usize) -> usize {
 /// A table with a graph, and as many vertices more, by single edges or isolated, as bring their
 /// number near its bound.
 fn many_vertices(graph: &Graph, random: &mut Random) -> Vec<Vec<u8>> {
-    let mut blocks = cut(&graph.table(), random);
+    let mut blocks = blocks_of(&graph.table(), random);
     blocks.truncate(MOST_BLOCKS - 1);
     let room = MOST_VERTICES - graph.vertices();
     let count = (room + random.below(5)).saturating_sub(2);
@@ -175,7 +215,16 @@ fn only_isolated(random: &mut Random) -> Vec<Vec<u8>> {
         3 => random.below(67_000_000) as u64,
         _ => *random.pick(&[around - 1, around, around + 1]),
     };
-    cut(&Table::of(&[], count), random)
+    blocks_of(&Table::of(&[], count), random)
+}
+
+/// Empty blocks and nothing else: a few, or as many as a journal holds and one more.
+fn only_empty(random: &mut Random) -> Vec<Vec<u8>> {
+    let count = match random.below(3) {
+        0 => MOST_BLOCKS + 1,
+        _ => random.between(1, 5),
+    };
+    vec![Vec::new(); count]
 }
 
 /// As many blocks as a journal holds and one more, nearly all of them adding nothing.

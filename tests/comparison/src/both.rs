@@ -61,6 +61,7 @@ impl Both {
         self.output = after.output;
         self.count.answered(call.entry(), &numbers);
         self.count_isolated(&call, &numbers);
+        self.count_empty(&call, &numbers);
         numbers
     }
 
@@ -102,6 +103,36 @@ impl Both {
                 let beyond = |byte: &u8| u64::from(*byte) >= *total;
                 count.totals += u64::from(*total > 200);
                 count.beyond += u64::from(*total < 200 && edges.iter().any(beyond));
+            }
+            _ => {}
+        }
+    }
+
+    /// Counts the answers in which a block of no bytes has a part.
+    fn count_empty(&mut self, call: &Call, numbers: &Numbers) {
+        let count = &mut self.count.empty;
+        let is_empty = |i: usize| journal::block(&self.journal, i).is_empty();
+        match (call, numbers[0]) {
+            (Call::TakeBlock { block, .. }, answer) if block.is_empty() => match answer {
+                0 if numbers[1] == 0 => count.taken += 1,
+                0 => count.held += 1,
+                6 => count.too_high += 1,
+                7 => count.over_full += 1,
+                3 => count.once_laid += 1,
+                8 => count.no_room += 1,
+                _ => {}
+            },
+            (Call::TakeBlock { number, .. }, 7) => {
+                count.under_full += u64::from(is_empty(*number as usize));
+            }
+            (Call::HeldBlock { .. }, 0) => count.read_back += u64::from(numbers[2] == 0),
+            (Call::LayOut, 0) => {
+                let blocks = journal::block_count(&self.journal);
+                match (0..blocks).filter(|&i| is_empty(i)).count() {
+                    0 => {}
+                    empty if empty < blocks => count.laid += 1,
+                    _ => count.alone += 1,
+                }
             }
             _ => {}
         }

@@ -21,6 +21,7 @@ pub struct Count {
     /// Held blocks compared with what was sent.
     pub read_back: u64,
     pub isolated: Isolated,
+    pub empty: Empty,
     pub moves: Moves,
 }
 
@@ -64,6 +65,60 @@ impl Isolated {
     }
 }
 
+/// Answers in which a block of no bytes has a part. A full one is any with records.
+#[derive(Clone, Debug, Default)]
+pub struct Empty {
+    pub taken: u64,
+    pub held: u64,
+    /// Refused with 6.
+    pub too_high: u64,
+    /// Refused with 7 under the number of a full one.
+    pub over_full: u64,
+    /// A full one refused with 7 under the number of an empty one.
+    pub under_full: u64,
+    /// Refused with 3.
+    pub once_laid: u64,
+    /// Refused with 8.
+    pub no_room: u64,
+    /// Read back, with length 0.
+    pub read_back: u64,
+    /// Laid out with some among the blocks.
+    pub laid: u64,
+    /// Laid out with nothing else.
+    pub alone: u64,
+}
+
+impl Empty {
+    /// What a count is called, and the count.
+    fn named(&self) -> [(&'static str, u64); 10] {
+        [
+            ("taken", self.taken),
+            ("held", self.held),
+            ("number too high", self.too_high),
+            ("over a full one", self.over_full),
+            ("under a full one", self.under_full),
+            ("new once laid", self.once_laid),
+            ("no room", self.no_room),
+            ("read back", self.read_back),
+            ("laid out among others", self.laid),
+            ("laid out alone", self.alone),
+        ]
+    }
+
+    fn add(&mut self, other: &Empty) {
+        self.taken += other.taken;
+        self.held += other.held;
+        self.too_high += other.too_high;
+        self.over_full += other.over_full;
+        self.under_full += other.under_full;
+        self.once_laid += other.once_laid;
+        self.no_room += other.no_room;
+        self.read_back += other.read_back;
+        self.laid += other.laid;
+        self.alone += other.alone;
+    }
+}
+
 impl Count {
     pub fn new() -> Count {
         Count::default()
@@ -103,6 +158,7 @@ impl Count {
         self.pairs_joined += other.pairs_joined;
         self.read_back += other.read_back;
         self.isolated.add(&other.isolated);
+        self.empty.add(&other.empty);
         self.moves.add(&other.moves);
     }
 
@@ -136,8 +192,9 @@ impl Count {
             .isolated
             .named()
             .map(|named| ("isolated vertices", named));
+        let empty = self.empty.named().map(|named| ("empty blocks", named));
         let moves = self.moves.named().map(|named| ("what moved", named));
-        for (of, (name, count)) in isolated.into_iter().chain(moves) {
+        for (of, (name, count)) in isolated.into_iter().chain(empty).chain(moves) {
             if count == 0 {
                 missing.push(format!("{of}, never: {name}"));
             }
@@ -176,6 +233,7 @@ impl Count {
         );
         println!("blocks        {} read back as sent", self.read_back);
         print_named("isolated", &self.isolated.named());
+        print_named("empty blocks", &self.empty.named());
         print_named("what moved", &self.moves.named());
     }
 }

@@ -160,17 +160,18 @@ impl List<'_> {
         }
     }
 
-    /// A block that is resent, spoiled, out of turn, or not of the plan.
+    /// A block that is resent, spoiled, out of turn, empty, or not of the plan.
     fn other_block(&mut self) -> Call {
         let number = self.block_number();
         let planned = match usize::try_from(number) {
             Ok(number) if number < self.plan.len() => self.plan[number].clone(),
             _ => vec![1, 1, 2, 0],
         };
-        let block = match self.random.below(8) {
+        let block = match self.random.below(9) {
             0..=2 => planned,
             3..=5 => blocks::spoil(&planned, &mut self.random),
             6 => blocks::any_block(3, 2, &mut self.random),
+            7 => Vec::new(),
             _ => {
                 let length = self.random.below(80);
                 self.random.bytes(length)

@@ -6,8 +6,9 @@ use crate::both::Both;
 use crate::call::Call;
 use reference::adjacency;
 use reference::graphs::{self, Graph};
+use reference::numbers::refusal;
 use reference::random::Random;
-use reference::{Matrix, Table};
+use reference::{refused, Matrix, Table, MOST_BLOCKS};
 use std::collections::{BTreeMap, BTreeSet};
 
 /// Cells (k, l) with k at most l that are not 0.
@@ -150,7 +151,18 @@ fn take_all(table: &Table, random: &mut Random, both: &mut Both) -> Vec<Vec<u8>>
             take(both, number, block, [0, 1, 0, 0, 0, 0]);
         }
     }
+    if blocks.len() == MOST_BLOCKS {
+        refuse_one_more(both);
+    }
     blocks
+}
+
+/// A full journal takes no more, not even an empty block.
+fn refuse_one_more(both: &mut Both) {
+    let number = MOST_BLOCKS as u64;
+    for block in [&[][..], &[1, 1, 2, 0]] {
+        take(both, number, block, refusal(refused(8)));
+    }
 }
 
 /// Every block lies in the journal as it was sent.

@@ -216,6 +216,37 @@ fn isolated_vertices() {
     }
 }
 
+/// Blocks of no bytes: taken, held and read back, and nothing comes of them.
+#[test]
+fn empty_blocks() {
+    let some: [&[u8]; 2] = [&[1, 3, 1, 0, 2, 2, 2, 0], &[2, 3, 2, 0]];
+    let mut state = State::new();
+    for (number, bytes) in (0..).zip([&[], some[0], &[], some[1], &[]]) {
+        assert_eq!(state.take_block(number, bytes), Ok(Take::Taken(number + 1)));
+    }
+    let held = |state: &mut State| {
+        for number in [0, 2, 4] {
+            assert_eq!(state.take_block(number, &[]), Ok(Take::Held));
+            assert_eq!(state.held_block(number), Ok(&[][..]));
+            assert_eq!(state.records(number).unwrap().count(), 0);
+            let refusal = state.take_block(number, some[0]).unwrap_err();
+            assert_eq!(refusal.cause, Cause::BlockDiffers);
+        }
+        let refusal = state.take_block(1, &[]).unwrap_err();
+        assert_eq!(refusal.cause, Cause::BlockDiffers);
+        assert_eq!(state.held_block(5).unwrap_err().cause, Cause::BlockNumber);
+    };
+    held(&mut state);
+    assert_eq!(state.lay_out(), Ok(4));
+    held(&mut state);
+    let refusal = state.take_block(5, &[]).unwrap_err();
+    assert_eq!(refusal.cause, Cause::WrongPhase);
+    let mut without = laid(&[(1, 3, 1), (2, 2, 2), (2, 3, 2)]);
+    assert!(state.cells().unwrap().eq(without.cells().unwrap()));
+    assert_eq!(complete(&mut state), complete(&mut without));
+    assert_eq!(state.adjacency(), without.adjacency());
+}
+
 fn refusal_of_lay_out(isolated: u16) -> Cause {
     refusal(&[(0, 0, isolated)]).0
 }

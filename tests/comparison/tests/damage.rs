@@ -24,25 +24,27 @@ fn calls() -> [Call; 8] {
     ]
 }
 
-/// States in phase 0: no block, blocks of three lengths, and a full journal.
+/// Empty blocks, which are of no records: the first, two between and the last.
+const WITH_EMPTY: [usize; 6] = [0, 2, 0, 0, 5, 0];
+
+/// States in phase 0: no block, blocks of three lengths, empty ones among others, and a full journal.
 fn states() -> Vec<Both> {
-    let plans: [Vec<usize>; 3] = [
-        vec![],
-        vec![1, 3, 16],
-        (0..64).map(|i| 1 + i % 16).collect(),
-    ];
-    let state = |plan: &Vec<usize>| {
-        let mut both = Both::new("damage");
-        for (number, &records) in (0..).zip(plan) {
-            // Every second block is of isolated vertices.
-            let degree = number as usize % 2;
-            let block = record(1 - degree, 1 - degree, 2).repeat(records);
-            let answer = both.call(Call::TakeBlock { number, block });
-            assert_eq!(answer[..2], [0, 0]);
-        }
-        both
-    };
-    plans.iter().map(state).collect()
+    let full: Vec<usize> = (0..64).map(|i| 1 + i % 16).collect();
+    let plans = [&[][..], &[1, 3, 16], &WITH_EMPTY, &full];
+    plans.map(state).into()
+}
+
+/// A state in phase 0 with blocks of so many records.
+fn state(plan: &[usize]) -> Both {
+    let mut both = Both::new("damage");
+    for (number, &records) in (0..).zip(plan) {
+        // Every second block is of isolated vertices.
+        let degree = number as usize % 2;
+        let block = record(1 - degree, 1 - degree, 2).repeat(records);
+        let answer = both.call(Call::TakeBlock { number, block });
+        assert_eq!(answer[..2], [0, 0]);
+    }
+    both
 }
 
 /// Every byte of the matrix must be 0: each in turn is not, the first and the last among them.
@@ -86,14 +88,16 @@ fn bytes_of_the_matrix_on_both_sides() {
 }
 
 /// Every byte of the journal is another one. Some of these journals are valid: other counts, other
-/// degrees. The reference says which, and behind the blocks none is.
+/// degrees, one empty block more where the count of blocks is raised over a zero slot. The reference
+/// says which, and behind the blocks none is.
 #[test]
 fn every_byte_of_the_journal() {
     for mut both in states() {
         let blocks = both.journal[1] as usize;
         let (mut valid, mut refused) = (0, 0);
         for place in 0..JOURNAL_LENGTH {
-            for byte in [both.journal[place] ^ 1, 255] {
+            // A length of 4 becomes 0, with a record still behind it; one of 0 becomes 4.
+            for byte in [both.journal[place] ^ 1, both.journal[place] ^ 4, 255] {
                 let mut journal = both.journal.clone();
                 journal[place] = byte;
                 let expected = validity::valid(&journal, &both.adjacency);
@@ -109,6 +113,32 @@ fn every_byte_of_the_journal() {
                 *if expected { &mut valid } else { &mut refused } += 1;
             }
         }
-        assert!(refused > 0 && (valid > 0 || blocks == 0));
+        assert!(refused > 0 && valid > 0);
+    }
+}
+
+/// Only the count of blocks tells an empty block from an unused slot. Any count is valid from the last
+/// block with records to 64, laid out or not.
+#[test]
+fn every_count_of_blocks() {
+    let mut last = vec![0; 64];
+    last[63] = 1;
+    let plans: [(&[usize], u8); 5] = [
+        (&[], 0),
+        (&[1], 1),
+        (&WITH_EMPTY, 5),
+        (&[0; 64], 0),
+        (&last, 64),
+    ];
+    for (plan, least) in plans {
+        let mut both = state(plan);
+        for (phase, count) in (0..=255).flat_map(|count| [(0, count), (1, count)]) {
+            both.journal[..2].copy_from_slice(&[phase, count]);
+            let expected = (least..=64).contains(&count);
+            for call in calls() {
+                let answer = both.call_on(both.journal.clone(), both.adjacency.clone(), call);
+                assert_eq!(answer[0] != 2, expected, "phase {phase}, {count} blocks");
+            }
+        }
     }
 }

@@ -66,7 +66,7 @@ fn taking() {
     assert_eq!(take(&mut both, 2, &good), refused(6, 0, 0));
     // Malformed comes first, whatever the number.
     for number in [0, 1, 2, u64::MAX] {
-        for length in [0, 1, 3, 5, 63, 65, 68, 4_096] {
+        for length in [1, 3, 5, 63, 65, 68, 4_096] {
             let block = vec![1; length];
             assert_eq!(take(&mut both, number, &block), refused(4, 0, 0));
         }
@@ -98,7 +98,82 @@ fn taking() {
     assert_eq!(take(&mut both, 0, &[1, 1, 3, 0]), refused(7, 0, 0));
     assert_eq!(take(&mut both, 1, &good), refused(3, 0, 0));
     assert_eq!(take(&mut both, 2, &good), refused(6, 0, 0));
-    assert_eq!(take(&mut both, 1, &[]), refused(4, 0, 0));
+    assert_eq!(take(&mut both, 1, &[1]), refused(4, 0, 0));
+}
+
+/// Every block is held and read back, its place and its length; another one under its number is 7.
+fn all_held(both: &mut Both, blocks: &[&[u8]]) {
+    let next = blocks.len() as u64;
+    for (number, &block) in (0..).zip(blocks) {
+        assert_eq!(take(both, number, block), [0, 1, 0, 0, 0, 0]);
+        // Four zero bytes are a record: only the length tells them from none.
+        for other in [&[][..], &[0; 4], &[1, 1, 2, 0]] {
+            if other != block {
+                assert_eq!(take(both, number, other), refused(7, 0, 0));
+            }
+        }
+        assert_eq!(take(both, number, &[0; 3]), refused(4, 0, 0));
+        let expected = [0, 3 + 65 * number, block.len() as u64, 0, 0, 0];
+        assert_eq!(both.call(Call::HeldBlock { number }), expected);
+    }
+    for number in [next, next + 1, u64::MAX] {
+        let answer = both.call(Call::HeldBlock { number });
+        assert_eq!(answer, refused(6, 0, 0));
+    }
+    assert_eq!(take(both, next + 1, &[]), refused(6, 0, 0));
+}
+
+/// Blocks of no bytes: the first, two between and the last.
+#[test]
+fn empty_blocks() {
+    let mut both = Both::new("empty blocks");
+    let some = PAPER.map(|(k, l, count)| record(k, l, count));
+    let blocks = [&[], &some[0][..], &[], &[], &some[1], &some[2], &[]];
+    for (number, block) in (0..).zip(blocks) {
+        let before = both.journal.clone();
+        assert_eq!(take(&mut both, number, block), [0, 0, number + 1, 0, 0, 0]);
+        // Of an empty block only the count is written.
+        let same = before[2..] == both.journal[2..];
+        assert_eq!(same, block.is_empty());
+        all_held(&mut both, &blocks[..number as usize + 1]);
+    }
+    assert_eq!(both.call(Call::Figures), [0, 0, 7, 0, 0, 0]);
+    assert_eq!(both.call(Call::LayOut), [0, 4, 0, 0, 0, 0]);
+    assert_eq!(both.call(Call::Figures), [0, 1, 7, 4, 4, 0]);
+    let mut without = laid("no empty blocks", &PAPER);
+    for missing in [4, 0] {
+        all_held(&mut both, &blocks);
+        assert_eq!(take(&mut both, 7, &[]), refused(3, 0, 0));
+        assert_eq!(take(&mut both, 7, &[1, 1, 2, 0]), refused(3, 0, 0));
+        assert_eq!(both.complete(missing), without.complete(missing));
+        assert_eq!(both.output, without.output);
+        assert_eq!(both.adjacency, without.adjacency);
+    }
+}
+
+#[test]
+fn sixty_four_empty_blocks() {
+    let mut both = Both::new("64 empty blocks");
+    for number in 0..64 {
+        assert_eq!(take(&mut both, number, &[]), [0, 0, number + 1, 0, 0, 0]);
+    }
+    all_held(&mut both, &[&[][..]; 64]);
+    assert_eq!(take(&mut both, 64, &[]), refused(8, 0, 0));
+    assert_eq!(take(&mut both, 64, &[1, 1, 2, 0]), refused(8, 0, 0));
+    assert_eq!(take(&mut both, 65, &[1, 1, 2, 0]), refused(6, 0, 0));
+    assert_eq!(both.call(Call::LayOut), DONE);
+    all_held(&mut both, &[&[][..]; 64]);
+    // A new block in phase 1 is 3, also with 64 in the journal.
+    assert_eq!(take(&mut both, 64, &[]), refused(3, 0, 0));
+    assert_eq!(take(&mut both, 64, &[1, 1, 2, 0]), refused(3, 0, 0));
+    assert_eq!(both.call(Call::Figures), [0, 1, 64, 0, 0, 0]);
+    assert_eq!(both.complete(0), DONE);
+    // Just one of them, and no vertices either.
+    let mut both = Both::new("one empty block");
+    assert_eq!(take(&mut both, 0, &[]), [0, 0, 1, 0, 0, 0]);
+    assert_eq!(both.call(Call::LayOut), DONE);
+    assert_eq!(both.complete(0), DONE);
+    all_held(&mut both, &[&[]]);
 }
 
 #[test]
@@ -543,6 +618,13 @@ fn single_damaged_bytes() {
     let mut both = laid("single damaged bytes, isolated", &[(2, 2, 8), (0, 0, 2)]);
     add(&mut both, 2, 3);
     add(&mut both, 2, 4);
+    damage(&mut both);
+    let mut both = Both::new("single damaged bytes, empty blocks");
+    for (number, block) in (0..).zip([&[][..], &[2, 2, 8, 0], &[]]) {
+        take(&mut both, number, block);
+    }
+    assert_eq!(both.call(Call::LayOut), [0, 4, 0, 0, 0, 0]);
+    add(&mut both, 0, 1);
     damage(&mut both);
 }
 

@@ -48,7 +48,8 @@ fn run_in_pieces<'a>(mut pieces: impl Iterator<Item = &'a [u8]>, pause: Duration
     })
 }
 
-/// Inputs around full blocks, malformed ends, and the cases of document 01.
+/// The empty input, which has no block, inputs around full blocks, malformed ends, and the cases of
+/// document 01.
 fn fixed_inputs() -> Vec<Vec<u8>> {
     let block = [1, 1, 0, 0].repeat(16);
     let mut inputs: Vec<Vec<u8>> = vec![
@@ -157,7 +158,8 @@ fn long_inputs_in_pieces() {
     }
 }
 
-/// All of the 65th block counts, and nothing behind it.
+/// All of the 65th block counts, and nothing behind it. An input of 64 full blocks has no 65th, not
+/// even an empty one: it is not refused.
 #[test]
 fn the_65th_block() {
     let full = [1, 1, 0, 0].repeat(16 * 64);

@@ -18,9 +18,10 @@ pub fn record(k: usize, l: usize, count: u64) -> [u8; RECORD_LENGTH] {
     [k as u8, l as u8, (count % 256) as u8, (count / 256) as u8]
 }
 
-/// Checks 4 and 5: whether these bytes are a block at all.
+/// Checks 4 and 5: whether these bytes are a block at all. No bytes are one too (document 02, P4: a
+/// collector with nothing to report).
 pub fn check_block(block: &[u8]) -> Result<(), Refused> {
-    if block.is_empty() || block.len() > BLOCK_LENGTH || block.len() % RECORD_LENGTH != 0 {
+    if block.len() > BLOCK_LENGTH || block.len() % RECORD_LENGTH != 0 {
         return Err(refused(4));
     }
     for (index, record) in block.chunks(RECORD_LENGTH).enumerate() {
@@ -90,7 +91,8 @@ pub fn summed_table(journal: &[u8]) -> Table {
     table
 }
 
-/// Whether a journal of the right length is as document 01 describes it, whatever its table.
+/// Whether a journal of the right length is as document 01 describes it, whatever its table. A used
+/// slot may be all zero, as an unused one is: only the count of blocks tells them apart.
 pub fn well_formed(journal: &[u8]) -> bool {
     if phase(journal) != TAKING && phase(journal) != LAID {
         return false;

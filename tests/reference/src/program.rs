@@ -43,7 +43,8 @@ pub struct Laid {
     pub records: Vec<u8>,
 }
 
-/// Takes all records, lays out, adds the given edges by hand, and completes.
+/// Takes all records, lays out, adds the given edges by hand, and completes. Only records are cut into
+/// blocks: none of them is empty, and without records there is none.
 pub fn lay(records: &[u8], by_hand: &[(u64, u64)]) -> Result<Laid, Refused> {
     let mut journal = vec![0; JOURNAL_LENGTH];
     let mut adjacency = vec![0; ADJACENCY_LENGTH];

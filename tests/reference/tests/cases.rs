@@ -234,7 +234,9 @@ fn order_of_checks_when_taking() {
     assert_eq!(take(&mut journal, 0, &good), Ok(Take::Held));
     assert_eq!(take(&mut journal, 0, &[1, 1, 4, 0]), Err(refused(7)));
     assert_eq!(take(&mut journal, 0, &good.repeat(2)), Err(refused(7)));
-    assert_eq!(take(&mut journal, 0, &[]), Err(refused(4)));
+    assert_eq!(take(&mut journal, 0, &[]), Err(refused(7)));
+    assert_eq!(take(&mut journal, 9, &[]), Err(refused(6)));
+    assert_eq!(take(&mut journal, 9, &[1; 3]), Err(refused(4)));
     assert_eq!(take(&mut journal, 9, &[1; 68]), Err(refused(4)));
     assert_eq!(
         take(&mut journal, 0, &[0, 1, 2, 0]),
@@ -392,8 +394,8 @@ fn states_that_are_not_valid() {
     journal_with(0, 0); // edges before laying out
     journal_with(0, 2);
     journal_with(1, 0); // the first slot is not zero then
-    journal_with(1, 2); // the second slot is zero then
     journal_with(1, 65);
+    journal_with(2, 0); // behind a block of no bytes all is zero
     journal_with(2, 5); // a block is whole records
     journal_with(2, 68);
     journal_with(3, 0);
