@@ -21,7 +21,7 @@ pub enum Cause {
     InvalidState = 2,
     /// Not in this phase.
     WrongPhase = 3,
-    /// A block of 0 or over 64 bytes, or not a multiple of 4.
+    /// A block of over 64 bytes, or not a multiple of 4.
     BlockLength = 4,
     /// A record with a degree outside 1 to 40, or with the higher degree first. Of the pairs with a
     /// zero only 0, 0 is good: isolated vertices.
