@@ -1,10 +1,24 @@
 // Blocks read back: each part of the journal is the block sent under its number, before and after laying out.
 use adjacency::ADJACENCY_SIZE;
+use answer::LengthAnswer;
 use journal::JOURNAL_SIZE;
 use laying_out::lay_out;
 use libc::STDOUT_FILENO;
 use reading_back::held_block;
+use reading_back::held_block_length;
 use taking::take_block;
+
+// An empty part is a block of no bytes, or there is none: the companion tells.
+fn tell_empty(journal: &[u8], adjacency: &[u8], number: usize) {
+    match held_block_length(journal, adjacency, number) {
+        LengthAnswer::Length(_) => {
+            io::write_all(STDOUT_FILENO, b" empty\n");
+        }
+        LengthAnswer::Refused(_) => {
+            io::write_all(STDOUT_FILENO, b" none\n");
+        }
+    }
+}
 
 // The part of the journal for a number, against the block sent under it.
 fn compare<'a>(journal: &'a [u8], adjacency: &'a [u8], number: usize, block: &[u8]) {
@@ -12,7 +26,7 @@ fn compare<'a>(journal: &'a [u8], adjacency: &'a [u8], number: usize, block: &[u
     io::write_all(STDOUT_FILENO, b"part ");
     io::print_decimal(STDOUT_FILENO, number as u64);
     if part.len() == 0 {
-        io::write_all(STDOUT_FILENO, b" empty\n");
+        tell_empty(journal, adjacency, number);
         return;
     }
     if slices::same_bytes(part, block) {
@@ -22,7 +36,7 @@ fn compare<'a>(journal: &'a [u8], adjacency: &'a [u8], number: usize, block: &[u
     io::write_all(STDOUT_FILENO, b" other\n");
 }
 
-// Three blocks of different lengths and bytes, and a number that none was sent under.
+// Four blocks of different lengths and bytes, the last without any, and a number that none was sent under.
 fn compare_all<'a>(journal: &'a [u8], adjacency: &'a [u8]) {
     compare(journal, adjacency, 0, &[1u8, 3, 1, 0]);
     compare(journal, adjacency, 1, &[2u8, 2, 2, 0, 2, 3, 1, 0]);
@@ -33,6 +47,7 @@ fn compare_all<'a>(journal: &'a [u8], adjacency: &'a [u8]) {
         &[2u8, 3, 1, 0, 1, 1, 0, 0, 2, 2, 0, 0],
     );
     compare(journal, adjacency, 3, &[]);
+    compare(journal, adjacency, 4, &[]);
 }
 
 pub fn parts() {
@@ -46,7 +61,8 @@ pub fn parts() {
         2,
         &[2u8, 3, 1, 0, 1, 1, 0, 0, 2, 2, 0, 0],
     );
-    io::write_all(STDOUT_FILENO, b"three blocks, read back\n");
+    take_block(&mut journal, &adjacency, 3, &[]);
+    io::write_all(STDOUT_FILENO, b"four blocks, read back\n");
     compare_all(&journal, &adjacency);
     lay_out(&mut journal, &adjacency);
     io::write_all(STDOUT_FILENO, b"and after laying out\n");

@@ -15,13 +15,12 @@ use Rattle.table.specs.Inner.Cells.{matrixOf}
 use Rattle.layout.specs.Layout.{mostVertices, wanted}
 use Rattle.layout.specs.Inner.Arrays.{countIn, tableIn, Counts}
 use Rattle.layout.proofs.Counted.{counted-total}
-use Rattle.journal.specs.Journal.{tableOf, jdmOf}
+use Rattle.journal.specs.Journal.{tableOf}
 use Rattle.state.proofs.Facts.{StateFacts, Laid}
 use Rattle.answer.specs.declared.Verdict.the-variants.{Go}
 use Rattle.adjacency.specs.Adjacency.{edge}
 use Rattle.adjacency.proofs.Facts.{ZeroOutside}
 use Rattle.state.specs.Checks.{phaseVerdict}
-use Rattle.state.specs.Laid.{vertexCount, degreeAt}
 use Rattle.state.proofs.Checks.{phase-facts}
 use Rattle.joining.specs.Inner.Work.{degreesOf}
 use Rattle.joining.proofs.Held.{held-is, held-edges}

@@ -5,7 +5,6 @@ ghost use Prim.Native.Nat.{_*_};
 ghost use lib.ListN.{length};
 ghost use Rattle.answer.specs.declared.Verdict.the-variants.{Go};
 ghost use Rattle.state.specs.Checks.{phaseVerdict};
-ghost use Rattle.join_records.specs.Record.{joinRecordSize};
 ghost use Rattle.completion.specs.Complete.{missing, completeLaid, completeAnswer, completeAdjacency, completeOutput};
 
 mod cell;

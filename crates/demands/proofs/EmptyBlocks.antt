@@ -11,20 +11,22 @@ use Rattle.graph.specs.Graph.{DegreeTable}
 use Rattle.table.proofs.Empty.{empty-well-formed, empty-adds, other-length}
 use Rattle.journal.specs.Journal.{mostBlocks, phase, blocks, tableOf}
 use Rattle.journal.proofs.Store.{stored-empty}
+use Rattle.state.specs.Valid.{lengthsOk, valid}
 use Rattle.state.proofs.Facts.{valid-journal}
 use Rattle.taking.proofs.Length.{take-length}
 use Rattle.taking.proofs.Take.{TakenFacts, facts-taken, taken-table}
 use Rattle.demands.specs.Calls.{State}
 use Rattle.demands.specs.Tally.{Tally, counts, withBlock}
-use Rattle.demands.specs.EmptyBlocks.{Sound, TakesEmpty, EmptyBlocks}
+use Rattle.demands.specs.EmptyBlocks.{TakesEmpty, EmptyBlocks}
 use Rattle.demands.proofs.Kept.{reads-back}
 
-module _ (s : State) (sound : Sound s) (taking : phase (s .journal) ≡ 0) (room : blocks (s .journal) < mostBlocks) where
+module _ (s : State) (lengths : lengthsOk (s .journal) (s .adjacency) ≡ true) (sound : valid (s .journal) (s .adjacency) ≡ true)
+    (taking : phase (s .journal) ≡ 0) (room : blocks (s .journal) < mostBlocks) where
   facts : TakenFacts (s .journal) (s .adjacency) (blocks (s .journal)) []
   facts =
       record {
-        lengths = sound .lengths;
-        sound = sound .sound;
+        lengths = lengths;
+        sound = sound;
         good = empty-well-formed;
         next = refl;
         taking = taking;
@@ -36,7 +38,7 @@ module _ (s : State) (sound : Sound s) (taking : phase (s .journal) ≡ 0) (room
       let a = facts-taken (s .journal) (s .adjacency) (blocks (s .journal)) [] facts in
       record {
         answer = a;
-        counted = rw (a, stored-empty (s .journal) (valid-journal (s .journal) (s .adjacency) (sound .sound)) room);
+        counted = rw (a, stored-empty (s .journal) (valid-journal (s .journal) (s .adjacency) sound) room);
         adds-nothing = taken-table (s .journal) (s .adjacency) (blocks (s .journal)) [] _ a ∙ empty-adds (tableOf (s .journal));
       }
 
@@ -62,8 +64,8 @@ empty-blocks =
             part = h .same;
           };
       differs = λ calls number b a l. reads-back .accepted-held calls number b a .differs [] empty-well-formed (λ e. absurd (omega (arith, ap length e)));
-      other-lengths = λ s v number b.
-          let four = take-length (s .journal) number b (s .adjacency) (v .lengths) (v .sound) in
+      other-lengths = λ s l v number b.
+          let four = take-length (s .journal) number b (s .adjacency) l v in
           let other = other-length (length b) in
           (λ e. other .0 (four .0 e), λ h. four .1 (other .1 h));
       tallied = λ t e l. ap (λ (c : Bool). cond c (withBlock t []) t) (counted t e l) ∙ ap (withTable t) (empty-adds (t .table));

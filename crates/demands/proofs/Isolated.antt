@@ -1,7 +1,6 @@
 -- Isolated vertices are the first ones of a laid state, and are left alone (specs/Isolated.antt).
 -- Assumes nothing.
 use mathlib.Core.Path.{_≡_, _∙_}
-use mathlib.Core.Bool.{true, false, _&&_, not}
 use mathlib.Core.List.{List}
 use mathlib.Core.Logic.{_↔_}
 use Prim.Native.Nat.{ℕ, _+_, _≤_, _<_}
@@ -12,14 +11,12 @@ use Rattle.finite.specs.Range.{sumTo}
 use Rattle.finite.proofs.All.{and-false}
 use Rattle.finite.proofs.Sum.{sumTo-none, sumTo-more, sumTo-term}
 use Rattle.graph.specs.Graph.{degree}
-use Rattle.graph.specs.Switch.{canSubstitute}
 use Rattle.graph.specs.Tests.{degrees, classCount, Table}
 use Rattle.graph.proofs.Counts.{vertices-total}
 use Rattle.graph.proofs.Numbering.{classOf-range}
-use Rattle.journal.specs.Journal.{phase, jdmOf, isolatedOf, tableOf}
+use Rattle.journal.specs.Journal.{jdmOf, isolatedOf, tableOf}
 use Rattle.journal.proofs.Table.{jdm-table}
 use Rattle.adjacency.specs.Adjacency.{edge}
-use Rattle.state.specs.Valid.{lengthsOk, valid}
 use Rattle.state.specs.Laid.{vertexCount, degreeAt, cellAt}
 use Rattle.state.proofs.Facts.{StateFacts, Laid, valid-facts}
 use Rattle.joining.specs.Join.{own}

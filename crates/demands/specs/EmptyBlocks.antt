@@ -20,11 +20,6 @@ use Rattle.demands.specs.Calls.{Call, take, State, cleared, after, after
 use Rattle.demands.specs.Accepted.{AcceptedIn}
 use Rattle.demands.specs.Tally.{Tally, toldTake, tally}
 
--- a state of the right lengths, valid
-pub record Sound (s : State) : Type 0 where
-  pub lengths : lengthsOk (s .journal) (s .adjacency) ≡ true
-  pub sound : valid (s .journal) (s .adjacency) ≡ true
-
 -- the block under the next number, where blocks are taken and there is room for one
 pub record TakesEmpty (s : State) : Type 0 where
   -- "taken under its number": the next one is one higher ..
@@ -45,14 +40,16 @@ pub record HoldsEmpty (s : State) (number : ℕ) : Type 0 where
   pub part : heldPart (lengthAnswer (s .journal) (s .adjacency) number) (s .journal) number ≡ []
 
 pub record EmptyBlocks : Type 0 where
-  pub taken : (s : State) → Sound s → phase (s .journal) ≡ 0 → blocks (s .journal) < mostBlocks → TakesEmpty s
+  pub taken : (s : State) → lengthsOk (s .journal) (s .adjacency) ≡ true → valid (s .journal) (s .adjacency) ≡ true →
+      phase (s .journal) ≡ 0 → blocks (s .journal) < mostBlocks → TakesEmpty s
   -- once taken or held, it is held from then on, whatever calls came after it
   pub held : (calls : List Call) (number : ℕ) → AcceptedIn calls number [] → HoldsEmpty (afterAll cleared calls) number
   -- over a block with bytes it is 7
   pub differs : (calls : List Call) (number : ℕ) (b : List ℕ) → AcceptedIn calls number b → 0 < length b →
       let s = afterAll cleared calls in takeAnswer (s .journal) (s .adjacency) number [] ≡ Refused (refusal Conflict 0 0)
   -- "Only the other lengths remain under 4": over 64 bytes, or not whole records
-  pub other-lengths : (s : State) → Sound s → (number : ℕ) (b : List ℕ) →
+  pub other-lengths : (s : State) → lengthsOk (s .journal) (s .adjacency) ≡ true → valid (s .journal) (s .adjacency) ≡ true →
+      (number : ℕ) (b : List ℕ) →
       (takeAnswer (s .journal) (s .adjacency) number b ≡ Refused (refusal BlockLength 0 0))
       ↔ ((blockMost < length b) ⊎ (length b % recordSize ≡ 0 → ⊥))
   -- the tally takes it in as any block: one more, the same table

@@ -6,7 +6,6 @@ use mathlib.Core.List.{List}
 use Prim.Native.Nat.{ℕ, _+_, _<_}
 use native.Mathlib.Omega.{arith}
 use borrow.Author.Tests.{ltb-false, le-ltb}
-use Rattle.finite.specs.Range.{δ}
 use Rattle.finite.proofs.Delta.{δ-other}
 use Rattle.graph.specs.Graph.{degree, AddsEdge}
 use Rattle.graph.specs.Switch.{unsaturated}

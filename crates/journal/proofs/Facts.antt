@@ -11,7 +11,7 @@ use lib.ListN.{length, drop, length-drop}
 use lib.Seq.{length-take-le}
 use borrow.Author.Tests.{leb-true, le-leb, lt-leb, eqb-true, eq-eqb, ne-eqb, lt-ltb, le-ltb}
 use Rattle.finite.specs.Range.{allTo}
-use Rattle.finite.proofs.All.{and-left, and-right, and-both, and-false, allTo-at, allTo-holds}
+use Rattle.finite.proofs.All.{and-left, and-right, and-both, allTo-at, allTo-holds}
 use Rattle.slices.specs.Slices.{allZero}
 use Rattle.table.specs.Block.{blockMost, blockLength, records, firstBad, wellFormed}
 use Rattle.table.proofs.Empty.{empty-well-formed}

@@ -45,7 +45,8 @@ blockAt j i = take (slotLength j i) (drop (blockFrom i) j)
 abbrev pub slotRest : List ℕ → ℕ → List ℕ
 slotRest j i = take (blockMost - slotLength j i) (drop (slotAt i + 1 + slotLength j i) j)
 
--- a used slot holds a block that 4 and 5 let pass, an unused one has length 0, and behind the block each has zeros
+-- A used slot holds a block that 4 and 5 let pass, an unused one has length 0, and behind the block each has zeros. So both are zero where the block
+-- has no bytes (document 02, P4), and only the count of blocks tells them apart.
 abbrev pub slotOk : List ℕ → ℕ → Bool
 slotOk j i =
     cond (ltb i (blocks j))

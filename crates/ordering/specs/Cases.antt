@@ -171,12 +171,12 @@ withEmpty =
     }
     -- no other block: no vertices
     ∷ record { steps = take 0 [] gives taken 1 ∷ layOut gives laidOut 0 ∷ complete [] gives finished 0 0 0 [] ∷ []; edges = [] }
-    -- 64 of them, then 8; 6, 7 and held before 8; laid out, 3
+    -- 64 of them, then 8, for one with bytes too; 6, 7 and held before 8
     ∷ record {
       steps =
           filled [] 64
           (take 65 [] gives no 6 0 0 ∷ take 63 pair gives no 7 0 0 ∷ take 63 [] gives held ∷ take 64 [] gives no 8 0 0 ∷ take 64 pair gives no 8 0 0
-          ∷ readBack 63 gives part [] ∷ readBack 64 gives no 6 0 0 ∷ layOut gives laidOut 0 ∷ take 64 [] gives no 3 0 0 ∷ figures gives report 1 64 0 0 0 ∷ []);
+          ∷ readBack 63 gives part [] ∷ readBack 64 gives no 6 0 0 ∷ []);
       edges = [];
     }
     ∷ []

@@ -1,6 +1,6 @@
 -- `completion::complete_laid` meets its contract.
 -- Assumes nothing.
-use mathlib.Core.Path.{refl, ap, _∙_}
+use mathlib.Core.Path.{refl, ap}
 use native.Mathlib.Omega.{arith}
 use borrow.Author.Needs.{needs}
 use Rattle.answer.specs.declared.CompleteAnswer.the-variants.{Refused}
