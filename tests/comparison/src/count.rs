@@ -25,97 +25,45 @@ pub struct Count {
     pub moves: Moves,
 }
 
-/// Answers in which isolated vertices or a survey's total have a part.
-#[derive(Clone, Debug, Default)]
-pub struct Isolated {
-    /// Tables laid out with some.
-    pub laid: u64,
-    /// Tables with some, refused with 12.
-    pub too_many: u64,
-    /// Edges at one, refused with 16.
-    pub not_joined: u64,
-    /// Surveys that wrote their number.
-    pub surveyed: u64,
-    /// Surveys refused for a total over 200.
-    pub totals: u64,
-    /// Surveys refused with 19 that name a vertex not below a total under 200.
-    pub beyond: u64,
-}
-
-impl Isolated {
-    /// What a count is called, and the count.
-    fn named(&self) -> [(&'static str, u64); 6] {
-        [
-            ("laid out", self.laid),
-            ("too many", self.too_many),
-            ("not joined", self.not_joined),
-            ("surveyed", self.surveyed),
-            ("total over 200", self.totals),
-            ("vertex not below the total", self.beyond),
-        ]
-    }
-
-    fn add(&mut self, other: &Isolated) {
-        self.laid += other.laid;
-        self.too_many += other.too_many;
-        self.not_joined += other.not_joined;
-        self.surveyed += other.surveyed;
-        self.totals += other.totals;
-        self.beyond += other.beyond;
+named_counts! {
+    /// Answers in which isolated vertices or a survey's total have a part.
+    Isolated {
+        /// Tables laid out with some.
+        laid: "laid out",
+        /// Tables with some, refused with 12.
+        too_many: "too many",
+        /// Edges at one, refused with 16.
+        not_joined: "not joined",
+        /// Surveys that wrote their number.
+        surveyed: "surveyed",
+        /// Surveys refused for a total over 200.
+        totals: "total over 200",
+        /// Surveys refused with 19 that name a vertex not below a total under 200.
+        beyond: "vertex not below the total",
     }
 }
 
-/// Answers in which a block of no bytes has a part. A full one is any with records.
-#[derive(Clone, Debug, Default)]
-pub struct Empty {
-    pub taken: u64,
-    pub held: u64,
-    /// Refused with 6.
-    pub too_high: u64,
-    /// Refused with 7 under the number of a full one.
-    pub over_full: u64,
-    /// A full one refused with 7 under the number of an empty one.
-    pub under_full: u64,
-    /// Refused with 3.
-    pub once_laid: u64,
-    /// Refused with 8.
-    pub no_room: u64,
-    /// Read back, with length 0.
-    pub read_back: u64,
-    /// Laid out with some among the blocks.
-    pub laid: u64,
-    /// Laid out with nothing else.
-    pub alone: u64,
-}
-
-impl Empty {
-    /// What a count is called, and the count.
-    fn named(&self) -> [(&'static str, u64); 10] {
-        [
-            ("taken", self.taken),
-            ("held", self.held),
-            ("number too high", self.too_high),
-            ("over a full one", self.over_full),
-            ("under a full one", self.under_full),
-            ("new once laid", self.once_laid),
-            ("no room", self.no_room),
-            ("read back", self.read_back),
-            ("laid out among others", self.laid),
-            ("laid out alone", self.alone),
-        ]
-    }
-
-    fn add(&mut self, other: &Empty) {
-        self.taken += other.taken;
-        self.held += other.held;
-        self.too_high += other.too_high;
-        self.over_full += other.over_full;
-        self.under_full += other.under_full;
-        self.once_laid += other.once_laid;
-        self.no_room += other.no_room;
-        self.read_back += other.read_back;
-        self.laid += other.laid;
-        self.alone += other.alone;
+named_counts! {
+    /// Answers in which a block of no bytes has a part. A full one is any with records.
+    Empty {
+        taken: "taken",
+        held: "held",
+        /// Refused with 6.
+        too_high: "number too high",
+        /// Refused with 7 under the number of a full one.
+        over_full: "over a full one",
+        /// A full one refused with 7 under the number of an empty one.
+        under_full: "under a full one",
+        /// Refused with 3.
+        once_laid: "new once laid",
+        /// Refused with 8.
+        no_room: "no room",
+        /// Read back, with length 0.
+        read_back: "read back",
+        /// Laid out with some among the blocks.
+        laid: "laid out among others",
+        /// Laid out with nothing else.
+        alone: "laid out alone",
     }
 }
 
@@ -162,6 +110,15 @@ impl Count {
         self.moves.add(&other.moves);
     }
 
+    /// The counts that have names, and what they are of.
+    fn named(&self) -> [(&'static str, Vec<(&'static str, u64)>); 3] {
+        [
+            ("isolated", self.isolated.named()),
+            ("empty blocks", self.empty.named()),
+            ("what moved", self.moves.named()),
+        ]
+    }
+
     pub fn calls(&self) -> u64 {
         self.answers.iter().flatten().sum()
     }
@@ -188,16 +145,9 @@ impl Count {
         if self.read_back == 0 {
             missing.push("no block was read back".to_string());
         }
-        let isolated = self
-            .isolated
-            .named()
-            .map(|named| ("isolated vertices", named));
-        let empty = self.empty.named().map(|named| ("empty blocks", named));
-        let moves = self.moves.named().map(|named| ("what moved", named));
-        for (of, (name, count)) in isolated.into_iter().chain(empty).chain(moves) {
-            if count == 0 {
-                missing.push(format!("{of}, never: {name}"));
-            }
+        for (of, counts) in self.named() {
+            let never = counts.into_iter().filter(|(_, count)| *count == 0);
+            missing.extend(never.map(|(name, _)| format!("{of}, never: {name}")));
         }
         missing
     }
@@ -232,9 +182,9 @@ impl Count {
             self.joins, self.switches, self.completions
         );
         println!("blocks        {} read back as sent", self.read_back);
-        print_named("isolated", &self.isolated.named());
-        print_named("empty blocks", &self.empty.named());
-        print_named("what moved", &self.moves.named());
+        for (of, counts) in self.named() {
+            print_named(of, &counts);
+        }
     }
 }
 

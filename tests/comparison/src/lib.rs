@@ -6,11 +6,15 @@
 //! * [`both`]: makes a call on both sides and compares
 //! * [`moves`]: what joins and completions say has moved, played
 //! * [`count`]: how many calls, tables and refusals were tried
+//! * `named`: counts with names
 //! * [`blocks`]: tables cut into blocks, whole and spoiled
 //! * [`lists`]: long random call lists
 //! * [`tables`]: tables laid out and completed, checked by a count of their own
 //! * [`joins`]: which pairs can be joined, over small states
 //! * [`program`]: the program as a child process
+
+#[macro_use]
+mod named;
 
 pub mod blocks;
 pub mod both;

@@ -6,57 +6,31 @@ use reference::join_record::{LENGTH, UNUSED};
 use reference::numbers::Numbers;
 use reference::player;
 
-/// Joins by the switches they took, and completions by the room they had.
-#[derive(Clone, Debug, Default)]
-pub struct Moves {
-    /// Joins without a switch.
-    plain: u64,
-    /// Joins with one, of the first named vertex.
-    first: u64,
-    /// Joins with one, of the second named vertex.
-    second: u64,
-    /// Joins with two.
-    both: u64,
-    /// Switches that gave an edge to the other named vertex.
-    to_other: u64,
-    /// Completions of some edges with just the room they need.
-    just_enough: u64,
-    /// Completions of some edges with more.
-    more: u64,
-    /// Completions of nothing without any output.
-    none: u64,
-    /// Completions refused for a single byte.
-    a_byte_short: u64,
+named_counts! {
+    /// Joins by the switches they took, and completions by the room they had.
+    Moves {
+        /// Joins without a switch.
+        plain: "no switch",
+        /// Joins with one, of the first named vertex.
+        first: "of the first",
+        /// Joins with one, of the second named vertex.
+        second: "of the second",
+        /// Joins with two.
+        both: "of both",
+        /// Switches that gave an edge to the other named vertex.
+        to_other: "to the other",
+        /// Completions of some edges with just the room they need.
+        just_enough: "just enough room",
+        /// Completions of some edges with more.
+        more: "more room",
+        /// Completions of nothing without any output.
+        none: "no room needed",
+        /// Completions refused for a single byte.
+        a_byte_short: "a byte short",
+    }
 }
 
 impl Moves {
-    /// What a count is called, and the count.
-    pub fn named(&self) -> [(&'static str, u64); 9] {
-        [
-            ("no switch", self.plain),
-            ("of the first", self.first),
-            ("of the second", self.second),
-            ("of both", self.both),
-            ("to the other", self.to_other),
-            ("just enough room", self.just_enough),
-            ("more room", self.more),
-            ("no room needed", self.none),
-            ("a byte short", self.a_byte_short),
-        ]
-    }
-
-    pub fn add(&mut self, other: &Moves) {
-        self.plain += other.plain;
-        self.first += other.first;
-        self.second += other.second;
-        self.both += other.both;
-        self.to_other += other.to_other;
-        self.just_enough += other.just_enough;
-        self.more += other.more;
-        self.none += other.none;
-        self.a_byte_short += other.a_byte_short;
-    }
-
     /// Counts one record, whose switches are the first vertex's before the second's.
     fn joined(&mut self, record: &[u8]) {
         let (v, w, a1, a2) = (record[0], record[1], record[2], record[5]);
