@@ -1,11 +1,12 @@
 -- Which numbers each entry's checks can give, test by test: what demand 1 says of refusals.
 -- Assumes nothing.
 use mathlib.Core.Path.{_≡_, refl}
-use mathlib.Core.Bool.{Bool, true, false, cond}
+use mathlib.Core.Bool.{Bool, true, false, cond, or-true}
 use mathlib.Core.List.{List, [], _∷_}
-use Prim.Native.Nat.{ℕ, _≤_}
-use lib.Dec.{leb, eqb}
+use Prim.Native.Nat.{ℕ, _+_, _≤_}
+use lib.Dec.{leb, ltb, eqb}
 use Rattle.answer.specs.Refusals.{refusal, stop, unless, unlessStopped}
+use Rattle.answer.specs.Numbers.{numberOf}
 use Rattle.answer.specs.declared.Cause.the-variants.{Length, Invalid, Phase, BlockLength, Record, BlockNumber, Conflict, JournalFull, OddDiagonal, UnevenRow, OverfullCell, TooManyVertices, VertexNumber, SameVertex, Linked, CellFull, NotLinked, OutputLength, EdgeList, DegreeAbove}
 use Rattle.answer.specs.declared.Refusal.{Refusal}
 use Rattle.answer.specs.declared.Verdict.{Verdict}
@@ -32,9 +33,11 @@ use Rattle.answer.specs.declared.WrittenAnswer.the-variants as Write
 use Rattle.graph.specs.Graph.{DegreeTable}
 use Rattle.graph.specs.Tests.{degrees, firstOdd, firstUneven, firstOverfull, firstOverfullIn, vertices}
 use Rattle.layout.specs.Layout.{mostVertices, layoutVerdict}
-use Rattle.journal.specs.Journal.{phase}
+use Rattle.table.specs.Block.{records, firstBad}
+use Rattle.journal.specs.Journal.{mostBlocks, phase, blocks, sameBlock}
 use Rattle.state.specs.Checks.{stateVerdict, phaseVerdict}
 use Rattle.state.specs.Valid.{lengthsOk, valid}
+use Rattle.taking.specs.Take.{takeNumbered}
 use Rattle.demands.specs.Demand1.{Numbered}
 
 -- What is claimed of an answer: a refusal's number is one of these; of a written length, that it is n and fits m bytes.
@@ -107,23 +110,41 @@ pub clear-chain : (a : Bool) → OfClear (1 ∷ []) (unless a (Clear.Refused (re
 clear-chain false = refl
 clear-chain true = tt
 
-pub take-chain : (c d e f g h i : Bool) (bad next : ℕ)
-    → OfTake (1 ∷ 2 ∷ 4 ∷ 5 ∷ 6 ∷ 7 ∷ 3 ∷ 8 ∷ [])
-    (unless c (Take.Refused (refusal BlockLength 0 0))
+-- .. of taking, those behind 4
+later-chain : (d e f g h i : Bool) (bad next : ℕ)
+    → OfTake (5 ∷ 6 ∷ 7 ∷ 3 ∷ 8 ∷ [])
     (unless d (Take.Refused (refusal Record bad 0))
     (unless e (Take.Refused (refusal BlockNumber 0 0))
     (cond f (unless g (Take.Refused (refusal Conflict 0 0)) Take.Held)
     (unless h (Take.Refused (refusal Phase 0 0))
     (unless i (Take.Refused (refusal JournalFull 0 0))
-    (Take.Taken next)))))))
-take-chain false d e f g h i bad next = refl
-take-chain true false e f g h i bad next = refl
-take-chain true true false f g h i bad next = refl
-take-chain true true true true false h i bad next = refl
-take-chain true true true true true h i bad next = tt
-take-chain true true true false g false i bad next = refl
-take-chain true true true false g true false bad next = refl
-take-chain true true true false g true true bad next = tt
+    (Take.Taken next))))))
+later-chain false e f g h i bad next = refl
+later-chain true false f g h i bad next = refl
+later-chain true true true false h i bad next = refl
+later-chain true true true true h i bad next = tt
+later-chain true true false g false i bad next = refl
+later-chain true true false g true false bad next = refl
+later-chain true true false g true true bad next = tt
+
+-- the answer to a block whose length 4 lets pass
+abbrev pub takeLater : List ℕ → ℕ → List ℕ → TakeAnswer
+takeLater j number b = unless (eqb (firstBad b) (records b)) (Take.Refused (refusal Record (firstBad b) 0)) (takeNumbered j number b)
+
+pub later-numbers : (j : List ℕ) (number : ℕ) (b : List ℕ) → OfTake (5 ∷ 6 ∷ 7 ∷ 3 ∷ 8 ∷ []) (takeLater j number b)
+later-numbers j number b =
+    later-chain (eqb (firstBad b) (records b)) (leb number (blocks j)) (ltb number (blocks j)) (sameBlock j number b) (eqb (phase j) 0)
+    (ltb (blocks j) mostBlocks) (firstBad b) (blocks j + 1)
+
+take-more : (m : ℕ) (ns : List ℕ) (a : TakeAnswer) → OfTake ns a → OfTake (m ∷ ns) a
+take-more m ns (Take.Taken next) h = tt
+take-more m ns Take.Held h = tt
+take-more m ns (Take.Refused r) h = rw h (or-true (eqb (numberOf (r .cause)) m))
+
+pub take-chain : (c : Bool) (a : TakeAnswer) → OfTake (5 ∷ 6 ∷ 7 ∷ 3 ∷ 8 ∷ []) a
+    → OfTake (1 ∷ 2 ∷ 4 ∷ 5 ∷ 6 ∷ 7 ∷ 3 ∷ 8 ∷ []) (unless c (Take.Refused (refusal BlockLength 0 0)) a)
+take-chain false a h = refl
+take-chain true a h = take-more 1 _ a (take-more 2 _ a (take-more 4 _ a h))
 
 pub length-chain : (c : Bool) (n : ℕ) → OfLength (1 ∷ 2 ∷ 6 ∷ []) (unless c (Len.Refused (refusal BlockNumber 0 0)) (Len.Length n))
 length-chain false n = refl

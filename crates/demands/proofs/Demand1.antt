@@ -3,7 +3,7 @@
 use mathlib.Core.Path.{_≡_, sym, ap, subst}
 use mathlib.Core.Bool.{not}
 use mathlib.Core.List.{List, [], _∷_}
-use Prim.Native.Nat.{ℕ, _+_, _*_, _%_, _≤_, min, max}
+use Prim.Native.Nat.{ℕ, _*_, _%_, _≤_, min, max}
 use native.Mathlib.Omega.{arith}
 use lib.Dec.{leb, ltb, eqb}
 use lib.ListN.{length}
@@ -27,9 +27,9 @@ use Rattle.answer.specs.declared.CompleteAnswer.the-variants as Complete
 use Rattle.answer.specs.declared.WrittenAnswer.{WrittenAnswer}
 use Rattle.answer.specs.declared.WrittenAnswer.the-variants as Write
 use Rattle.graph.specs.Tests.{vertices}
-use Rattle.table.specs.Block.{blockLength, records, firstBad}
+use Rattle.table.specs.Block.{blockLength}
 use Rattle.layout.specs.Layout.{mostVertices, layoutVerdict}
-use Rattle.journal.specs.Journal.{mostBlocks, phase, blocks, slotLength, sameBlock, tableOf}
+use Rattle.journal.specs.Journal.{blocks, slotLength, tableOf}
 use Rattle.adjacency.specs.Adjacency.{edge}
 use Rattle.state.specs.Checks.{stateVerdict, phaseVerdict}
 use Rattle.state.specs.Valid.{lengthsOk}
@@ -48,7 +48,7 @@ use Rattle.join_records.specs.Record.{joinRecordSize}
 use Rattle.completion.specs.Complete.{completed, missing, completeLaid, completeAdjacency, completeOutput}
 use Rattle.completion.proofs.Entry.{completed-facts, complete-works}
 use Rattle.demands.specs.Demand1.{SamePast, Demand1}
-use Rattle.demands.proofs.Chains.{OfClear, OfTake, OfLength, OfLayOut, OfFigures, OfAdd, OfRemove, OfComplete, OfWritten, behind, state-numbers, phase-numbers, layout-numbers, clear-chain, take-chain, length-chain, add-chain, remove-chain, complete-chain, list-chain, survey-chain}
+use Rattle.demands.proofs.Chains.{OfClear, OfTake, OfLength, OfLayOut, OfFigures, OfAdd, OfRemove, OfComplete, OfWritten, behind, state-numbers, phase-numbers, layout-numbers, clear-chain, takeLater, later-numbers, take-chain, length-chain, add-chain, remove-chain, complete-chain, list-chain, survey-chain}
 
 -- what was written stands at the start, and nothing behind it changes
 past : (out bytes : List ℕ) (n : ℕ) → n ≡ length bytes → length bytes ≤ length out → SamePast n out (sets out 0 bytes)
@@ -81,8 +81,7 @@ demand-1 =
       take = λ j g b number r e. (
         subst (OfTake (1 ∷ 2 ∷ 4 ∷ 5 ∷ 6 ∷ 7 ∷ 3 ∷ 8 ∷ [])) e
             (behind OfTake _ (stateVerdict j g) Take.Refused (takeOnValid j number b) (λ r h. h) (state-numbers j g _)
-            (take-chain (blockLength (length b)) (eqb (firstBad b) (records b)) (leb number (blocks j)) (ltb number (blocks j)) (sameBlock j number b)
-            (eqb (phase j) 0) (ltb (blocks j) mostBlocks) (firstBad b) (blocks j + 1))),
+            (take-chain (blockLength (length b)) (takeLater j number b) (later-numbers j number b))),
         ap (λ (a : TakeAnswer). takeJournal a j b) e,
       );
       held = λ j g number r e. (

@@ -1,23 +1,29 @@
 -- A block of no bytes is one like any other (specs/EmptyBlocks.antt): what holds of blocks, read for this one.
 -- Assumes nothing.
-use mathlib.Core.Path.{_≡_, refl, ap, _∙_}
-use mathlib.Core.Bool.{Bool, true, false, cond}
-use mathlib.Core.List.{[]}
-use Prim.Native.Nat.{_+_, _<_}
+use mathlib.Core.Path.{_≡_, refl, sym, ap, subst, _∙_}
+use mathlib.Core.Bool.{Bool, true, false, cond, true≢false}
+use mathlib.Core.List.{List, [], _∷_}
+use Prim.Native.Nat.{ℕ, _+_, _<_}
 use native.Mathlib.Omega.{arith}
 use lib.ListN.{length}
 use borrow.Author.Tests.{eq-eqb, lt-ltb}
 use Rattle.graph.specs.Graph.{DegreeTable}
+use Rattle.answer.specs.Refusals.{refusal}
+use Rattle.answer.specs.declared.Cause.the-variants.{BlockLength}
+use Rattle.answer.specs.declared.TakeAnswer.the-variants.{Refused}
+use Rattle.table.specs.Block.{blockLength}
 use Rattle.table.proofs.Empty.{empty-well-formed, empty-adds, other-length}
 use Rattle.journal.specs.Journal.{mostBlocks, phase, blocks, tableOf}
 use Rattle.journal.proofs.Store.{stored-empty}
 use Rattle.state.specs.Valid.{lengthsOk, valid}
+use Rattle.state.proofs.Checks.{state-go}
 use Rattle.state.proofs.Facts.{valid-journal}
-use Rattle.taking.proofs.Length.{take-length}
+use Rattle.taking.specs.Take.{takeOnValid}
 use Rattle.taking.proofs.Take.{TakenFacts, facts-taken, taken-table}
 use Rattle.demands.specs.Calls.{State}
 use Rattle.demands.specs.Tally.{Tally, counts, withBlock}
 use Rattle.demands.specs.EmptyBlocks.{TakesEmpty, EmptyBlocks}
+use Rattle.demands.proofs.Chains.{OfTake, later-numbers}
 use Rattle.demands.proofs.Kept.{reads-back}
 
 module _ (s : State) (lengths : lengthsOk (s .journal) (s .adjacency) ≡ true) (sound : valid (s .journal) (s .adjacency) ≡ true)
@@ -42,6 +48,14 @@ module _ (s : State) (lengths : lengthsOk (s .journal) (s .adjacency) ≡ true) 
         adds-nothing = taken-table (s .journal) (s .adjacency) (blocks (s .journal)) [] _ a ∙ empty-adds (tableOf (s .journal));
       }
 
+-- no check behind 4 gives that answer
+four-length : (j : List ℕ) (number : ℕ) (b : List ℕ) → takeOnValid j number b ≡ Refused (refusal BlockLength 0 0) → blockLength (length b) ≡ false
+four-length j number b e = go (blockLength (length b)) refl
+  where
+    go : (t : Bool) → blockLength (length b) ≡ t → blockLength (length b) ≡ false
+    go true h = absurd (true≢false (sym (subst (OfTake (5 ∷ 6 ∷ 7 ∷ 3 ∷ 8 ∷ [])) (rw h at e) (later-numbers j number b))))
+    go false h = h
+
 -- the tally counts it
 counted : (t : Tally) → t .laid ≡ false → t .blocks < mostBlocks → counts t (t .blocks) [] ≡ true
 counted t e l = rw (empty-well-formed, eq-eqb (t .blocks) (t .blocks) refl, e, lt-ltb (t .blocks) mostBlocks l)
@@ -65,8 +79,8 @@ empty-blocks =
           };
       differs = λ calls number b a l. reads-back .accepted-held calls number b a .differs [] empty-well-formed (λ e. absurd (omega (arith, ap length e)));
       other-lengths = λ s l v number b.
-          let four = take-length (s .journal) number b (s .adjacency) l v in
+          let passed = state-go (s .journal) (s .adjacency) l v in
           let other = other-length (length b) in
-          (λ e. other .0 (four .0 e), λ h. four .1 (other .1 h));
+          (λ e. other .0 (four-length (s .journal) number b (rw passed at e)), λ h. rw (passed, other .1 h));
       tallied = λ t e l. ap (λ (c : Bool). cond c (withBlock t []) t) (counted t e l) ∙ ap (withTable t) (empty-adds (t .table));
     }
