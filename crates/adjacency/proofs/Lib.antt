@@ -1,4 +1,3 @@
-pub mod Row
 pub mod Mirrored
 pub mod Sums
 pub mod Classes

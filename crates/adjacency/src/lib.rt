@@ -15,6 +15,7 @@ ghost use Rattle.adjacency.specs.Adjacency.{adjacencySize, side, edge, s
 ghost use Rattle.adjacency.specs.Inner.Sums.{sumsSize, Added, classDegree};
 use layout::MOST_VERTICES;
 use slices::all_zero;
+use slices::byte_sum;
 use slices::wide;
 use table::cells::CELLS;
 use table::cells::upper_cell;
@@ -89,25 +90,6 @@ fn is_zero_outside(adjacency: &[u8], n: usize) -> bool
     }
     let from = n * SIDE;
     ok & all_zero(&adjacency[from..])
-}
-
-// A byte as a number of 16 bits: sums of these are vector sums of 8 at a time.
-fn wide16(x: u8) -> u16
-    ensures { λ r. ⌜ (r ≡ x) × (r < 256) ⌝ }
-{
-    x as u16
-}
-
-// The sum of the bytes of a part of a row.
-fn byte_sum(s: &[u8]) -> usize
-    requires { ⌜ length (now s) ≤ side ⌝ }
-    ensures { λ r. ⌜ (r ≡ sumTo (length (now (s .entry))) (λ i. getD (now (s .entry)) i 0)) × (r ≤ 255 * length (now (s .entry))) ⌝ }
-{
-    let mut sum: u16 = 0;
-    for i in 0..s.len() {
-        sum += wide16(s[i]);
-    }
-    sum as usize
 }
 
 // How many edges v has.

@@ -3,7 +3,7 @@
 use Prim.Native.Nat.{ℕ}
 use Rattle.answer.specs.Switches.{switchCount, firstSwitch, secondSwitch}
 use Rattle.answer.specs.declared.Cause.{Cause}
-use Rattle.answer.specs.declared.Cause.the-variants.{Length as LengthCause, Invalid, Phase, BlockLength, Record, BlockNumber, Conflict, JournalFull, OddDiagonal, UnevenRow, OverfullCell, TooManyVertices, VertexNumber, SameVertex, Linked, CellFull, NotLinked, OutputLength, EdgeList, DegreeAbove}
+use Rattle.answer.specs.declared.Cause.the-variants.{Length as LengthCause, Invalid, Phase, BlockLength, Record, BlockNumber, Conflict, JournalFull, OddDiagonal, UnevenRow, OverfullCell, TooManyVertices, VertexNumber, SameVertex, Linked, CellFull, NotLinked, OutputLength, EdgeList, DegreeAbove, Graph6Text, Graph6Size}
 use Rattle.answer.specs.declared.Refusal.{Refusal}
 use Rattle.answer.specs.declared.ClearAnswer.{ClearAnswer}
 use Rattle.answer.specs.declared.ClearAnswer.the-variants as Clear
@@ -23,8 +23,10 @@ use Rattle.answer.specs.declared.CompleteAnswer.{CompleteAnswer}
 use Rattle.answer.specs.declared.CompleteAnswer.the-variants as Complete
 use Rattle.answer.specs.declared.WrittenAnswer.{WrittenAnswer}
 use Rattle.answer.specs.declared.WrittenAnswer.the-variants as Write
+use Rattle.answer.specs.declared.ReadAnswer.{ReadAnswer}
+use Rattle.answer.specs.declared.ReadAnswer.the-variants as Read
 
--- the numbers of document 01's table
+-- the numbers of document 01's table, and those that document 02 adds to it
 abbrev pub numberOf : Cause → ℕ
 numberOf LengthCause = 1
 numberOf Invalid = 2
@@ -46,6 +48,8 @@ numberOf NotLinked = 17
 numberOf OutputLength = 18
 numberOf EdgeList = 19
 numberOf DegreeAbove = 20
+numberOf Graph6Text = 21
+numberOf Graph6Size = 22
 
 -- An answer in numbers: 0 and its values where the call did its work, else the refusal's number and its two places.
 -- What is not named is 0.
@@ -130,3 +134,8 @@ completeNumbers (Complete.Refused r) = refused r
 abbrev pub writtenNumbers : WrittenAnswer → Numbers
 writtenNumbers (Write.Written n) = done n 0
 writtenNumbers (Write.Refused r) = refused r
+
+-- first: the written length; second: the total of vertices
+abbrev pub readNumbers : ReadAnswer → Numbers
+readNumbers (Read.Read n total) = done n total
+readNumbers (Read.Refused r) = refused r

@@ -7,7 +7,7 @@ pub mod switches;
 
 use crate::switches::Switches;
 
-// Why a call is refused: one case for each number of document 01's table.
+// Why a call is refused: one case for each number of document 01's table, and of document 02's where a request adds to it.
 pub enum Cause {
     Length,
     Invalid,
@@ -29,6 +29,8 @@ pub enum Cause {
     OutputLength,
     EdgeList,
     DegreeAbove,
+    Graph6Text,
+    Graph6Size,
 }
 
 // A cause with two places, 0 where none is named.
@@ -104,6 +106,12 @@ pub enum WrittenAnswer {
     Refused(Refusal),
 }
 
+// Reading a text: the written length, and the total of vertices.
+pub enum ReadAnswer {
+    Read(usize, usize),
+    Refused(Refusal),
+}
+
 // The refusal of a cause at two places.
 pub fn refuse(cause: Cause, first: usize, second: usize) -> Refusal
     ensures { λ r. ⌜ r ≡ refusal cause first second ⌝ }
@@ -147,5 +155,7 @@ pub fn number_of(cause: Cause) -> usize
         Cause::OutputLength => 18,
         Cause::EdgeList => 19,
         Cause::DegreeAbove => 20,
+        Cause::Graph6Text => 21,
+        Cause::Graph6Size => 22,
     }
 }

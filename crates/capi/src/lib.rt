@@ -1,7 +1,7 @@
 // The C interface: one export for each entry (include/replica.h). Each calls the entry and hands its answer back in document 01's numbers.
 ghost use mathlib.Core.Path.{_≡_};
 ghost use lib.ListN.{length};
-ghost use Rattle.answer.specs.Numbers.{clearNumbers, takeNumbers, layOutNumbers, figuresNumbers, addNumbers, removeNumbers, completeNumbers, writtenNumbers};
+ghost use Rattle.answer.specs.Numbers.{clearNumbers, takeNumbers, layOutNumbers, figuresNumbers, addNumbers, removeNumbers, completeNumbers, writtenNumbers, readNumbers};
 ghost use Rattle.clearing.specs.Clear.{clearAnswer, clearBytes};
 ghost use Rattle.taking.specs.Take.{takeAnswer, takeJournal};
 ghost use Rattle.reading_back.specs.Held.{lengthAnswer};
@@ -11,6 +11,8 @@ ghost use Rattle.adding.specs.Add.{addAnswer, addAdjacency};
 ghost use Rattle.removing.specs.Remove.{removeAnswer, removeAdjacency};
 ghost use Rattle.listing.specs.List.{listAnswer, listOutput};
 ghost use Rattle.survey.specs.Survey.{surveyAnswer, surveyOutput};
+ghost use Rattle.graph6_writing.specs.Write.{writeAnswer, writeOutput};
+ghost use Rattle.graph6_reading.specs.Read.{readAnswer, readOutput};
 ghost use Rattle.completion.specs.Complete.{completeAnswer, completeAdjacency, completeOutput};
 ghost use Rattle.numbers.specs.Flat.{flat, flatJoin, heldNumbers};
 use numbers::ReplicaAnswer;
@@ -121,6 +123,26 @@ pub extern "C" fn replica_jdm_of_edges(
     ensures { λ _. ⌜ now (output .exit) ≡ surveyOutput (surveyAnswer (now (edges .entry)) total (length (now (output .entry)))) (now (edges .entry)) total (now (output .entry)) ⌝ }
 {
     numbers::of_written(survey::jdm_of_edges(edges, total, output))
+}
+
+#[no_mangle]
+pub extern "C" fn replica_graph6_write(
+    edges: &[u8],
+    total: usize,
+    output: &mut [u8],
+) -> ReplicaAnswer
+    ensures { λ r. ⌜ r ≡ flat (writtenNumbers (writeAnswer (now (edges .entry)) total (length (now (output .entry))))) ⌝ }
+    ensures { λ _. ⌜ now (output .exit) ≡ writeOutput (writeAnswer (now (edges .entry)) total (length (now (output .entry)))) (now (edges .entry)) total (now (output .entry)) ⌝ }
+{
+    numbers::of_written(graph6_writing::graph6_write(edges, total, output))
+}
+
+#[no_mangle]
+pub extern "C" fn replica_graph6_read(text: &[u8], output: &mut [u8]) -> ReplicaAnswer
+    ensures { λ r. ⌜ r ≡ flat (readNumbers (readAnswer (now (text .entry)) (length (now (output .entry))))) ⌝ }
+    ensures { λ _. ⌜ now (output .exit) ≡ readOutput (readAnswer (now (text .entry)) (length (now (output .entry)))) (now (text .entry)) (now (output .entry)) ⌝ }
+{
+    numbers::of_read(graph6_reading::graph6_read(text, output))
 }
 
 #[no_mangle]

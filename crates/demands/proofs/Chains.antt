@@ -3,11 +3,12 @@
 use mathlib.Core.Path.{_≡_, refl}
 use mathlib.Core.Bool.{Bool, true, false, cond, or-true}
 use mathlib.Core.List.{List, [], _∷_}
-use Prim.Native.Nat.{ℕ, _+_, _≤_}
+use Prim.Native.Nat.{ℕ, _+_, _%_, _≤_}
 use lib.Dec.{leb, ltb, eqb}
+use lib.ListN.{length}
 use Rattle.answer.specs.Refusals.{refusal, stop, unless, unlessStopped}
 use Rattle.answer.specs.Numbers.{numberOf}
-use Rattle.answer.specs.declared.Cause.the-variants.{Length, Invalid, Phase, BlockLength, Record, BlockNumber, Conflict, JournalFull, OddDiagonal, UnevenRow, OverfullCell, TooManyVertices, VertexNumber, SameVertex, Linked, CellFull, NotLinked, OutputLength, EdgeList, DegreeAbove}
+use Rattle.answer.specs.declared.Cause.the-variants.{Length, Invalid, Phase, BlockLength, Record, BlockNumber, Conflict, JournalFull, OddDiagonal, UnevenRow, OverfullCell, TooManyVertices, VertexNumber, SameVertex, Linked, CellFull, NotLinked, OutputLength, EdgeList, DegreeAbove, Graph6Text, Graph6Size}
 use Rattle.answer.specs.declared.Refusal.{Refusal}
 use Rattle.answer.specs.declared.Verdict.{Verdict}
 use Rattle.answer.specs.declared.Verdict.the-variants.{Go, Stop}
@@ -30,6 +31,8 @@ use Rattle.answer.specs.declared.CompleteAnswer.{CompleteAnswer}
 use Rattle.answer.specs.declared.CompleteAnswer.the-variants as Complete
 use Rattle.answer.specs.declared.WrittenAnswer.{WrittenAnswer}
 use Rattle.answer.specs.declared.WrittenAnswer.the-variants as Write
+use Rattle.answer.specs.declared.ReadAnswer.{ReadAnswer}
+use Rattle.answer.specs.declared.ReadAnswer.the-variants as Read
 use Rattle.graph.specs.Graph.{DegreeTable}
 use Rattle.graph.specs.Tests.{degrees, firstOdd, firstUneven, firstOverfull, firstOverfullIn, vertices}
 use Rattle.layout.specs.Layout.{mostVertices, layoutVerdict}
@@ -37,8 +40,9 @@ use Rattle.table.specs.Block.{records, firstBad}
 use Rattle.journal.specs.Journal.{mostBlocks, phase, blocks, sameBlock}
 use Rattle.state.specs.Checks.{stateVerdict, phaseVerdict}
 use Rattle.state.specs.Valid.{lengthsOk, valid}
+use Rattle.edgelist.specs.EdgeList.{listed, firstBadEdge, listVerdict}
 use Rattle.taking.specs.Take.{takeNumbered}
-use Rattle.demands.specs.Demand1.{Numbered}
+use Rattle.demands.specs.Demand1.{oneOf, Numbered}
 
 -- What is claimed of an answer: a refusal's number is one of these; of a written length, that it is n and fits m bytes.
 abbrev pub OfVerdict : List ℕ → Verdict → Type 0
@@ -81,6 +85,10 @@ OfComplete ns (Complete.Refused r) = Numbered r ns
 abbrev pub OfWritten : List ℕ → ℕ → ℕ → WrittenAnswer → Type 0
 OfWritten ns n m (Write.Written k) = (k ≡ n) × (n ≤ m)
 OfWritten ns n m (Write.Refused r) = Numbered r ns
+
+abbrev pub OfRead : List ℕ → ℕ → ℕ → ReadAnswer → Type 0
+OfRead ns n m (Read.Read k total) = (k ≡ n) × (n ≤ m)
+OfRead ns n m (Read.Refused r) = Numbered r ns
 
 -- behind a verdict: its refusal, or what is claimed of the rest
 pub behind : {A : Type 0} (Of : List ℕ → A → Type 0) (ns : List ℕ) (v : Verdict) (refused : Refusal → A) (rest : A)
@@ -201,22 +209,41 @@ pub complete-chain : (d : Bool) (i s n : ℕ)
 complete-chain false i s n = refl
 complete-chain true i s n = tt
 
-pub list-chain : (d : Bool) (n m : ℕ) → (d ≡ true → n ≤ m)
-    → OfWritten (1 ∷ 2 ∷ 3 ∷ 18 ∷ []) n m (unless d (Write.Refused (refusal OutputLength 0 0)) (Write.Written n))
-list-chain false n m h = refl
-list-chain true n m h = (refl, h refl)
+-- an output that is long enough, or the check 18, which is among the numbers
+pub fits-chain : (ns : List ℕ) → oneOf 18 ns ≡ true → (d : Bool) (n m : ℕ) → (d ≡ true → n ≤ m)
+    → OfWritten ns n m (unless d (Write.Refused (refusal OutputLength 0 0)) (Write.Written n))
+fits-chain ns e false n m h = e
+fits-chain ns e true n m h = (refl, h refl)
 
-pub survey-chain : (t a b c d : Bool) (i j k n m : ℕ) → (d ≡ true → n ≤ m)
-    → OfWritten (19 ∷ 20 ∷ 18 ∷ []) n m
-    (unless t (Write.Refused (refusal EdgeList 0 0))
-    (unless a (Write.Refused (refusal EdgeList i 0))
-    (unless b (Write.Refused (refusal EdgeList j 0))
+-- the checks 19 of an edge list
+pub list-numbers : (e : List ℕ) (total : ℕ) (ns : List ℕ) → OfVerdict (19 ∷ ns) (listVerdict e total)
+list-numbers e total ns = go (leb total mostVertices) (eqb (length e % 2) 0) (eqb (firstBadEdge e total) (listed e))
+  where
+    go : (a b c : Bool)
+        → OfVerdict (19 ∷ ns)
+        (unless a (Stop (refusal EdgeList 0 0))
+        (unless b (Stop (refusal EdgeList (listed e) 0))
+        (unless c (Stop (refusal EdgeList (firstBadEdge e total) 0)) Go)))
+    go false b c = refl
+    go true false c = refl
+    go true true false = refl
+    go true true true = tt
+
+pub survey-chain : (ns : List ℕ) → oneOf 20 ns ≡ true → oneOf 18 ns ≡ true → (c d : Bool) (k n m : ℕ) → (d ≡ true → n ≤ m)
+    → OfWritten ns n m
     (unless c (Write.Refused (refusal DegreeAbove k 0))
     (unless d (Write.Refused (refusal OutputLength 0 0))
-    (Write.Written n))))))
-survey-chain false a b c d i j k n m h = refl
-survey-chain true false b c d i j k n m h = refl
-survey-chain true true false c d i j k n m h = refl
-survey-chain true true true false d i j k n m h = refl
-survey-chain true true true true false i j k n m h = refl
-survey-chain true true true true true i j k n m h = (refl, h refl)
+    (Write.Written n)))
+survey-chain ns a b false d k n m h = a
+survey-chain ns a b true d k n m h = fits-chain ns b d n m h
+
+pub read-chain : (a b d : Bool) (n total m : ℕ) → (d ≡ true → n ≤ m)
+    → OfRead (22 ∷ 21 ∷ 18 ∷ []) n m
+    (unless a (Read.Refused (refusal Graph6Size 0 0))
+    (unless b (Read.Refused (refusal Graph6Text 0 0))
+    (unless d (Read.Refused (refusal OutputLength 0 0))
+    (Read.Read n total))))
+read-chain false b d n total m h = refl
+read-chain true false d n total m h = refl
+read-chain true true false n total m h = refl
+read-chain true true true n total m h = (refl, h refl)

@@ -1,9 +1,9 @@
 -- Demand 1 (specs/Demand1.antt): refusals carry the numbers of their entry and change nothing; outputs change only where they are written.
 -- Assumes nothing.
-use mathlib.Core.Path.{_≡_, sym, ap, subst}
-use mathlib.Core.Bool.{not}
+use mathlib.Core.Path.{_≡_, refl, sym, ap, subst}
+use mathlib.Core.Bool.{true, not}
 use mathlib.Core.List.{List, [], _∷_}
-use Prim.Native.Nat.{ℕ, _*_, _%_, _≤_, min, max}
+use Prim.Native.Nat.{ℕ, _*_, _≤_, min, max}
 use native.Mathlib.Omega.{arith}
 use lib.Dec.{leb, ltb, eqb}
 use lib.ListN.{length}
@@ -25,10 +25,11 @@ use Rattle.answer.specs.declared.RemoveAnswer.the-variants as Remove
 use Rattle.answer.specs.declared.CompleteAnswer.{CompleteAnswer}
 use Rattle.answer.specs.declared.CompleteAnswer.the-variants as Complete
 use Rattle.answer.specs.declared.WrittenAnswer.{WrittenAnswer}
+use Rattle.answer.specs.declared.ReadAnswer.{ReadAnswer}
 use Rattle.answer.specs.declared.WrittenAnswer.the-variants as Write
 use Rattle.graph.specs.Tests.{vertices}
 use Rattle.table.specs.Block.{blockLength}
-use Rattle.layout.specs.Layout.{mostVertices, layoutVerdict}
+use Rattle.layout.specs.Layout.{layoutVerdict}
 use Rattle.journal.specs.Journal.{blocks, slotLength, tableOf}
 use Rattle.adjacency.specs.Adjacency.{edge}
 use Rattle.state.specs.Checks.{stateVerdict, phaseVerdict}
@@ -42,13 +43,16 @@ use Rattle.laying_out.specs.LayOut.{layOutJournal}
 use Rattle.adding.specs.Add.{addLaid, addAdjacency}
 use Rattle.removing.specs.Remove.{removeLaid, removeAdjacency}
 use Rattle.listing.specs.List.{listBytes, listLaid, listAnswer, listOutput}
-use Rattle.edgelist.specs.EdgeList.{listed, firstBadEdge}
-use Rattle.survey.specs.Survey.{firstAbove, surveyRecords, surveyAnswer, surveyOutput}
+use Rattle.edgelist.specs.EdgeList.{listVerdict}
+use Rattle.survey.specs.Survey.{firstAbove, surveyRecords, surveyListed, surveyAnswer, surveyOutput}
+use Rattle.graph6.specs.Format.{sizeOf, tooLarge, wellFormed}
+use Rattle.graph6_writing.specs.Write.{writeText, writeListed, writeAnswer, writeOutput}
+use Rattle.graph6_reading.specs.Read.{readList, readAnswer, readOutput}
 use Rattle.join_records.specs.Record.{joinRecordSize}
 use Rattle.completion.specs.Complete.{completed, missing, completeLaid, completeAdjacency, completeOutput}
 use Rattle.completion.proofs.Entry.{completed-facts, complete-works}
-use Rattle.demands.specs.Demand1.{SamePast, Demand1}
-use Rattle.demands.proofs.Chains.{OfClear, OfTake, OfLength, OfLayOut, OfFigures, OfAdd, OfRemove, OfComplete, OfWritten, behind, state-numbers, phase-numbers, layout-numbers, clear-chain, takeLater, later-numbers, take-chain, length-chain, add-chain, remove-chain, complete-chain, list-chain, survey-chain}
+use Rattle.demands.specs.Demand1.{oneOf, SamePast, Demand1}
+use Rattle.demands.proofs.Chains.{OfClear, OfTake, OfLength, OfLayOut, OfFigures, OfAdd, OfRemove, OfComplete, OfWritten, OfRead, behind, state-numbers, phase-numbers, layout-numbers, clear-chain, takeLater, later-numbers, take-chain, length-chain, add-chain, remove-chain, complete-chain, fits-chain, list-numbers, survey-chain, read-chain}
 
 -- what was written stands at the start, and nothing behind it changes
 past : (out bytes : List ℕ) (n : ℕ) → n ≡ length bytes → length bytes ≤ length out → SamePast n out (sets out 0 bytes)
@@ -57,18 +61,39 @@ past out bytes n e h = (
   rw e (drop-sets out bytes h),
 )
 
-list-numbers : (j g : List ℕ) (m : ℕ) → OfWritten (1 ∷ 2 ∷ 3 ∷ 18 ∷ []) (length (listBytes (vertexCount j) g)) m (listAnswer j g m)
-list-numbers j g m =
+edges-numbers : (j g : List ℕ) (m : ℕ) → OfWritten (1 ∷ 2 ∷ 3 ∷ 18 ∷ []) (length (listBytes (vertexCount j) g)) m (listAnswer j g m)
+edges-numbers j g m =
     let n = length (listBytes (vertexCount j) g) in
     behind (λ ns. OfWritten ns n m) (1 ∷ 2 ∷ 3 ∷ 18 ∷ []) (phaseVerdict 1 j g) Write.Refused (listLaid j g m) (λ r h. h)
-    (phase-numbers 1 j g (18 ∷ [])) (list-chain (leb n m) n m (leb-true n m))
+    (phase-numbers 1 j g (18 ∷ [])) (fits-chain (1 ∷ 2 ∷ 3 ∷ 18 ∷ []) refl (leb n m) n m (leb-true n m))
 
-survey-numbers : (e : List ℕ) (total m : ℕ)
-    → OfWritten (19 ∷ 20 ∷ 18 ∷ []) (length (surveyRecords e total)) m (surveyAnswer e total m)
-survey-numbers e total m =
+-- behind the checks 19, and with them
+pub survey-rest : (ns : List ℕ) → oneOf 20 ns ≡ true → oneOf 18 ns ≡ true → (e : List ℕ) (total m : ℕ)
+    → OfWritten ns (length (surveyRecords e total)) m (surveyListed e total m)
+survey-rest ns a b e total m =
     let n = length (surveyRecords e total) in
-    survey-chain (leb total mostVertices) (eqb (length e % 2) 0) (eqb (firstBadEdge e total) (listed e)) (eqb (firstAbove e total) total) (leb n m)
-    (listed e) (firstBadEdge e total) (firstAbove e total) n m (leb-true n m)
+    survey-chain ns a b (eqb (firstAbove e total) total) (leb n m) (firstAbove e total) n m (leb-true n m)
+
+survey-numbers : (e : List ℕ) (total m : ℕ) → OfWritten (19 ∷ 20 ∷ 18 ∷ []) (length (surveyRecords e total)) m (surveyAnswer e total m)
+survey-numbers e total m =
+    behind (λ ns. OfWritten ns (length (surveyRecords e total)) m) (19 ∷ 20 ∷ 18 ∷ []) (listVerdict e total) Write.Refused (surveyListed e total m)
+    (λ r h. h) (list-numbers e total (20 ∷ 18 ∷ [])) (survey-rest (19 ∷ 20 ∷ 18 ∷ []) refl refl e total m)
+
+pub write-rest : (ns : List ℕ) → oneOf 18 ns ≡ true → (e : List ℕ) (total m : ℕ)
+    → OfWritten ns (length (writeText e total)) m (writeListed e total m)
+write-rest ns a e total m =
+    let n = length (writeText e total) in
+    fits-chain ns a (leb n m) n m (leb-true n m)
+
+write-numbers : (e : List ℕ) (total m : ℕ) → OfWritten (19 ∷ 18 ∷ []) (length (writeText e total)) m (writeAnswer e total m)
+write-numbers e total m =
+    behind (λ ns. OfWritten ns (length (writeText e total)) m) (19 ∷ 18 ∷ []) (listVerdict e total) Write.Refused (writeListed e total m)
+    (λ r h. h) (list-numbers e total (18 ∷ [])) (write-rest (19 ∷ 18 ∷ []) refl e total m)
+
+read-numbers : (t : List ℕ) (m : ℕ) → OfRead (22 ∷ 21 ∷ 18 ∷ []) (length (readList t)) m (readAnswer t m)
+read-numbers t m =
+    let n = length (readList t) in
+    read-chain (not (tooLarge t)) (wellFormed t) (leb n m) n (sizeOf t) m (leb-true n m)
 
 pub demand-1 : Demand1
 demand-1 =
@@ -124,11 +149,11 @@ demand-1 =
                 (past out (completed j g .records) n (f .length-is) (omega arith)),
           );
       list = λ j g out r e. (
-        subst (OfWritten (1 ∷ 2 ∷ 3 ∷ 18 ∷ []) (length (listBytes (vertexCount j) g)) (length out)) e (list-numbers j g (length out)),
+        subst (OfWritten (1 ∷ 2 ∷ 3 ∷ 18 ∷ []) (length (listBytes (vertexCount j) g)) (length out)) e (edges-numbers j g (length out)),
         ap (λ (a : WrittenAnswer). listOutput a j g out) e,
       );
       list-written = λ j g out n e.
-          let h = subst (OfWritten (1 ∷ 2 ∷ 3 ∷ 18 ∷ []) (length (listBytes (vertexCount j) g)) (length out)) e (list-numbers j g (length out)) in
+          let h = subst (OfWritten (1 ∷ 2 ∷ 3 ∷ 18 ∷ []) (length (listBytes (vertexCount j) g)) (length out)) e (edges-numbers j g (length out)) in
           subst (SamePast n out) (sym (ap (λ (a : WrittenAnswer). listOutput a j g out) e)) (past out (listBytes (vertexCount j) g) n (h .0) (h .1));
       survey = λ e total out r p. (
         subst (OfWritten (19 ∷ 20 ∷ 18 ∷ []) (length (surveyRecords e total)) (length out)) p (survey-numbers e total (length out)),
@@ -137,6 +162,20 @@ demand-1 =
       survey-written = λ e total out n p.
           let h = subst (OfWritten (19 ∷ 20 ∷ 18 ∷ []) (length (surveyRecords e total)) (length out)) p (survey-numbers e total (length out)) in
           subst (SamePast n out) (sym (ap (λ (a : WrittenAnswer). surveyOutput a e total out) p)) (past out (surveyRecords e total) n (h .0) (h .1));
+      graph6-write = λ e total out r p. (
+        subst (OfWritten (19 ∷ 18 ∷ []) (length (writeText e total)) (length out)) p (write-numbers e total (length out)),
+        ap (λ (a : WrittenAnswer). writeOutput a e total out) p,
+      );
+      graph6-written = λ e total out n p.
+          let h = subst (OfWritten (19 ∷ 18 ∷ []) (length (writeText e total)) (length out)) p (write-numbers e total (length out)) in
+          subst (SamePast n out) (sym (ap (λ (a : WrittenAnswer). writeOutput a e total out) p)) (past out (writeText e total) n (h .0) (h .1));
+      graph6-read = λ t out r p. (
+        subst (OfRead (22 ∷ 21 ∷ 18 ∷ []) (length (readList t)) (length out)) p (read-numbers t (length out)),
+        ap (λ (a : ReadAnswer). readOutput a t out) p,
+      );
+      graph6-read-out = λ t out n total p.
+          let h = subst (OfRead (22 ∷ 21 ∷ 18 ∷ []) (length (readList t)) (length out)) p (read-numbers t (length out)) in
+          subst (SamePast n out) (sym (ap (λ (a : ReadAnswer). readOutput a t out) p)) (past out (readList t) n (h .0) (h .1));
       figures = λ j g r e.
           subst (OfFigures (1 ∷ 2 ∷ [])) e (behind OfFigures _ (stateVerdict j g) Figs.Refused _ (λ r h. h) (state-numbers j g _) tt);
     }

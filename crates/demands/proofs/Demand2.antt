@@ -39,7 +39,7 @@ use Rattle.adding.specs.Add.{addAnswer, addAdjacency}
 use Rattle.removing.specs.Remove.{removeAnswer, removeAdjacency}
 use Rattle.completion.specs.Complete.{completeAnswer, completeAdjacency}
 use Rattle.completion.proofs.Entry.{CompleteFacts, CompleteWorks, completed-facts, complete-works}
-use Rattle.demands.specs.Calls.{Call, take, layOut, add, remove, complete, readBack, list, figures, survey, State, cleared, after, afterAll}
+use Rattle.demands.specs.Calls.{Call, take, layOut, add, remove, complete, readBack, list, figures, survey, writeGraph6, readGraph6, State, cleared, after, afterAll}
 use Rattle.demands.specs.Tally.{Tally, noTally, told, toldAdd, toldRemove, toldComplete, counts, withBlock, laysOut, nowLaid, tally, tallyAll}
 use Rattle.demands.specs.Matrix.{Short, HasTable}
 use Rattle.demands.specs.Accepted.{accepted}
@@ -147,6 +147,8 @@ module _ (adds : List ℕ → ℕ) (read : DegreeTable → ℕ) (more : (u : Deg
   answered-tally (list out ∷ cs) s t seen r h = answered-tally cs s t seen r h
   answered-tally (figures ∷ cs) s t seen r h = answered-tally cs s t seen r h
   answered-tally (survey e total out ∷ cs) s t seen r h = answered-tally cs s t seen r h
+  answered-tally (writeGraph6 e total out ∷ cs) s t seen r h = answered-tally cs s t seen r h
+  answered-tally (readGraph6 text out ∷ cs) s t seen r h = answered-tally cs s t seen r h
 
   -- those answered since the clear are what the tally has there
   answered-here : read noTable ≡ 0 → (calls : List Call) → answered adds [] cleared calls ≡ read (tallyAll cleared noTally calls .table)
@@ -240,6 +242,8 @@ done-rest (readBack number ∷ cs) s d q = done-rest cs s d q
 done-rest (list out ∷ cs) s d q = done-rest cs s d q
 done-rest (figures ∷ cs) s d q = done-rest cs s d q
 done-rest (survey e total out ∷ cs) s d q = done-rest cs s d q
+done-rest (writeGraph6 e total out ∷ cs) s d q = done-rest cs s d q
+done-rest (readGraph6 text out ∷ cs) s d q = done-rest cs s d q
 
 -- completed, and nothing moved since
 completed-has : (before rest : List Call) (out : List ℕ) (joins switches n : ℕ)

@@ -22,7 +22,7 @@ use Rattle.laying_out.specs.LayOut.{layOutAnswer, layOutJournal}
 use Rattle.clearing.proofs.Cleared.{cleared-state}
 use Rattle.taking.proofs.Take.{taken-facts, held-facts, facts-held, take-differs, stored-low, stored-same}
 use Rattle.reading_back.proofs.Held.{read-back}
-use Rattle.demands.specs.Calls.{Call, take, layOut, add, remove, complete, readBack, list, figures, survey, State, cleared, after, afterAll}
+use Rattle.demands.specs.Calls.{Call, take, layOut, add, remove, complete, readBack, list, figures, survey, writeGraph6, readGraph6, State, cleared, after, afterAll}
 use Rattle.demands.specs.Tally.{Tally, noTally, told, tally, tallyAll}
 use Rattle.demands.specs.Accepted.{accepted, AcceptedIn}
 use Rattle.demands.specs.ReadBack.{Holds, ReadsBack}
@@ -81,6 +81,8 @@ module _ (s : State) (t : Tally) (r : Reach s t) where
   has-call (list out) number b h = h
   has-call figures number b h = h
   has-call (survey e total out) number b h = h
+  has-call (writeGraph6 e total out) number b h = h
+  has-call (readGraph6 text out) number b h = h
 
   -- a block that is there was there before the call, or was accepted by it
   came-call : (c : Call) (cs : List Call) (number : ℕ) → number < blocks (after s c .journal)
@@ -113,6 +115,8 @@ module _ (s : State) (t : Tally) (r : Reach s t) where
   came-call (list out) cs number l = inl l
   came-call figures cs number l = inl l
   came-call (survey e total out) cs number l = inl l
+  came-call (writeGraph6 e total out) cs number l = inl l
+  came-call (readGraph6 text out) cs number l = inl l
 
 -- over a whole list
 has-all : (calls : List Call) (s : State) (t : Tally) → Reach s t → (number : ℕ) (b : List ℕ) → Has s number b → Has (afterAll s calls) number b

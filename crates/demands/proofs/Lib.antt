@@ -7,6 +7,7 @@ pub mod Demand2
 pub mod Demand3
 pub mod Uses
 pub mod Listed
+pub mod Graph6
 pub mod Isolated
 pub mod Playing
 pub mod Playback

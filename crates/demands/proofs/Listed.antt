@@ -1,9 +1,8 @@
 -- Listing a laid state and surveying the list with its N gives the table of its graph (specs/Listed.antt).
 -- Assumes nothing.
 use mathlib.Core.Path.{_≡_, refl, ap, _∙_}
-use mathlib.Core.Bool.{not}
 use mathlib.Core.List.{List}
-use Prim.Native.Nat.{ℕ, _%_, _≤_, _<_}
+use Prim.Native.Nat.{ℕ, _≤_, _<_}
 use native.Mathlib.Omega.{arith}
 use lib.Dec.{ltb}
 use lib.ListN.{length}
@@ -16,14 +15,12 @@ use Rattle.graph.specs.Tests.{mostDegree}
 use Rattle.graph.proofs.Counts.{same-table}
 use Rattle.graph.proofs.Edge.{degree-same, jdm-same}
 use Rattle.graph.proofs.Matrix.{jdm-classes}
-use Rattle.layout.specs.Layout.{mostVertices}
 use Rattle.adjacency.specs.Adjacency.{edge}
 use Rattle.state.specs.Laid.{vertexCount}
 use Rattle.state.proofs.Facts.{Laid, valid-facts}
 use Rattle.listing.specs.List.{listBytes}
-use Rattle.listing.proofs.List.{list-length}
-use Rattle.listing.proofs.Listed.{list-good, list-graph}
-use Rattle.edgelist.specs.EdgeList.{listed, goodEdge, firstBadEdge, graphOf}
+use Rattle.edgelist.specs.EdgeList.{graphOf}
+use Rattle.edgelist.proofs.Listed.{list-passed, list-graph}
 use Rattle.survey.specs.Survey.{firstAbove, recordsOf, surveyRecords}
 use Rattle.demands.specs.Listed.{ListSurveyed}
 
@@ -36,19 +33,11 @@ table-same n E E′ same =
 
 module _ (j g : List ℕ) (laid : Laid j g) where
   -- the list has the edges of the matrix
-  same : SameOn (vertexCount j) (edge g) (graphOf (listBytes (vertexCount j) g))
-  same = list-graph (vertexCount j) g (laid .partial .simple)
+  pub same : SameOn (vertexCount j) (edge g) (graphOf (listBytes (vertexCount j) g))
+  same = list-graph (vertexCount j) (edge g) (laid .partial .simple)
 
   records : surveyRecords (listBytes (vertexCount j) g) (vertexCount j) ≡ recordsOf (ownTable (vertexCount j) (edge g))
   records = ap recordsOf (table-same (vertexCount j) (edge g) (graphOf (listBytes (vertexCount j) g)) same)
-
-  even : length (listBytes (vertexCount j) g) % 2 ≡ 0
-  even = omega (arith, list-length (vertexCount j) g (laid .partial .simple))
-
-  good : firstBadEdge (listBytes (vertexCount j) g) (vertexCount j) ≡ listed (listBytes (vertexCount j) g)
-  good =
-      lowest-none 0 (listed (listBytes (vertexCount j) g)) (λ i. not (goodEdge (listBytes (vertexCount j) g) (vertexCount j) i)) (omega arith)
-      (λ i z l. ap not (list-good (vertexCount j) g (laid .vertices-le) i l))
 
   -- no vertex of the list has a degree above 40
   low : (v : ℕ) → v < vertexCount j → degree (vertexCount j) (graphOf (listBytes (vertexCount j) g)) v ≤ mostDegree
@@ -70,11 +59,8 @@ list-surveyed j g lengths sound phased = (
   records j g laid,
   λ m h.
       rw (
-        le-leb (vertexCount j) mostVertices (laid .vertices-le),
-        even j g laid,
-        good j g laid,
+        list-passed (vertexCount j) (edge g) (laid .vertices-le),
         none j g laid,
-        eq-eqb (listed (listBytes (vertexCount j) g)) (listed (listBytes (vertexCount j) g)) refl,
         eq-eqb (vertexCount j) (vertexCount j) refl,
         le-leb (length (surveyRecords (listBytes (vertexCount j) g) (vertexCount j))) m h,
       ),

@@ -39,7 +39,7 @@ use Rattle.adding.proofs.Add.{added-facts, add-works}
 use Rattle.removing.proofs.Remove.{removed-facts, remove-works}
 use Rattle.completion.specs.Complete.{completeAnswer, completeAdjacency}
 use Rattle.completion.proofs.Entry.{completed-facts, complete-works}
-use Rattle.demands.specs.Calls.{Call, take, layOut, add, remove, complete, readBack, list, figures, survey, State, cleared, after, afterAll}
+use Rattle.demands.specs.Calls.{Call, take, layOut, add, remove, complete, readBack, list, figures, survey, writeGraph6, readGraph6, State, cleared, after, afterAll}
 use Rattle.demands.specs.Tally.{Tally, noTally, told, toldAdd, toldRemove, toldComplete, counts, withBlock, laysOut, nowLaid, withEdges, tally, tallyAll}
 
 -- the phase that the tally says
@@ -228,6 +228,8 @@ module _ (s : State) (t : Tally) (r : Reach s t) where
   after-call (list out) = r
   after-call figures = r
   after-call (survey e total out) = r
+  after-call (writeGraph6 e total out) = r
+  after-call (readGraph6 text out) = r
 
 -- over a whole list
 pub reach-from : (calls : List Call) (s : State) (t : Tally) → Reach s t → Reach (afterAll s calls) (tallyAll s t calls)

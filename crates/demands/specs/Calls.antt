@@ -11,8 +11,8 @@ use Rattle.adding.specs.Add.{addAnswer, addAdjacency}
 use Rattle.removing.specs.Remove.{removeAnswer, removeAdjacency}
 use Rattle.completion.specs.Complete.{completeAnswer, completeAdjacency}
 
--- the calls that demand 3 lists: those that may change the state, with any arguments, and the reading ones between them; a survey, which is
--- lent no state, may stand there too. A list of bytes is a block, or an output as it is lent, with room or without.
+-- the calls that demand 3 lists: those that may change the state, with any arguments, and the reading ones between them; a survey, and
+-- writing or reading graph6, which are lent no state, may stand there too. A list of bytes is a block, or an output as it is lent, with room or without.
 pub data Call : Type 0 where
   take : ℕ → List ℕ → Call
   layOut : Call
@@ -23,6 +23,8 @@ pub data Call : Type 0 where
   list : List ℕ → Call
   figures : Call
   survey : List ℕ → ℕ → List ℕ → Call
+  writeGraph6 : List ℕ → ℕ → List ℕ → Call
+  readGraph6 : List ℕ → List ℕ → Call
 
 pub record State : Type 0 where
   pub journal : List ℕ
@@ -60,6 +62,8 @@ after s (readBack number) = s
 after s (list out) = s
 after s figures = s
 after s (survey e total out) = s
+after s (writeGraph6 e total out) = s
+after s (readGraph6 text out) = s
 
 -- the state after a list of calls
 abbrev pub afterAll : State → List Call → State

@@ -18,6 +18,7 @@ use Rattle.answer.specs.declared.AddAnswer.the-variants as Add
 use Rattle.answer.specs.declared.RemoveAnswer.the-variants as Remove
 use Rattle.answer.specs.declared.CompleteAnswer.the-variants as Complete
 use Rattle.answer.specs.declared.WrittenAnswer.the-variants as Write
+use Rattle.answer.specs.declared.ReadAnswer.the-variants as Read
 use Rattle.clearing.specs.Clear.{clearAnswer, clearBytes}
 use Rattle.taking.specs.Take.{takeAnswer, takeJournal}
 use Rattle.reading_back.specs.Held.{lengthAnswer, heldPart}
@@ -27,6 +28,8 @@ use Rattle.adding.specs.Add.{addAnswer, addAdjacency}
 use Rattle.removing.specs.Remove.{removeAnswer, removeAdjacency}
 use Rattle.listing.specs.List.{listAnswer, listOutput}
 use Rattle.survey.specs.Survey.{surveyAnswer, surveyOutput}
+use Rattle.graph6_writing.specs.Write.{writeAnswer, writeOutput}
+use Rattle.graph6_reading.specs.Read.{readAnswer, readOutput}
 use Rattle.join_records.specs.Record.{joinRecordSize}
 use Rattle.completion.specs.Complete.{completeAnswer, completeAdjacency, completeOutput}
 
@@ -69,4 +72,12 @@ pub record Demand1 : Type 0 where
       Numbered r (19 ∷ 20 ∷ 18 ∷ []) × (surveyOutput (surveyAnswer e total (length out)) e total out ≡ out)
   pub survey-written : (e : List ℕ) (total : ℕ) (out : List ℕ) (n : ℕ) → surveyAnswer e total (length out) ≡ Write.Written n →
       SamePast n out (surveyOutput (surveyAnswer e total (length out)) e total out)
+  pub graph6-write : (e : List ℕ) (total : ℕ) (out : List ℕ) (r : Refusal) → writeAnswer e total (length out) ≡ Write.Refused r →
+      Numbered r (19 ∷ 18 ∷ []) × (writeOutput (writeAnswer e total (length out)) e total out ≡ out)
+  pub graph6-written : (e : List ℕ) (total : ℕ) (out : List ℕ) (n : ℕ) → writeAnswer e total (length out) ≡ Write.Written n →
+      SamePast n out (writeOutput (writeAnswer e total (length out)) e total out)
+  pub graph6-read : (t out : List ℕ) (r : Refusal) → readAnswer t (length out) ≡ Read.Refused r →
+      Numbered r (22 ∷ 21 ∷ 18 ∷ []) × (readOutput (readAnswer t (length out)) t out ≡ out)
+  pub graph6-read-out : (t out : List ℕ) (n total : ℕ) → readAnswer t (length out) ≡ Read.Read n total →
+      SamePast n out (readOutput (readAnswer t (length out)) t out)
   pub figures : (j g : List ℕ) (r : Refusal) → figuresAnswer j g ≡ Figs.Refused r → Numbered r (1 ∷ 2 ∷ [])

@@ -20,7 +20,7 @@ use Rattle.taking.specs.Take.{takeAnswer}
 use Rattle.adding.specs.Add.{addAnswer}
 use Rattle.removing.specs.Remove.{removeAnswer}
 use Rattle.completion.specs.Complete.{completeAnswer}
-use Rattle.demands.specs.Calls.{Call, take, layOut, add, remove, complete, readBack, list, figures, survey, State, cleared, after, afterAll}
+use Rattle.demands.specs.Calls.{Call, take, layOut, add, remove, complete, readBack, list, figures, survey, writeGraph6, readGraph6, State, cleared, after, afterAll}
 use Rattle.demands.specs.Matrix.{Short, HasTable}
 use Rattle.demands.specs.Accepted.{accepted, AcceptedIn}
 
@@ -44,6 +44,8 @@ answered adds seen s (readBack number ∷ cs) = answered adds seen s cs
 answered adds seen s (list out ∷ cs) = answered adds seen s cs
 answered adds seen s (figures ∷ cs) = answered adds seen s cs
 answered adds seen s (survey e total out ∷ cs) = answered adds seen s cs
+answered adds seen s (writeGraph6 e total out ∷ cs) = answered adds seen s cs
+answered adds seen s (readGraph6 text out ∷ cs) = answered adds seen s cs
 
 -- the sum since the clear: in each cell, and of the isolated vertices
 abbrev pub answeredSum : List Call → DegreeTable
@@ -70,6 +72,8 @@ quiet s (readBack number ∷ cs) = quiet s cs
 quiet s (list out ∷ cs) = quiet s cs
 quiet s (figures ∷ cs) = quiet s cs
 quiet s (survey e total out ∷ cs) = quiet s cs
+quiet s (writeGraph6 e total out ∷ cs) = quiet s cs
+quiet s (readGraph6 text out ∷ cs) = quiet s cs
 
 pub record Demand2 : Type 0 where
   -- completed: calls since the clear, a completing that was not refused, and calls after it that added and removed nothing

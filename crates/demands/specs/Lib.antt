@@ -8,5 +8,6 @@ pub mod Demand3
 pub mod ReadBack
 pub mod EmptyBlocks
 pub mod Listed
+pub mod Graph6
 pub mod Playback
 pub mod Isolated

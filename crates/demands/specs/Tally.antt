@@ -20,7 +20,7 @@ use Rattle.journal.specs.Journal.{mostBlocks}
 use Rattle.adding.specs.Add.{addAnswer}
 use Rattle.removing.specs.Remove.{removeAnswer}
 use Rattle.completion.specs.Complete.{completeAnswer}
-use Rattle.demands.specs.Calls.{Call, take, layOut, add, remove, complete, readBack, list, figures, survey, State, after}
+use Rattle.demands.specs.Calls.{Call, take, layOut, add, remove, complete, readBack, list, figures, survey, writeGraph6, readGraph6, State, after}
 
 -- what the tally is told of a call
 pub data Told : Type 0 where
@@ -41,6 +41,8 @@ told s (readBack number) = toldNothing
 told s (list out) = toldNothing
 told s figures = toldNothing
 told s (survey e total out) = toldNothing
+told s (writeGraph6 e total out) = toldNothing
+told s (readGraph6 text out) = toldNothing
 
 -- a block count, a table (T and, beside it, the isolated vertices), laid or not, and an edge count
 pub record Tally : Type 0 where

@@ -4,12 +4,13 @@ use mathlib.Core.Path.{_≡_, refl, ap, _∙_}
 use mathlib.Core.Bool.{Bool, true, false, _&&_, _||_, not}
 use mathlib.Core.List.{List}
 use mathlib.Core.Logic.{_⊎_, inl, inr, ⊎-elim}
-use Prim.Native.Nat.{ℕ, zero, suc, _+_, _-_, _≤_, _<_}
+use Prim.Native.Nat.{ℕ, zero, suc, _+_, _-_, _%_, _≤_, _<_}
 use native.Mathlib.Nat.{eq-or-lt-of-le, le-of-suc-le-suc}
 use native.Mathlib.Numerals.{add-one}
 use native.Mathlib.Omega.{arith}
 use lib.Dec.{eqb, ltb}
-use borrow.Author.Tests.{ltb-true, eqb-true, not-false}
+use lib.ListN.{length}
+use borrow.Author.Tests.{ltb-true, leb-true, eqb-true, le-leb, eq-eqb, not-false}
 use Rattle.finite.specs.Range.{sumTo}
 use Rattle.finite.proofs.All.{and-left, and-right}
 use Rattle.finite.proofs.Lowest.{lowest-before}
@@ -17,7 +18,31 @@ use Rattle.finite.proofs.Sum.{sumTo-none, sumTo-more, sumTo-zero}
 use Rattle.graph.specs.Graph.{Graph, Simple, edges, atEdge, AddsEdge}
 use Rattle.graph.proofs.Edge.{Place, forth, back, elsewhere, place}
 use Rattle.graph.proofs.Update.{simple-adds, edges-adds}
-use Rattle.edgelist.specs.EdgeList.{listed, endV, endW, rises, goodEdge, firstBadEdge, graphOf}
+use Rattle.answer.specs.declared.Verdict.the-variants.{Go}
+use Rattle.answer.proofs.Checks.{unless-go}
+use Rattle.layout.specs.Layout.{mostVertices}
+use Rattle.edgelist.specs.EdgeList.{listed, endV, endW, rises, goodEdge, firstBadEdge, graphOf, listVerdict}
+
+-- what a list that passes the checks 19 may go by, and back
+pub record Passed (e : List ℕ) (total : ℕ) : Type 0 where
+  pub few : total ≤ mostVertices
+  pub even : length e % 2 ≡ 0
+  pub well : firstBadEdge e total ≡ listed e
+
+pub verdict-passed : (e : List ℕ) (total : ℕ) → listVerdict e total ≡ Go → Passed e total
+verdict-passed e total h =
+    let a = unless-go _ _ _ h in
+    let b = unless-go _ _ _ (a .1) in
+    let c = unless-go _ _ _ (b .1) in
+    record {
+      few = leb-true total mostVertices (a .0);
+      even = eqb-true (length e % 2) 0 (b .0);
+      well = eqb-true (firstBadEdge e total) (listed e) (c .0);
+    }
+
+pub verdict-go : (e : List ℕ) (total : ℕ) → total ≤ mostVertices → length e % 2 ≡ 0 → firstBadEdge e total ≡ listed e → listVerdict e total ≡ Go
+verdict-go e total few even well =
+    rw (le-leb total mostVertices few, eq-eqb (length e % 2) 0 even, eq-eqb (firstBadEdge e total) (listed e) well)
 
 -- what the test of an edge says
 pub record Good (e : List ℕ) (total i : ℕ) : Type 0 where
@@ -41,7 +66,7 @@ or-cases true b h = inl refl
 or-cases false b h = inr h
 
 -- edge i is before edge j, by v and then w
-abbrev Before : List ℕ → ℕ → ℕ → Type 0
+abbrev pub Before : List ℕ → ℕ → ℕ → Type 0
 Before e i j = (endV e i < endV e j) ⊎ ((endV e i ≡ endV e j) × (endW e i < endW e j))
 
 rises-before : (e : List ℕ) (i : ℕ) → 0 < i → rises e i ≡ true → Before e (i - 1) i
@@ -93,7 +118,7 @@ module _ (e : List ℕ) (total : ℕ) (well : firstBadEdge e total ≡ listed e)
   good i l = good-edge e total i (all-good i l)
 
   -- each edge is before all later ones
-  all-before : (i j : ℕ) → i < j → j < listed e → Before e i j
+  pub all-before : (i j : ℕ) → i < j → j < listed e → Before e i j
   all-before i zero h l = absurd (omega arith)
   all-before i (suc j) h l = ⊎-elim (λ q. rw q step) (λ m. before-both e i j (suc j) (all-before i j m (omega arith)) step) (eq-or-lt-of-le (le-of-suc-le-suc h))
     where

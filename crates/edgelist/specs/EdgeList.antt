@@ -1,13 +1,18 @@
 -- A list of edges as bytes (document 01: the link list): 2 bytes an edge, v then w, v < w, ascending by v then w; and the total of the vertices
 -- that it may name (document 02, P1: the board total).
 -- Assumes nothing.
-use mathlib.Core.Bool.{Bool, _&&_, _||_, not}
-use mathlib.Core.List.{List}
-use Prim.Native.Nat.{ℕ, _+_, _-_, _*_, _/_}
-use lib.Dec.{eqb, ltb}
+use mathlib.Core.Bool.{Bool, _&&_, _||_, not, cond}
+use mathlib.Core.List.{List, [], _∷_}
+use Prim.Native.Nat.{ℕ, _+_, _-_, _*_, _/_, _%_}
+use lib.Dec.{eqb, ltb, leb}
 use lib.ListN.{length, getD}
-use Rattle.finite.specs.Range.{sumTo, lowest}
+use Rattle.finite.specs.Range.{sumTo, lowest, catTo}
 use Rattle.graph.specs.Graph.{Graph, atEdge}
+use Rattle.answer.specs.Refusals.{refusal, unless}
+use Rattle.answer.specs.declared.Cause.the-variants.{EdgeList}
+use Rattle.answer.specs.declared.Verdict.{Verdict}
+use Rattle.answer.specs.declared.Verdict.the-variants.{Go, Stop}
+use Rattle.layout.specs.Layout.{mostVertices}
 
 -- how many whole edges the bytes hold, and the two ends of edge i
 abbrev pub listed : List ℕ → ℕ
@@ -35,3 +40,22 @@ firstBadEdge e total = lowest 0 (listed e) (λ i. not (goodEdge e total i))
 -- the graph that has these edges and no others
 abbrev pub graphOf : List ℕ → Graph
 graphOf e v w = sumTo (listed e) (λ i. atEdge (endV e i) (endW e i) v w)
+
+-- the checks 19 of a list and its total, in their order: for the total, for an odd length, and for the edges
+abbrev pub listVerdict : List ℕ → ℕ → Verdict
+listVerdict e total =
+    unless (leb total mostVertices) (Stop (refusal EdgeList 0 0))
+    (unless (eqb (length e % 2) 0) (Stop (refusal EdgeList (listed e) 0))
+    (unless (eqb (firstBadEdge e total) (listed e)) (Stop (refusal EdgeList (firstBadEdge e total) 0)) Go))
+
+-- the bytes of the edge v – w, where v < w and the matrix's row of v has it
+abbrev pub edgeBytes : (ℕ → ℕ) → ℕ → ℕ → List ℕ
+edgeBytes row v w = cond (ltb v w && eqb (row w) 1) (v ∷ w ∷ []) []
+
+-- the edges of v to higher vertices below n
+abbrev pub rowBytes : ℕ → (ℕ → ℕ) → ℕ → List ℕ
+rowBytes n row v = catTo n (edgeBytes row v)
+
+-- the list of the edges of a graph on n vertices
+abbrev pub listOf : ℕ → Graph → List ℕ
+listOf n E = catTo n (λ v. rowBytes n (E v) v)

@@ -1,3 +1,1 @@
-pub mod Pairs
 pub mod List
-pub mod Listed

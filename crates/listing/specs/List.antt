@@ -1,12 +1,10 @@
 -- Listing the edges (document 01: list): 2 bytes an edge, v then w, v < w, ascending by v then w.
 -- Assumes nothing.
-use mathlib.Core.Bool.{_&&_, cond}
-use mathlib.Core.List.{List, [], _∷_}
+use mathlib.Core.List.{List}
 use Prim.Native.Nat.{ℕ}
-use lib.Dec.{eqb, ltb, leb}
+use lib.Dec.{leb}
 use lib.ListN.{length}
 use lib.Seq.{sets}
-use Rattle.finite.specs.Range.{catTo}
 use Rattle.answer.specs.Refusals.{refusal, unless, unlessStopped}
 use Rattle.answer.specs.declared.Cause.the-variants.{OutputLength}
 use Rattle.answer.specs.declared.WrittenAnswer.{WrittenAnswer}
@@ -14,14 +12,11 @@ use Rattle.answer.specs.declared.WrittenAnswer.the-variants.{Written, Refused}
 use Rattle.adjacency.specs.Adjacency.{edge}
 use Rattle.state.specs.Checks.{phaseVerdict}
 use Rattle.state.specs.Laid.{vertexCount}
-
--- the bytes of the edge v – w, where it is one and v < w
-abbrev pub edgeBytes : List ℕ → ℕ → ℕ → List ℕ
-edgeBytes g v w = cond (ltb v w && eqb (edge g v w) 1) (v ∷ w ∷ []) []
+use Rattle.edgelist.specs.EdgeList.{listOf}
 
 -- the edge list of the first n vertices
 abbrev pub listBytes : ℕ → List ℕ → List ℕ
-listBytes n g = catTo n (λ v. catTo n (edgeBytes g v))
+listBytes n g = listOf n (edge g)
 
 -- on a valid laid state, for an output of m bytes: the check 18
 abbrev pub listLaid : List ℕ → List ℕ → ℕ → WrittenAnswer

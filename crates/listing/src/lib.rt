@@ -1,51 +1,22 @@
 // Listing the edges (document 01: list).
 ghost use mathlib.Core.Path.{_≡_};
-ghost use Prim.Native.Nat.{_+_, _*_, _≤_, _<_};
+ghost use Prim.Native.Nat.{_≤_};
 ghost use lib.ListN.{length};
 ghost use lib.Seq.{sets};
-ghost use Rattle.finite.specs.Range.{catTo};
 ghost use Rattle.answer.specs.declared.Verdict.the-variants.{Go};
-ghost use Rattle.adjacency.specs.Adjacency.{adjacencySize, side, edge};
+ghost use Rattle.adjacency.specs.Adjacency.{adjacencySize, side};
 ghost use Rattle.state.specs.Checks.{phaseVerdict};
-ghost use Rattle.listing.specs.List.{edgeBytes, listBytes, listLaid, listAnswer, listOutput};
+ghost use Rattle.listing.specs.List.{listBytes, listLaid, listAnswer, listOutput};
 use adjacency::SIDE;
 use answer::Cause;
 use answer::Verdict;
 use answer::WrittenAnswer;
 use answer::refuse;
+use edgelist::put_row;
 use state::laid_vertices;
 use state::phase_check;
 
-// The bytes of the edge v – w, if it is one, written at place at. The place behind them.
-fn put_edge(adjacency: &[u8], v: usize, w: usize, output: &mut [u8], at: usize) -> usize
-    requires { ⌜ (length (now adjacency) ≡ adjacencySize) × (v < w) × (w < side) × (at ≤ 2 * adjacencySize) × (at + length (edgeBytes (now adjacency) v w) ≤ length (now output)) ⌝ }
-    ensures { λ r. ⌜ (r ≡ at + length (edgeBytes (now (adjacency .entry)) v w)) × (r ≤ at + 2) ⌝ }
-    ensures { λ _. ⌜ now (output .exit) ≡ sets (now (output .entry)) at (edgeBytes (now (adjacency .entry)) v w) ⌝ }
-{
-    if adjacency[v * SIDE + w] == 1 {
-        output[at] = v as u8;
-        output[at + 1] = w as u8;
-        return at + 2;
-    }
-    at
-}
-
-// The edges of v to higher vertices.
-fn put_row(adjacency: &[u8], n: usize, v: usize, output: &mut [u8], at: usize) -> usize
-    requires { ⌜ (length (now adjacency) ≡ adjacencySize) × (n ≤ side) × (v < n) × (at + 2 * side ≤ 2 * adjacencySize) × (at + length (catTo n (edgeBytes (now adjacency) v)) ≤ length (now output)) ⌝ }
-    ensures { λ r. ⌜ (r ≡ at + length (catTo n (edgeBytes (now (adjacency .entry)) v))) × (r ≤ at + 2 * side) ⌝ }
-    ensures { λ _. ⌜ now (output .exit) ≡ sets (now (output .entry)) at (catTo n (edgeBytes (now (adjacency .entry)) v)) ⌝ }
-{
-    let mut a = at;
-    let mut w = v + 1;
-    while w < n {
-        a = put_edge(adjacency, v, w, output, a);
-        w += 1;
-    }
-    a
-}
-
-// All edges.
+// All edges, row by row.
 fn put_list(adjacency: &[u8], n: usize, output: &mut [u8]) -> usize
     requires { ⌜ (length (now adjacency) ≡ adjacencySize) × (n ≤ side) × (length (listBytes n (now adjacency)) ≤ length (now output)) ⌝ }
     ensures { λ r. ⌜ r ≡ length (listBytes n (now (adjacency .entry))) ⌝ }
@@ -53,7 +24,7 @@ fn put_list(adjacency: &[u8], n: usize, output: &mut [u8]) -> usize
 {
     let mut a = 0;
     for v in 0..n {
-        a = put_row(adjacency, n, v, output, a);
+        a = put_row(&adjacency[v * SIDE..v * SIDE + n], v, output, a);
     }
     a
 }

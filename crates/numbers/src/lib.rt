@@ -1,7 +1,7 @@
 // Document 01's numbers of each answer, in the struct that the C interface hands back.
 ghost use mathlib.Core.Path.{_≡_};
 ghost use Prim.Native.Nat.{ℕ, _<_};
-ghost use Rattle.answer.specs.Numbers.{refused, clearNumbers, takeNumbers, layOutNumbers, figuresNumbers, addNumbers, removeNumbers, completeNumbers, writtenNumbers};
+ghost use Rattle.answer.specs.Numbers.{refused, clearNumbers, takeNumbers, layOutNumbers, figuresNumbers, addNumbers, removeNumbers, completeNumbers, writtenNumbers, readNumbers};
 ghost use Rattle.journal.specs.Journal.{mostBlocks};
 ghost use Rattle.numbers.specs.Flat.{flat, flatJoin, heldNumbers};
 use answer::AddAnswer;
@@ -10,6 +10,7 @@ use answer::CompleteAnswer;
 use answer::FiguresAnswer;
 use answer::LayOutAnswer;
 use answer::LengthAnswer;
+use answer::ReadAnswer;
 use answer::Refusal;
 use answer::RemoveAnswer;
 use answer::TakeAnswer;
@@ -179,6 +180,15 @@ pub fn of_written(answer: WrittenAnswer) -> ReplicaAnswer
     match answer {
         WrittenAnswer::Written(n) => two(0, n, 0),
         WrittenAnswer::Refused(r) => of_refusal(r),
+    }
+}
+
+pub fn of_read(answer: ReadAnswer) -> ReplicaAnswer
+    ensures { λ r. ⌜ r ≡ flat (readNumbers answer) ⌝ }
+{
+    match answer {
+        ReadAnswer::Read(n, total) => two(0, n, total),
+        ReadAnswer::Refused(r) => of_refusal(r),
     }
 }
 

@@ -11,7 +11,7 @@ use lib.ListN.{length, replicate}
 use Rattle.finite.specs.Range.{bit, sumTo, catTo}
 use Rattle.finite.proofs.Sum.{sumTo-none, sumTo-more}
 use Rattle.finite.proofs.Fold.{catTo-cong, foldTo-keeps}
-use Rattle.graph.specs.Graph.{edges, DegreeTable}
+use Rattle.graph.specs.Graph.{Simple, edges, DegreeTable}
 use Rattle.graph.proofs.Counts.{same-table}
 use Rattle.answer.specs.declared.Refusal.{Refusal}
 use Rattle.answer.specs.declared.Verdict.{Verdict}
@@ -36,40 +36,47 @@ use Rattle.laying_out.specs.LayOut.{layOutAnswer, layOutJournal}
 use Rattle.clearing.specs.Clear.{ClearedState}
 use Rattle.clearing.proofs.Cleared.{cleared-state}
 use Rattle.taking.proofs.Take.{taken-facts, held-facts, take-lengths, take-valid}
-use Rattle.laying_out.proofs.LayOut.{LaidOutFacts, lay-out-facts, lay-out-vertices, lay-out-lengths, lay-out-valid}
-use Rattle.listing.specs.List.{edgeBytes, listBytes}
-use Rattle.listing.proofs.List.{list-length}
-use Rattle.listing.proofs.Pairs.{cat-sized, one-sized}
+use Rattle.laying_out.proofs.LayOut.{LaidOutFacts, lay-out-facts, lay-out-lengths, lay-out-valid}
+use Rattle.edgelist.specs.EdgeList.{graphOf, edgeBytes, rowBytes}
+use Rattle.edgelist.proofs.Listing.{list-length}
+use Rattle.edgelist.proofs.Listed.{list-graph}
+use Rattle.edgelist.proofs.Pairs.{cat-sized, one-sized}
+use Rattle.listing.specs.List.{listBytes}
+use Rattle.graph6.proofs.Text.{text-cong}
+use Rattle.graph6_writing.specs.Write.{writeText}
 use Rattle.completion.specs.Complete.{completed, completeAnswer, completeAdjacency}
 use Rattle.completion.proofs.Entry.{CompleteFacts, completed-facts, facts-completed, missing-most, complete-works}
-use Rattle.text.specs.Text.{refusedLine, headLine, edgeLines}
+use Rattle.text.specs.Text.{newline, refusedLine, headLine, edgeLines}
 use Rattle.text.proofs.Lines.{lines-cat, lines-one}
+use Rattle.runner.specs.declared.Form.{Form}
+use Rattle.runner.specs.declared.Form.the-variants.{Lines, Graph6}
 use Rattle.runner.specs.Program.{blocksIn, blockIn, Taking, takeVerdict, takeNext, takeAll, stateText, recordsMost, completedText, laidText, takenText, textFrom}
-use Rattle.runner.specs.Theorems.{CompletesAlways, inputTable, edgeText, Built, ProgramSays}
+use Rattle.runner.specs.Theorems.{CompletesAlways, inputTable, edgeText, shown, Built, ProgramSays}
 use Rattle.runner.proofs.Taking.{IsGo}
+use Rattle.runner.proofs.Room.{laid-count}
 
 -- the lines of a graph's edge list, v by v and w by w
 module _ (n : ℕ) (g : List ℕ) where
   there : ℕ → ℕ → ℕ
   there v w = bit (ltb v w && eqb (edge g v w) 1)
 
-  edge-sized : (v w : ℕ) → length (edgeBytes g v w) ≡ 2 * there v w
+  edge-sized : (v w : ℕ) → length (edgeBytes (edge g v) v w) ≡ 2 * there v w
   unfolding there
   edge-sized v w = one-sized (ltb v w && eqb (edge g v w) 1) v w
 
-  row-sized : (v : ℕ) → length (catTo n (edgeBytes g v)) ≡ 2 * sumTo n (there v)
-  row-sized v = cat-sized (edgeBytes g v) (there v) (edge-sized v) n
+  row-sized : (v : ℕ) → length (rowBytes n (edge g v) v) ≡ 2 * sumTo n (there v)
+  row-sized v = cat-sized (edgeBytes (edge g v) v) (there v) (edge-sized v) n
 
-  lines-row : (v : ℕ) → edgeLines (catTo n (edgeBytes g v)) ≡ catTo n (edgeText g v)
+  lines-row : (v : ℕ) → edgeLines (rowBytes n (edge g v) v) ≡ catTo n (edgeText g v)
   lines-row v =
-      lines-cat (edgeBytes g v) (λ m. sumTo m (there v)) (cat-sized (edgeBytes g v) (there v) (edge-sized v)) n
-      ∙ catTo-cong (λ w. edgeLines (edgeBytes g v w)) (edgeText g v) n (λ w l. lines-one (ltb v w && eqb (edge g v w) 1) v w)
+      lines-cat (edgeBytes (edge g v) v) (λ m. sumTo m (there v)) (cat-sized (edgeBytes (edge g v) v) (there v) (edge-sized v)) n
+      ∙ catTo-cong (λ w. edgeLines (edgeBytes (edge g v) v w)) (edgeText g v) n (λ w l. lines-one (ltb v w && eqb (edge g v w) 1) v w)
 
   lines-list : edgeLines (listBytes n g) ≡ catTo n (λ v. catTo n (edgeText g v))
   lines-list =
-      lines-cat (λ v. catTo n (edgeBytes g v)) (λ m. sumTo m (λ v. sumTo n (there v)))
-      (cat-sized (λ v. catTo n (edgeBytes g v)) (λ v. sumTo n (there v)) row-sized) n
-      ∙ catTo-cong (λ v. edgeLines (catTo n (edgeBytes g v))) (λ v. catTo n (edgeText g v)) n (λ v l. lines-row v)
+      lines-cat (λ v. rowBytes n (edge g v) v) (λ m. sumTo m (λ v. sumTo n (there v)))
+      (cat-sized (λ v. rowBytes n (edge g v) v) (λ v. sumTo n (there v)) row-sized) n
+      ∙ catTo-cong (λ v. edgeLines (rowBytes n (edge g v) v)) (λ v. catTo n (edgeText g v)) n (λ v l. lines-row v)
 
 -- the sum of the first i blocks
 abbrev tableTo : List ℕ → ℕ → DegreeTable
@@ -131,15 +138,27 @@ module _ (g input : List ℕ) where
       })
       (λ i s l before. reached-next i s before)
 
+-- the text of a state shows its graph
+state-shown : (form : Form) (n switches : ℕ) (j g : List ℕ) → n ≡ vertexCount j → Simple (vertexCount j) (edge g)
+    → stateText form n switches j g ≡ shown form (vertexCount j) switches g
+state-shown Lines n switches j g count simple =
+    let d = length (listBytes (vertexCount j) g) / 2 in
+    let q : d ≡ edges (vertexCount j) (edge g) = omega (arith, list-length (vertexCount j) (edge g) simple) in
+    ap (λ (n : ℕ). headLine n d switches ++ edgeLines (listBytes (vertexCount j) g)) count
+    ∙ ap (λ (m : ℕ). headLine (vertexCount j) m switches ++ edgeLines (listBytes (vertexCount j) g)) q
+    ∙ ap (λ (t : List ℕ). headLine (vertexCount j) (edges (vertexCount j) (edge g)) switches ++ t) (lines-list (vertexCount j) g)
+state-shown Graph6 n switches j g count simple =
+    ap (λ (n : ℕ). writeText (listBytes (vertexCount j) g) n ++ newline) count
+    ∙ ap (λ (t : List ℕ). t ++ newline)
+    (text-cong (vertexCount j) (edge g) (graphOf (listBytes (vertexCount j) g)) (list-graph (vertexCount j) (edge g) simple))
+
 -- a completed state's text
 module _ (j g : List ℕ) (n joins switches written : ℕ) (count : n ≡ vertexCount j)
     (e : completeAnswer j g recordsMost ≡ Completed joins switches written) where
-  built : Built (tableOf j) (stateText n switches j (completed j g .adjacency))
-  built =
+  built : (form : Form) → Built form (tableOf j) (stateText form n switches j (completed j g .adjacency))
+  built form =
       let w = complete-works j g (completed-facts j g recordsMost joins switches written e .facts) in
       let h = completed j g .adjacency in
-      let d = length (listBytes (vertexCount j) h) / 2 in
-      let q : d ≡ edges (vertexCount j) (edge h) = omega (arith, list-length (vertexCount j) h (w .simple)) in
       record {
         journal = j;
         adjacency = h;
@@ -148,43 +167,40 @@ module _ (j g : List ℕ) (n joins switches written : ℕ) (count : n ≡ vertex
         simple = w .simple;
         has-table = w .table;
         has-isolated = w .no-edge;
-        says =
-            ap (λ (n : ℕ). headLine n d switches ++ edgeLines (listBytes (vertexCount j) h)) count
-            ∙ ap (λ (m : ℕ). headLine (vertexCount j) m switches ++ edgeLines (listBytes (vertexCount j) h)) q
-            ∙ ap (λ (t : List ℕ). headLine (vertexCount j) (edges (vertexCount j) (edge h)) switches ++ t) (lines-list (vertexCount j) h);
+        says = state-shown form n switches j h count (w .simple);
       }
 
 -- refused, or built
-abbrev Told : DegreeTable → List ℕ → Type 0
-Told t text = ((r : Refusal) × (text ≡ refusedLine r)) ⊎ Built t text
+abbrev Told : Form → DegreeTable → List ℕ → Type 0
+Told form t text = ((r : Refusal) × (text ≡ refusedLine r)) ⊎ Built form t text
 
-told-completed : (j g : List ℕ) (n : ℕ) → n ≡ vertexCount j → Told (tableOf j) (laidText (LaidOut n) j g)
-told-completed j g n count = go (completeAnswer j g recordsMost) refl
+told-completed : (form : Form) (j g : List ℕ) (n : ℕ) → n ≡ vertexCount j → Told form (tableOf j) (laidText form (LaidOut n) j g)
+told-completed form j g n count = go (completeAnswer j g recordsMost) refl
   where
-    go : (a : CompleteAnswer) → completeAnswer j g recordsMost ≡ a → Told (tableOf j) (completedText a n j (completeAdjacency a j g))
-    go (Completed joins switches written) e = inr (built j g n joins switches written count e)
+    go : (a : CompleteAnswer) → completeAnswer j g recordsMost ≡ a → Told form (tableOf j) (completedText form a n j (completeAdjacency a j g))
+    go (Completed joins switches written) e = inr (built j g n joins switches written count e form)
     go (CompleteRefused r) e = inl (r, refl)
 
-told-laid : (j g : List ℕ) → Told (tableOf j) (takenText Go j g)
-told-laid j g = go (layOutAnswer j g) refl
+told-laid : (form : Form) (j g : List ℕ) → Told form (tableOf j) (takenText form Go j g)
+told-laid form j g = go (layOutAnswer j g) refl
   where
-    go : (a : LayOutAnswer) → layOutAnswer j g ≡ a → Told (tableOf j) (laidText a (layOutJournal a j) g)
+    go : (a : LayOutAnswer) → layOutAnswer j g ≡ a → Told form (tableOf j) (laidText form a (layOutJournal a j) g)
     go (LaidOut n) e =
-        subst (λ (t : DegreeTable). Told t (laidText (LaidOut n) (laid j) g)) (table-laid j)
-        (told-completed (laid j) g n (lay-out-vertices j g n e ∙ ap vertices (sym (table-laid j))))
+        subst (λ (t : DegreeTable). Told form t (laidText form (LaidOut n) (laid j) g)) (table-laid j)
+        (told-completed form (laid j) g n (laid-count j g n e))
     go (LayOutRefused r) e = inl (r, refl)
 
-told : (j g input : List ℕ) → ClearedState j g → Told (inputTable input) (textFrom j g input)
-told j g input c = go (takeAll j g input .verdict) refl
+told : (form : Form) (j g input : List ℕ) → ClearedState j g → Told form (inputTable input) (textFrom form j g input)
+told form j g input c = go (takeAll j g input .verdict) refl
   where
-    go : (v : Verdict) → takeAll j g input .verdict ≡ v → Told (inputTable input) (takenText v (takeAll j g input .journal) g)
+    go : (v : Verdict) → takeAll j g input .verdict ≡ v → Told form (inputTable input) (takenText form v (takeAll j g input .journal) g)
     go Go e =
-        subst (λ (t : DegreeTable). Told t (takenText Go (takeAll j g input .journal) g)) (reached-all g input j c e .table)
-        (told-laid (takeAll j g input .journal) g)
+        subst (λ (t : DegreeTable). Told form t (takenText form Go (takeAll j g input .journal) g)) (reached-all g input j c e .table)
+        (told-laid form (takeAll j g input .journal) g)
     go (Stop r) e = inl (r, refl)
 
 pub program-says : ProgramSays
-program-says input = told (replicate journalSize 0) (replicate adjacencySize 0) input cleared-state
+program-says form input = told form (replicate journalSize 0) (replicate adjacencySize 0) input cleared-state
 
 -- completing a laid state is not refused: no layout has more edges than there is room for
 laid-completes : (j g : List ℕ) (n : ℕ) → layOutAnswer j g ≡ LaidOut n

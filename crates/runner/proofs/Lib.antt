@@ -1,5 +1,6 @@
 pub mod Taking
 pub mod Room
+pub mod OneLine
 pub mod Said
 pub mod Cut
 pub mod Enough

@@ -23,16 +23,26 @@ use Rattle.state.specs.Valid.{lengthsOk, valid}
 use Rattle.state.specs.Laid.{vertexCount, degreeAt}
 use Rattle.state.proofs.Facts.{edgeTotal, StateFacts, Laid, valid-facts}
 use Rattle.state.proofs.Checks.{phase-go}
+use Rattle.graph.specs.Tests.{vertices}
+use Rattle.journal.proofs.Laid.{table-laid}
+use Rattle.adjacency.specs.Adjacency.{edge}
 use Rattle.laying_out.specs.LayOut.{layOutAnswer, layOutJournal}
+use Rattle.laying_out.proofs.LayOut.{lay-out-vertices}
 use Rattle.listing.specs.List.{listBytes, listAnswer, listOutput}
-use Rattle.listing.proofs.List.{list-length}
-use Rattle.listing.proofs.Listed.{list-rising}
+use Rattle.edgelist.specs.EdgeList.{listVerdict, graphOf}
+use Rattle.edgelist.proofs.List.{verdict-passed, list-simple}
+use Rattle.edgelist.proofs.Listing.{list-length}
+use Rattle.edgelist.proofs.Listed.{list-rising, list-passed}
+use Rattle.graph6.proofs.Text.{text-most}
+use Rattle.graph6_writing.specs.Write.{writeText}
 use Rattle.completion.specs.Complete.{mostEdges, completed, completeAnswer, completeAdjacency}
 use Rattle.completion.proofs.Cellwise.{room}
 use Rattle.completion.proofs.Works.{few-edges}
 use Rattle.completion.proofs.Entry.{completed-facts, complete-works}
-use Rattle.text.specs.Text.{edgeLines, headLine, headMost, edgeMost}
+use Rattle.text.specs.Text.{newline, edgeLines, headLine, headMost, edgeMost}
 use Rattle.text.proofs.Decimal.{refused-length, head-length, edges-length}
+use Rattle.runner.specs.declared.Form.{Form}
+use Rattle.runner.specs.declared.Form.the-variants.{Lines, Graph6}
 use Rattle.runner.specs.Program.{stateText, recordsMost, completedText, laidText, takenText, textMost}
 
 abbrev IsWritten : WrittenAnswer → Type 0
@@ -42,6 +52,12 @@ IsWritten (WriteRefused r) = ⊥
 abbrev count : WrittenAnswer → ℕ
 count (Written n) = n
 count (WriteRefused r) = 0
+
+-- the graph6 text of a list that passes the checks 19
+pub text-fits-room : (e : List ℕ) (n : ℕ) → listVerdict e n ≡ Go → length (writeText e n) ≤ 3321
+text-fits-room e n go =
+    let p = verdict-passed e n go in
+    text-most n (graphOf e) (p .few) (list-simple e n (p .well))
 
 module _ (j g : List ℕ) (lengths : lengthsOk j g ≡ true) (sound : valid j g ≡ true) (phased : phase j ≡ 1) where
   facts : StateFacts j g
@@ -56,7 +72,7 @@ module _ (j g : List ℕ) (lengths : lengthsOk j g ≡ true) (sound : valid j g 
       (record { sized = facts .adjacency-length; few = laid .vertices-le; target = laid .target; partial = laid .partial })
 
   list-twice : length (listBytes (vertexCount j) g) ≡ 2 * edgeTotal j g
-  list-twice = list-length (vertexCount j) g (laid .partial .simple)
+  list-twice = list-length (vertexCount j) (edge g) (laid .partial .simple)
 
   pub list-most : length (listBytes (vertexCount j) g) ≤ 2 * mostEdges
   list-most = omega (arith, list-twice, edges-most)
@@ -95,35 +111,46 @@ module _ (j g : List ℕ) (lengths : lengthsOk j g ≡ true) (sound : valid j g 
       small : (i : ℕ) → i < length (listBytes (vertexCount j) g) / 2
           → (getD (listBytes (vertexCount j) g) (2 * i) 0 < 1000) × (getD (listBytes (vertexCount j) g) (2 * i + 1) 0 < 1000)
       small i l =
-          let r = list-rising (vertexCount j) g (laid .vertices-le) in
+          let r = list-rising (vertexCount j) (edge g) (laid .vertices-le) in
           (omega (arith, r .ordered i l, r .vertex i l, laid .vertices-le), omega (arith, r .vertex i l, laid .vertices-le))
 
   pub lines-fit : headMost + length (edgeLines (listBytes (vertexCount j) g)) ≤ textMost
   lines-fit = omega (arith, lines-most)
 
-  state-fits : (n switches : ℕ) → length (stateText n switches j g) ≤ textMost
-  state-fits n switches =
+  -- the list passes the checks 19
+  pub passes : listVerdict (listBytes (vertexCount j) g) (vertexCount j) ≡ Go
+  passes = list-passed (vertexCount j) (edge g) (laid .vertices-le)
+
+  state-fits : (form : Form) (n switches : ℕ) → n ≡ vertexCount j → length (stateText form n switches j g) ≤ textMost
+  state-fits Lines n switches count =
       let e = listBytes (vertexCount j) g in
       omega (arith, lines-fit, length-append (headLine n (length e / 2) switches) (edgeLines e), head-length n (length e / 2) switches)
+  state-fits Graph6 n switches count =
+      let e = listBytes (vertexCount j) g in
+      rw count (omega (arith, length-append (writeText e (vertexCount j)) newline, text-fits-room e (vertexCount j) passes))
 
 refused-fits : (r : Refusal) → length (Rattle.text.specs.Text.refusedLine r) ≤ textMost
 refused-fits r = omega (arith, refused-length r)
 
-completed-fits : (j g : List ℕ) (n : ℕ) → length (laidText (LaidOut n) j g) ≤ textMost
-completed-fits j g n = go (completeAnswer j g recordsMost) refl
+completed-fits : (form : Form) (j g : List ℕ) (n : ℕ) → n ≡ vertexCount j → length (laidText form (LaidOut n) j g) ≤ textMost
+completed-fits form j g n count = go (completeAnswer j g recordsMost) refl
   where
-    go : (a : CompleteAnswer) → completeAnswer j g recordsMost ≡ a → length (completedText a n j (completeAdjacency a j g)) ≤ textMost
+    go : (a : CompleteAnswer) → completeAnswer j g recordsMost ≡ a → length (completedText form a n j (completeAdjacency a j g)) ≤ textMost
     go (Completed joins switches written) e =
         let f = completed-facts j g recordsMost joins switches written e .facts in
         let w = complete-works j g f in
-        state-fits j (completed j g .adjacency) (w .lengths) (w .sound) (f .phased) n switches
+        state-fits j (completed j g .adjacency) (w .lengths) (w .sound) (f .phased) form n switches count
     go (CompleteRefused r) e = refused-fits r
 
+-- what laying out answers is the N of the state
+pub laid-count : (j g : List ℕ) (n : ℕ) → layOutAnswer j g ≡ LaidOut n → n ≡ vertexCount (layOutJournal (LaidOut n) j)
+laid-count j g n e = lay-out-vertices j g n e ∙ ap vertices (sym (table-laid j))
+
 -- every text fits
-pub text-fits : (v : Verdict) (j g : List ℕ) → length (takenText v j g) ≤ textMost
-text-fits (Stop r) j g = refused-fits r
-text-fits Go j g = go (layOutAnswer j g)
+pub text-fits : (form : Form) (v : Verdict) (j g : List ℕ) → length (takenText form v j g) ≤ textMost
+text-fits form (Stop r) j g = refused-fits r
+text-fits form Go j g = go (layOutAnswer j g) refl
   where
-    go : (a : LayOutAnswer) → length (laidText a (layOutJournal a j) g) ≤ textMost
-    go (LaidOut n) = completed-fits (layOutJournal (LaidOut n) j) g n
-    go (LayOutRefused r) = refused-fits r
+    go : (a : LayOutAnswer) → layOutAnswer j g ≡ a → length (laidText form a (layOutJournal a j) g) ≤ textMost
+    go (LaidOut n) e = completed-fits form (layOutJournal (LaidOut n) j) g n (laid-count j g n e)
+    go (LayOutRefused r) e = refused-fits r

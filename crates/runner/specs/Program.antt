@@ -1,5 +1,6 @@
 -- What the program prints, for every input (document 01, "The program `replica`"): "reads records from standard input, cuts them into blocks of
--- 64 bytes (the last may be shorter), numbered from 0, lays out, finishes and prints"; "On a refusal it prints only" that.
+-- 64 bytes (the last may be shorter), numbered from 0, lays out, finishes and prints"; "On a refusal it prints only" that. Document 02, P5, adds the form: lines
+-- as before, or one line of graph6.
 -- Assumes nothing.
 use mathlib.Core.List.{List, _++_}
 use Prim.Native.Nat.{ℕ, _+_, _-_, _*_, _/_}
@@ -23,7 +24,10 @@ use Rattle.laying_out.specs.LayOut.{layOutAnswer, layOutJournal}
 use Rattle.join_records.specs.Record.{joinRecordSize}
 use Rattle.completion.specs.Complete.{mostEdges, completeAnswer, completeAdjacency}
 use Rattle.listing.specs.List.{listBytes}
-use Rattle.text.specs.Text.{refusedLine, headLine, edgeLines, headMost, edgeMost}
+use Rattle.graph6_writing.specs.Write.{writeText}
+use Rattle.runner.specs.declared.Form.{Form}
+use Rattle.runner.specs.declared.Form.the-variants.{Lines, Graph6}
+use Rattle.text.specs.Text.{newline, refusedLine, headLine, edgeLines, headMost, edgeMost}
 
 -- how many blocks the input has: none where it is empty, and the last may be shorter
 abbrev pub blocksIn : List ℕ → ℕ
@@ -54,36 +58,42 @@ takeNext g input i s =
 abbrev pub takeAll : List ℕ → List ℕ → List ℕ → Taking
 takeAll j g input = foldTo (blocksIn input) (takeNext g input) (record { journal = j; verdict = Go })
 
--- the text of a completed state, with the N of laying out and the switches of completing: the first line, and a line for each edge
-abbrev pub stateText : ℕ → ℕ → List ℕ → List ℕ → List ℕ
-stateText n switches j g = let e = listBytes (vertexCount j) g in headLine n (length e / 2) switches ++ edgeLines e
+-- the text of an edge list, with the N of laying out and the switches of completing: the first line, and a line for each edge; or, where graph6 is
+-- asked for, one line of it
+abbrev pub listText : Form → ℕ → ℕ → List ℕ → List ℕ
+listText Lines n switches e = headLine n (length e / 2) switches ++ edgeLines e
+listText Graph6 n switches e = writeText e n ++ newline
+
+-- the text of a completed state
+abbrev pub stateText : Form → ℕ → ℕ → List ℕ → List ℕ → List ℕ
+stateText form n switches j g = listText form n switches (listBytes (vertexCount j) g)
 
 -- the room that completing is lent: a record for each edge that a layout can have
 abbrev pub recordsMost : ℕ
 recordsMost = joinRecordSize * mostEdges
 
 -- after completing
-abbrev pub completedText : CompleteAnswer → ℕ → List ℕ → List ℕ → List ℕ
-completedText (Completed joins switches written) n j g = stateText n switches j g
-completedText (CompleteRefused r) n j g = refusedLine r
+abbrev pub completedText : Form → CompleteAnswer → ℕ → List ℕ → List ℕ → List ℕ
+completedText form (Completed joins switches written) n j g = stateText form n switches j g
+completedText form (CompleteRefused r) n j g = refusedLine r
 
 -- after laying out
-abbrev pub laidText : LayOutAnswer → List ℕ → List ℕ → List ℕ
-laidText (LaidOut n) j g = let a = completeAnswer j g recordsMost in completedText a n j (completeAdjacency a j g)
-laidText (LayOutRefused r) j g = refusedLine r
+abbrev pub laidText : Form → LayOutAnswer → List ℕ → List ℕ → List ℕ
+laidText form (LaidOut n) j g = let a = completeAnswer j g recordsMost in completedText form a n j (completeAdjacency a j g)
+laidText form (LayOutRefused r) j g = refusedLine r
 
 -- after taking
-abbrev pub takenText : Verdict → List ℕ → List ℕ → List ℕ
-takenText Go j g = let a = layOutAnswer j g in laidText a (layOutJournal a j) g
-takenText (Stop r) j g = refusedLine r
+abbrev pub takenText : Form → Verdict → List ℕ → List ℕ → List ℕ
+takenText form Go j g = let a = layOutAnswer j g in laidText form a (layOutJournal a j) g
+takenText form (Stop r) j g = refusedLine r
 
 -- from a journal j and a matrix g
-abbrev pub textFrom : List ℕ → List ℕ → List ℕ → List ℕ
-textFrom j g input = takenText (takeAll j g input .verdict) (takeAll j g input .journal) g
+abbrev pub textFrom : Form → List ℕ → List ℕ → List ℕ → List ℕ
+textFrom form j g input = takenText form (takeAll j g input .verdict) (takeAll j g input .journal) g
 
 -- the program's text: the journal and the matrix are all zero at first
-abbrev pub programText : List ℕ → List ℕ
-programText input = textFrom (replicate journalSize 0) (replicate adjacencySize 0) input
+abbrev pub programText : Form → List ℕ → List ℕ
+programText form input = textFrom form (replicate journalSize 0) (replicate adjacencySize 0) input
 
 -- the bytes of an input that can matter: one block more than the journal has room for
 abbrev pub inputMost : ℕ

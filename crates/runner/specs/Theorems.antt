@@ -19,7 +19,10 @@ use Rattle.journal.specs.Journal.{journalSize, tableOf}
 use Rattle.adjacency.specs.Adjacency.{adjacencySize, edge}
 use Rattle.laying_out.specs.LayOut.{layOutAnswer, layOutJournal}
 use Rattle.completion.specs.Complete.{completeAnswer}
-use Rattle.text.specs.Text.{refusedLine, headLine, edgeLine}
+use Rattle.graph6.specs.Format.{graph6Text}
+use Rattle.text.specs.Text.{newline, refusedLine, headLine, edgeLine}
+use Rattle.runner.specs.declared.Form.{Form}
+use Rattle.runner.specs.declared.Form.the-variants.{Lines, Graph6}
 use Rattle.runner.specs.Program.{blocksIn, blockIn, takeAll, recordsMost, programText, inputMost}
 
 -- "cuts them into blocks of 64 bytes (the last may be shorter)": an empty input is no block at all, one of m full blocks is m blocks; no block is
@@ -32,7 +35,7 @@ pub record InputCut : Type 0 where
 
 -- what lies behind 65 blocks cannot matter: the program need not read it
 abbrev pub ReadsEnough : Type 0
-ReadsEnough = (input : List ℕ) → programText input ≡ programText (take inputMost input)
+ReadsEnough = (form : Form) (input : List ℕ) → programText form input ≡ programText form (take inputMost input)
 
 -- where the input's blocks are taken and laid out, completing has room and is not refused
 abbrev pub CompletesAlways : Type 0
@@ -55,10 +58,15 @@ inputTable input =
 abbrev pub edgeText : List ℕ → ℕ → ℕ → List ℕ
 edgeText g v w = cond (ltb v w && eqb (edge g v w) 1) (edgeLine v w) []
 
+-- a matrix's graph on n vertices, shown: first N, its edges and the switches, then a line for each edge v – w, v < w, ascending by v then w; or one
+-- line with its graph6 text
+abbrev pub shown : Form → ℕ → ℕ → List ℕ → List ℕ
+shown Lines n switches g = headLine n (edges n (edge g)) switches ++ catTo n (λ v. catTo n (edgeText g v))
+shown Graph6 n switches g = graph6Text n (edge g) ++ newline
+
 -- The text is that of a state whose journal says t and whose matrix holds a simple graph with t's matrix in every cell, by equation (1) at its own
--- degrees, and as many isolated vertices: first N, its edges and the switches, then a line for each edge v – w, v < w, ascending by v then w, and
--- nothing else.
-pub record Built (t : DegreeTable) (text : List ℕ) : Type 0 where
+-- degrees, and as many isolated vertices: its graph shown, and nothing else.
+pub record Built (form : Form) (t : DegreeTable) (text : List ℕ) : Type 0 where
   pub journal : List ℕ
   pub adjacency : List ℕ
   pub switches : ℕ
@@ -66,10 +74,9 @@ pub record Built (t : DegreeTable) (text : List ℕ) : Type 0 where
   pub simple : Simple (vertices t) (edge adjacency)
   pub has-table : (k l : ℕ) → ownJdm (vertices t) (edge adjacency) k l ≡ t .cells k l
   pub has-isolated : isolated (vertices t) (edge adjacency) ≡ t .isolated
-  pub says : text
-      ≡ headLine (vertices t) (edges (vertices t) (edge adjacency)) switches
-      ++ catTo (vertices t) (λ v. catTo (vertices t) (edgeText adjacency v))
+  pub says : text ≡ shown form (vertices t) switches adjacency
 
 -- every text is a refusal, or that of a graph with the input's table
 abbrev pub ProgramSays : Type 0
-ProgramSays = (input : List ℕ) → ((r : Refusal) × (programText input ≡ refusedLine r)) ⊎ Built (inputTable input) (programText input)
+ProgramSays =
+    (form : Form) (input : List ℕ) → ((r : Refusal) × (programText form input ≡ refusedLine r)) ⊎ Built form (inputTable input) (programText form input)

@@ -13,8 +13,12 @@ ghost use Rattle.answer.specs.declared.Verdict.the-variants.{Go};
 ghost use Rattle.answer.specs.declared.LayOutAnswer.the-variants.{LaidOut};
 ghost use Rattle.taking.specs.Take.{takeAnswer, takeJournal};
 ghost use Rattle.io.specs.Counts.{Counts};
-ghost use Rattle.text.specs.Text.{headLine, edgeLines, headMost};
-ghost use Rattle.runner.specs.Program.{blockIn, takeVerdict, takeAll, stateText, laidText, takenText, programText, inputMost, textMost};
+ghost use Rattle.text.specs.Text.{newline, headLine, edgeLines, headMost};
+ghost use Rattle.state.specs.Laid.{vertexCount};
+ghost use Rattle.edgelist.specs.EdgeList.{listVerdict};
+ghost use Rattle.graph6_writing.specs.Write.{writeText};
+ghost use Rattle.runner.specs.Options.{choiceOf};
+ghost use Rattle.runner.specs.Program.{blockIn, takeVerdict, takeAll, listText, stateText, laidText, takenText, programText, inputMost, textMost};
 use adjacency::ADJACENCY_SIZE;
 use answer::CompleteAnswer;
 use answer::LayOutAnswer;
@@ -27,6 +31,8 @@ use journal::MOST_BLOCKS;
 use layout::MOST_VERTICES;
 use libc::STDOUT_FILENO;
 use slices::least;
+use slices::put;
+use slices::same_bytes;
 use table::degree::DEGREES;
 use table::record::BLOCK_MOST;
 use text::EDGE_MOST;
@@ -46,6 +52,31 @@ const RECORDS_MOST: usize = JOIN_RECORD_SIZE * (LIST_MOST / 2);
 
 // The most bytes of the text: the first line, and a line for each edge.
 pub const TEXT_MOST: usize = HEAD_MOST + EDGE_MOST * (LIST_MOST / 2);
+
+// How the completed graph is shown: N, its edges and the switches, then a line for each edge; or one line of graph6.
+pub enum Form {
+    Lines,
+    Graph6,
+}
+
+// What the program's arguments ask for.
+pub enum Choice {
+    Show(Form),
+    Usage,
+}
+
+// The form asked for by the arguments, the program's name counted, of which `word` is the one behind the name.
+pub fn choice_of(count: usize, word: &[u8]) -> Choice
+    ensures { λ r. ⌜ r ≡ choiceOf count (now (word .entry)) ⌝ }
+{
+    if count <= 1 {
+        return Choice::Show(Form::Lines);
+    }
+    if (count == 2) & same_bytes(word, b"--graph6") {
+        return Choice::Show(Form::Graph6);
+    }
+    Choice::Usage
+}
 
 // n bytes are all that can matter, whatever follows them.
 pub fn is_enough(n: usize) -> bool
@@ -115,31 +146,60 @@ fn put_list(output: &mut [u8], n: usize, switches: usize, edges: &[u8]) -> usize
     put_edges(output, at, edges)
 }
 
-// A completed state. Its list is never refused: there is room for every edge.
+// One line with the graph6 text of a list on n vertices.
+fn put_graph6(output: &mut [u8], n: usize, edges: &[u8]) -> usize
+    requires { ⌜ (listVerdict (now edges) n ≡ Go) × (textMost ≤ length (now output)) ⌝ }
+    ensures { λ r. ⌜ r ≡ length (writeText (now (edges .entry)) n ++ newline) ⌝ }
+    ensures { λ _. ⌜ now (output .exit) ≡ sets (now (output .entry)) 0 (writeText (now (edges .entry)) n ++ newline) ⌝ }
+{
+    let answer = graph6_writing::graph6_write(edges, n, output);
+    match answer {
+        WrittenAnswer::Refused(r) => put_refused(output, 0, r),
+        WrittenAnswer::Written(len) => {
+            put(output, len, b'\n');
+            len + 1
+        }
+    }
+}
+
+// The list in the form asked for.
+fn put_form(output: &mut [u8], form: Form, n: usize, switches: usize, edges: &[u8]) -> usize
+    requires { ⌜ (listVerdict (now edges) n ≡ Go) × (textMost ≤ length (now output)) × (headMost + length (edgeLines (now edges)) ≤ length (now output)) ⌝ }
+    ensures { λ r. ⌜ r ≡ length (listText form n switches (now (edges .entry))) ⌝ }
+    ensures { λ _. ⌜ now (output .exit) ≡ sets (now (output .entry)) 0 (listText form n switches (now (edges .entry))) ⌝ }
+{
+    match form {
+        Form::Lines => put_list(output, n, switches, edges),
+        Form::Graph6 => put_graph6(output, n, edges),
+    }
+}
+
+// A completed state of n vertices. Its list is never refused: there is room for every edge.
 fn put_state(
     journal: &[u8],
     adjacency: &[u8],
+    form: Form,
     n: usize,
     switches: usize,
     output: &mut [u8],
 ) -> usize
-    requires { ⌜ (lengthsOk (now journal) (now adjacency) ≡ true) × (valid (now journal) (now adjacency) ≡ true) × (phase (now journal) ≡ 1) × (textMost ≤ length (now output)) ⌝ }
-    ensures { λ r. ⌜ r ≡ length (stateText n switches (now (journal .entry)) (now (adjacency .entry))) ⌝ }
-    ensures { λ _. ⌜ now (output .exit) ≡ sets (now (output .entry)) 0 (stateText n switches (now (journal .entry)) (now (adjacency .entry))) ⌝ }
+    requires { ⌜ (lengthsOk (now journal) (now adjacency) ≡ true) × (valid (now journal) (now adjacency) ≡ true) × (phase (now journal) ≡ 1) × (n ≡ vertexCount (now journal)) × (textMost ≤ length (now output)) ⌝ }
+    ensures { λ r. ⌜ r ≡ length (stateText form n switches (now (journal .entry)) (now (adjacency .entry))) ⌝ }
+    ensures { λ _. ⌜ now (output .exit) ≡ sets (now (output .entry)) 0 (stateText form n switches (now (journal .entry)) (now (adjacency .entry))) ⌝ }
 {
     let mut list = [0u8; LIST_MOST];
     let answer = listing::edge_list(journal, adjacency, &mut list);
     match answer {
         WrittenAnswer::Refused(r) => put_refused(output, 0, r),
-        WrittenAnswer::Written(len) => put_list(output, n, switches, &list[..len]),
+        WrittenAnswer::Written(len) => put_form(output, form, n, switches, &list[..len]),
     }
 }
 
 // Completes a laid state of n vertices. There is room for every record.
-fn complete(journal: &[u8], adjacency: &mut [u8], n: usize, output: &mut [u8]) -> usize
-    requires { ⌜ textMost ≤ length (now output) ⌝ }
-    ensures { λ r. ⌜ r ≡ length (laidText (LaidOut n) (now (journal .entry)) (now (adjacency .entry))) ⌝ }
-    ensures { λ _. ⌜ now (output .exit) ≡ sets (now (output .entry)) 0 (laidText (LaidOut n) (now (journal .entry)) (now (adjacency .entry))) ⌝ }
+fn complete(journal: &[u8], adjacency: &mut [u8], form: Form, n: usize, output: &mut [u8]) -> usize
+    requires { ⌜ (n ≡ vertexCount (now journal)) × (textMost ≤ length (now output)) ⌝ }
+    ensures { λ r. ⌜ r ≡ length (laidText form (LaidOut n) (now (journal .entry)) (now (adjacency .entry))) ⌝ }
+    ensures { λ _. ⌜ now (output .exit) ≡ sets (now (output .entry)) 0 (laidText form (LaidOut n) (now (journal .entry)) (now (adjacency .entry))) ⌝ }
 {
     let mut records = [0u8; RECORDS_MOST];
     let answer = completion::complete(journal, adjacency, &mut records);
@@ -148,6 +208,7 @@ fn complete(journal: &[u8], adjacency: &mut [u8], n: usize, output: &mut [u8]) -
         CompleteAnswer::Completed(_, switches, _) => put_state(
             journal,
             adjacency,
+            form,
             n,
             switches,
             output,
@@ -156,36 +217,36 @@ fn complete(journal: &[u8], adjacency: &mut [u8], n: usize, output: &mut [u8]) -
 }
 
 // Lays out what was taken.
-fn lay_out(journal: &mut [u8], adjacency: &mut [u8], output: &mut [u8]) -> usize
+fn lay_out(journal: &mut [u8], adjacency: &mut [u8], form: Form, output: &mut [u8]) -> usize
     requires { ⌜ textMost ≤ length (now output) ⌝ }
-    ensures { λ r. ⌜ r ≡ length (takenText Go (now (journal .entry)) (now (adjacency .entry))) ⌝ }
-    ensures { λ _. ⌜ now (output .exit) ≡ sets (now (output .entry)) 0 (takenText Go (now (journal .entry)) (now (adjacency .entry))) ⌝ }
+    ensures { λ r. ⌜ r ≡ length (takenText form Go (now (journal .entry)) (now (adjacency .entry))) ⌝ }
+    ensures { λ _. ⌜ now (output .exit) ≡ sets (now (output .entry)) 0 (takenText form Go (now (journal .entry)) (now (adjacency .entry))) ⌝ }
 {
     let answer = laying_out::lay_out(journal, adjacency);
     match answer {
         LayOutAnswer::Refused(r) => put_refused(output, 0, r),
-        LayOutAnswer::LaidOut(n) => complete(journal, adjacency, n, output),
+        LayOutAnswer::LaidOut(n) => complete(journal, adjacency, form, n, output),
     }
 }
 
 // The program's text for an input, at the start of the output. Its length; it always fits.
-pub fn render(input: &[u8], output: &mut [u8; TEXT_MOST]) -> usize
-    ensures { λ r. ⌜ r ≡ length (programText (now (input .entry))) ⌝ }
+pub fn render(form: Form, input: &[u8], output: &mut [u8; TEXT_MOST]) -> usize
+    ensures { λ r. ⌜ r ≡ length (programText form (now (input .entry))) ⌝ }
     ensures { λ r. ⌜ Counts r (now (output .exit)) ⌝ }
-    ensures { λ _. ⌜ now (output .exit) ≡ sets (now (output .entry)) 0 (programText (now (input .entry))) ⌝ }
+    ensures { λ _. ⌜ now (output .exit) ≡ sets (now (output .entry)) 0 (programText form (now (input .entry))) ⌝ }
 {
     let mut journal = [0u8; JOURNAL_SIZE];
     let mut adjacency = [0u8; ADJACENCY_SIZE];
     let taken = take_all(&mut journal, &adjacency, input);
     match taken {
         Verdict::Stop(r) => put_refused(output, 0, r),
-        Verdict::Go => lay_out(&mut journal, &mut adjacency, output),
+        Verdict::Go => lay_out(&mut journal, &mut adjacency, form, output),
     }
 }
 
-// Prints the text for an input.
+// Prints the lines for an input.
 pub fn run(input: &[u8]) -> bool {
     let mut output = [0u8; TEXT_MOST];
-    let len = render(input, &mut output);
+    let len = render(Form::Lines, input, &mut output);
     io::write_all(STDOUT_FILENO, &output[..len])
 }

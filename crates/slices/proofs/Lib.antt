@@ -1,3 +1,4 @@
 pub mod Same
 pub mod Zero
 pub mod Part
+pub mod PartSum

@@ -1,8 +1,9 @@
-// Byte slices: a byte as a number, the smaller of two numbers, all zero, equal, one byte stored, copied into another.
+// Byte slices: a byte as a number, the smaller of two numbers, the sum, all zero, equal, one byte stored, copied into another.
 ghost use mathlib.Core.Path.{_≡_};
 ghost use Prim.Native.Nat.{_+_, _≤_, _<_, min};
-ghost use lib.ListN.{length, replicate, set};
+ghost use lib.ListN.{length, getD, replicate, set};
 ghost use lib.Seq.{sets};
+ghost use Rattle.finite.specs.Range.{sumTo};
 ghost use Rattle.slices.specs.Slices.{allZero, sameBytes};
 
 // A byte as a number.
@@ -20,6 +21,25 @@ pub fn least(a: usize, b: usize) -> usize
         return a;
     }
     b
+}
+
+// A byte as a number of 16 bits: sums of these are vector sums of 8 at a time.
+fn wide16(x: u8) -> u16
+    ensures { λ r. ⌜ (r ≡ x) × (r < 256) ⌝ }
+{
+    x as u16
+}
+
+// The sum of the bytes, where it is below 65,536.
+pub fn byte_sum(s: &[u8]) -> usize
+    requires { ⌜ sumTo (length (now s)) (λ i. getD (now s) i 0) < 65536 ⌝ }
+    ensures { λ r. ⌜ (r ≡ sumTo (length (now (s .entry))) (λ i. getD (now (s .entry)) i 0)) × (r < 65536) ⌝ }
+{
+    let mut sum: u16 = 0;
+    for i in 0..s.len() {
+        sum += wide16(s[i]);
+    }
+    sum as usize
 }
 
 // Every byte is 0. A flag and no early exit, so that the loop is a vector loop.

@@ -9,12 +9,11 @@ use lib.Seq.{sets}
 use Rattle.finite.specs.Range.{lowest, catTo}
 use Rattle.graph.specs.Graph.{degree, DegreeTable, ownTable}
 use Rattle.graph.specs.Tests.{mostDegree, degrees}
-use Rattle.answer.specs.Refusals.{refusal, unless}
-use Rattle.answer.specs.declared.Cause.the-variants.{EdgeList, DegreeAbove, OutputLength}
+use Rattle.answer.specs.Refusals.{refusal, unless, unlessStopped}
+use Rattle.answer.specs.declared.Cause.the-variants.{DegreeAbove, OutputLength}
 use Rattle.answer.specs.declared.WrittenAnswer.{WrittenAnswer}
 use Rattle.answer.specs.declared.WrittenAnswer.the-variants.{Written, Refused}
-use Rattle.layout.specs.Layout.{mostVertices}
-use Rattle.edgelist.specs.EdgeList.{listed, firstBadEdge, graphOf}
+use Rattle.edgelist.specs.EdgeList.{listVerdict, graphOf}
 
 -- the lowest vertex whose degree is over 40; the total where there is none
 abbrev pub firstAbove : List ℕ → ℕ → ℕ
@@ -40,15 +39,16 @@ recordsOf t = countRecord 0 0 (t .isolated) ++ cellRecords (t .cells)
 abbrev pub surveyRecords : List ℕ → ℕ → List ℕ
 surveyRecords e total = recordsOf (ownTable total (graphOf e))
 
--- the checks 19 for the total, 19 for an odd length, 19 for the edges, 20, 18, for an output of n bytes
-abbrev pub surveyAnswer : List ℕ → ℕ → ℕ → WrittenAnswer
-surveyAnswer e total n =
-    unless (leb total mostVertices) (Refused (refusal EdgeList 0 0))
-    (unless (eqb (length e % 2) 0) (Refused (refusal EdgeList (listed e) 0))
-    (unless (eqb (firstBadEdge e total) (listed e)) (Refused (refusal EdgeList (firstBadEdge e total) 0))
-    (unless (eqb (firstAbove e total) total) (Refused (refusal DegreeAbove (firstAbove e total) 0))
+-- of a list that passes the checks 19, for an output of n bytes: the checks 20 and 18
+abbrev pub surveyListed : List ℕ → ℕ → ℕ → WrittenAnswer
+surveyListed e total n =
+    unless (eqb (firstAbove e total) total) (Refused (refusal DegreeAbove (firstAbove e total) 0))
     (unless (leb (length (surveyRecords e total)) n) (Refused (refusal OutputLength 0 0))
-    (Written (length (surveyRecords e total)))))))
+    (Written (length (surveyRecords e total))))
+
+-- the checks 19, then 20, then 18
+abbrev pub surveyAnswer : List ℕ → ℕ → ℕ → WrittenAnswer
+surveyAnswer e total n = unlessStopped (listVerdict e total) Refused (surveyListed e total n)
 
 -- the output afterwards: the records, and behind them what was there
 abbrev pub surveyOutput : WrittenAnswer → List ℕ → ℕ → List ℕ → List ℕ

@@ -8,7 +8,7 @@ use lib.Dec.{eqb, ltb}
 use lib.ListN.{length}
 use borrow.Author.Tests.{eqb-true}
 use Rattle.answer.specs.Refusals.{refusal, stop, unless, unlessStopped}
-use Rattle.answer.specs.Numbers.{takeNumbers, layOutNumbers, addNumbers, removeNumbers, completeNumbers, lengthNumbers, writtenNumbers, figuresNumbers}
+use Rattle.answer.specs.Numbers.{takeNumbers, layOutNumbers, addNumbers, removeNumbers, completeNumbers, lengthNumbers, writtenNumbers, readNumbers, figuresNumbers}
 use Rattle.answer.specs.declared.Cause.the-variants.{Phase, BlockNumber}
 use Rattle.answer.specs.declared.Verdict.{Verdict}
 use Rattle.answer.specs.declared.Verdict.the-variants.{Go}
@@ -41,10 +41,12 @@ use Rattle.figures.specs.Figures.{figuresOf}
 use Rattle.adding.specs.Add.{addLaid, addAdjacency}
 use Rattle.removing.specs.Remove.{removeLaid, removeAdjacency}
 use Rattle.listing.specs.List.{listLaid, listOutput}
-use Rattle.listing.proofs.List.{list-none}
+use Rattle.listing.proofs.List.{zeros-none}
 use Rattle.survey.specs.Survey.{surveyAnswer, surveyOutput}
+use Rattle.graph6_writing.specs.Write.{writeAnswer, writeOutput}
+use Rattle.graph6_reading.specs.Read.{readAnswer, readOutput}
 use Rattle.completion.specs.Complete.{completeLaid, completeAdjacency, completeOutput}
-use Rattle.demands.specs.Calls.{Call, take, layOut, add, remove, complete, readBack, list, figures, survey, State, cleared, after}
+use Rattle.demands.specs.Calls.{Call, take, layOut, add, remove, complete, readBack, list, figures, survey, writeGraph6, readGraph6, State, cleared, after}
 use Rattle.demands.specs.Tally.{Tally, noTally, told, tally}
 use Rattle.worked.specs.Cases.{six, nine, answerOf, Step, Case, sameList, edgesOf, holdsFrom, allHold, starred, StarredHold, moved, MovedHold}
 use Rattle.demands.proofs.Reach.{Reach, reach-cleared, after-call}
@@ -85,6 +87,8 @@ answerRest s (list out) =
     six (writtenNumbers a) ++ listOutput a (s .journal) (s .adjacency) out
 answerRest s figures = six (figuresNumbers (Figs.Reported (figuresOf (eqb (phase (s .journal)) 0) (s .journal) (s .adjacency))))
 answerRest s (survey e total out) = let a = surveyAnswer e total (length out) in six (writtenNumbers a) ++ surveyOutput a e total out
+answerRest s (writeGraph6 e total out) = let a = writeAnswer e total (length out) in six (writtenNumbers a) ++ writeOutput a e total out
+answerRest s (readGraph6 text out) = let a = readAnswer text (length out) in six (readNumbers a) ++ readOutput a text out
 
 abbrev afterRest : State → Call → State
 afterRest s (take number b) = record { journal = takeJournal (takeOnValid (s .journal) number b) (s .journal) b; adjacency = s .adjacency }
@@ -99,6 +103,8 @@ afterRest s (readBack number) = s
 afterRest s (list out) = s
 afterRest s figures = s
 afterRest s (survey e total out) = s
+afterRest s (writeGraph6 e total out) = s
+afterRest s (readGraph6 text out) = s
 
 -- on a reached state both checks pass
 module _ (s : State) (t : Tally) (r : Reach s t) where
@@ -115,6 +121,8 @@ module _ (s : State) (t : Tally) (r : Reach s t) where
   answer-rest (list out) = rw checked
   answer-rest figures = rw checked
   answer-rest (survey e total out) = refl
+  answer-rest (writeGraph6 e total out) = refl
+  answer-rest (readGraph6 text out) = refl
 
   after-rest : (c : Call) → after s c ≡ afterRest s c
   after-rest (take number b) = rw checked
@@ -126,6 +134,8 @@ module _ (s : State) (t : Tally) (r : Reach s t) where
   after-rest (list out) = refl
   after-rest figures = refl
   after-rest (survey e total out) = refl
+  after-rest (writeGraph6 e total out) = refl
+  after-rest (readGraph6 text out) = refl
 
 -- in phase 0 there are no edges, so that none need be looked for
 abbrev edgesRest : State → List ℕ
@@ -136,7 +146,7 @@ edges-rest s t r = go (eqb (phase (s .journal)) 0) refl
   where
     go : (b : Bool) → eqb (phase (s .journal)) 0 ≡ b → edgesOf s ≡ cond b [] (edgesOf s)
     go true e =
-        list-none (vertexCount (s .journal)) (s .adjacency)
+        zeros-none (vertexCount (s .journal)) (s .adjacency)
         (valid-facts (s .journal) (s .adjacency) (r .lengths) (r .sound) .empty (eqb-true (phase (s .journal)) 0 e))
     go false e = refl
 

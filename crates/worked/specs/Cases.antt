@@ -8,7 +8,7 @@ use mathlib.Core.List.{List, [], _∷_, _++_}
 use Prim.Native.Nat.{ℕ}
 use lib.Dec.{eqb}
 use lib.ListN.{length, replicate}
-use Rattle.answer.specs.Numbers.{Numbers, JoinNumbers, done, takeNumbers, layOutNumbers, addNumbers, removeNumbers, completeNumbers, lengthNumbers, writtenNumbers, figuresNumbers}
+use Rattle.answer.specs.Numbers.{Numbers, JoinNumbers, done, takeNumbers, layOutNumbers, addNumbers, removeNumbers, completeNumbers, lengthNumbers, writtenNumbers, readNumbers, figuresNumbers}
 use Rattle.state.specs.Laid.{vertexCount}
 use Rattle.taking.specs.Take.{takeAnswer}
 use Rattle.reading_back.specs.Held.{lengthAnswer, heldPart}
@@ -18,8 +18,10 @@ use Rattle.adding.specs.Add.{addAnswer}
 use Rattle.removing.specs.Remove.{removeAnswer}
 use Rattle.listing.specs.List.{listBytes, listAnswer, listOutput}
 use Rattle.survey.specs.Survey.{surveyAnswer, surveyOutput}
+use Rattle.graph6_writing.specs.Write.{writeAnswer, writeOutput}
+use Rattle.graph6_reading.specs.Read.{readAnswer, readOutput}
 use Rattle.completion.specs.Complete.{completeAnswer, completeOutput}
-use Rattle.demands.specs.Calls.{Call, take, layOut, add, remove, complete, readBack, list, figures, survey, State, cleared, after}
+use Rattle.demands.specs.Calls.{Call, take, layOut, add, remove, complete, readBack, list, figures, survey, writeGraph6, readGraph6, State, cleared, after}
 
 -- answers as lists of numbers
 abbrev pub six : Numbers → List ℕ
@@ -45,6 +47,8 @@ answerOf s (list out) =
     six (writtenNumbers a) ++ listOutput a (s .journal) (s .adjacency) out
 answerOf s figures = six (figuresNumbers (figuresAnswer (s .journal) (s .adjacency)))
 answerOf s (survey e total out) = let a = surveyAnswer e total (length out) in six (writtenNumbers a) ++ surveyOutput a e total out
+answerOf s (writeGraph6 e total out) = let a = writeAnswer e total (length out) in six (writtenNumbers a) ++ writeOutput a e total out
+answerOf s (readGraph6 text out) = let a = readAnswer text (length out) in six (readNumbers a) ++ readOutput a text out
 
 -- a call and what it is to hand back
 pub record Step : Type 0 where

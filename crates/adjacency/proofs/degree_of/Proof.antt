@@ -5,7 +5,7 @@ use Prim.Native.Nat.{_≤_, _+_, _*_, _-_}
 use native.Mathlib.Omega.{arith}
 use lib.ListN.{length}
 use Rattle.adjacency.specs.Adjacency.{side}
-use Rattle.adjacency.proofs.Row.{part-length, part-sum}
+use Rattle.slices.proofs.PartSum.{part-sum, part-most}
 use Rattle.adjacency.proofs.degree_of.Statement.{statement}
 use Rattle.adjacency.proofs.degree_of.Tie as tie
 
@@ -18,14 +18,17 @@ degree-of-spec =
     (λ c. omega arith)  -- part-byte-sum-start
     (λ c. omega arith)  -- part-byte-sum-end
     (λ c κs.
-    let a = c .before .before .args in
+    let k = c .before in
+    let a = k .before .args in
     let e : (a .v * side + a .n) - a .v * side ≡ a .n = omega arith in
-    rw (e, part-length (a .adjacency .now) (a .v * side) (a .n) (omega arith)) (omega arith))  -- byte-sum-requires
+    let f : a .v * side + a .n ≤ length (a .adjacency .now) = omega arith in
+    let most = part-most (a .adjacency .now) (a .v * side) (a .n) f (λ p. omega (arith, k .shared-slice-known .given p)) in
+    rw (e, part-sum (a .adjacency .now) (a .v * side) (a .n) f) (omega arith))  -- byte-sum-requires
     (λ c.
-    let a = c .before .before .before .args in
+    let k = c .before .before in
+    let a = k .before .args in
     let e : (a .v * side + a .n) - a .v * side ≡ a .n = omega arith in
-    let p = rw e at (c .byte-sum .ensures) in
-    let f : a .v * side + a .n ≤ length (a .adjacency .now) = omega arith in (
-      p .0 ∙ part-sum (a .adjacency .now) (a .v * side) (a .n) f,
-      omega (arith, p .1, part-length (a .adjacency .now) (a .v * side) (a .n) f),
-    )))  -- returns
+    let f : a .v * side + a .n ≤ length (a .adjacency .now) = omega arith in
+    let sum = rw e at (c .byte-sum .ensures .0) ∙ part-sum (a .adjacency .now) (a .v * side) (a .n) f in
+    let most = part-most (a .adjacency .now) (a .v * side) (a .n) f (λ p. omega (arith, k .shared-slice-known .given p)) in
+    (sum, omega arith)))  -- returns

@@ -8,7 +8,7 @@ use Rattle.finite.specs.Range.{allTo}
 use Rattle.finite.proofs.All.{allTo-none, allTo-more}
 use Rattle.slices.specs.Slices.{allZero}
 use Rattle.adjacency.specs.Adjacency.{side}
-use Rattle.adjacency.proofs.Row.{rest}
+use Rattle.slices.proofs.PartSum.{rest}
 use Rattle.adjacency.proofs.is_zero_outside.Statement.{statement}
 use Rattle.adjacency.proofs.is_zero_outside.Tie as tie
 

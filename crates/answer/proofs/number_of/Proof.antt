@@ -26,6 +26,8 @@ number-of-spec =
     (λ c. search needs)  -- enum-told-18
     (λ c. search needs)  -- enum-told-19
     (λ c. search needs)  -- enum-told-20
+    (λ c. search needs)  -- enum-told-21
+    (λ c. search needs)  -- enum-told-22
     (λ c. rw (c .enum-told .given .1))  -- returns
     (λ c. rw (c .enum-told2 .given .1))  -- returns-2
     (λ c. rw (c .enum-told3 .given .1))  -- returns-3
@@ -45,4 +47,6 @@ number-of-spec =
     (λ c. rw (c .enum-told17 .given .1))  -- returns-17
     (λ c. rw (c .enum-told18 .given .1))  -- returns-18
     (λ c. rw (c .enum-told19 .given .1))  -- returns-19
-    (λ c. rw (c .enum-told20 .given .1)))  -- returns-20
+    (λ c. rw (c .enum-told20 .given .1))  -- returns-20
+    (λ c. rw (c .enum-told21 .given .1))  -- returns-21
+    (λ c. rw (c .enum-told22 .given .1)))  -- returns-22

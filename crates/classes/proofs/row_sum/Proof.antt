@@ -7,7 +7,7 @@ use native.Mathlib.Omega.{arith}
 use lib.ListN.{length, getD}
 use Rattle.finite.proofs.Sum.{sumTo-cong}
 use Rattle.adjacency.specs.Adjacency.{side, edge}
-use Rattle.adjacency.proofs.Row.{part-length, part-at, part-sum}
+use Rattle.slices.proofs.PartSum.{part-length, part-at, part-sum}
 use Rattle.classes.proofs.row_sum.Statement.{statement}
 use Rattle.classes.proofs.row_sum.Tie as tie
 

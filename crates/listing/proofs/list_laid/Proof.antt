@@ -10,7 +10,7 @@ use Rattle.answer.specs.declared.WrittenAnswer.the-variants.{Written, Refused}
 use Rattle.graph.specs.Graph.{edges}
 use Rattle.adjacency.specs.Adjacency.{edge}
 use Rattle.listing.specs.List.{listBytes}
-use Rattle.listing.proofs.List.{list-length, edges-few}
+use Rattle.edgelist.proofs.Listing.{list-length, edges-few}
 use Rattle.state.proofs.Checks.{phase-facts}
 use Rattle.listing.proofs.list_laid.Statement.{statement}
 use Rattle.listing.proofs.list_laid.Tie as tie
@@ -44,7 +44,7 @@ list-laid-spec =
     let d = f .0 .laid (f .1) in
     let g = s .args .adjacency .now in
     let e = m .edge-count .ensures ∙ ap (λ (n : ℕ). edges n (edge g)) (l .laid-vertices .ensures) in
-    let b = list-length _ g (d .partial .simple) ∙ ap (λ (x : ℕ). 2 * x) (sym e) in
+    let b = list-length _ (edge g) (d .partial .simple) ∙ ap (λ (x : ℕ). 2 * x) (sym e) in
     rw (lt-leb _ _ (rw (← b) at (i .if1 .taken))) (ap Refused (c .refuse .ensures), refl))  -- returns
     (λ c κs.
     let i = c .before in
@@ -56,7 +56,7 @@ list-laid-spec =
     let g = s .args .adjacency .now in
     let n = l .laid-vertices .ensures in
     let e = m .edge-count .ensures ∙ ap (λ (n : ℕ). edges n (edge g)) n in
-    let b = ap (λ (n : ℕ). length (listBytes n g)) n ∙ list-length _ g (d .partial .simple) in
+    let b = ap (λ (n : ℕ). length (listBytes n g)) n ∙ list-length _ (edge g) (d .partial .simple) in
     (f .0 .adjacency-length, rw n (d .vertices-le), omega arith))  -- put-list-requires
     (λ c. search needs)  -- same-length
     (λ c.
@@ -70,7 +70,7 @@ list-laid-spec =
     let g = s .args .adjacency .now in
     let n = l .laid-vertices .ensures in
     let e = m .edge-count .ensures ∙ ap (λ (n : ℕ). edges n (edge g)) n in
-    let b = list-length _ g (d .partial .simple) ∙ ap (λ (x : ℕ). 2 * x) (sym e) in
+    let b = list-length _ (edge g) (d .partial .simple) ∙ ap (λ (x : ℕ). 2 * x) (sym e) in
     rw (le-leb _ _ (rw (← b) at (i .if1 .left))) (
       ap Written (p .put-list .ensures .0 ∙ ap (λ (n : ℕ). length (listBytes n g)) n),
       p .put-list .ensures .1 ∙ ap (λ (n : ℕ). sets (s .args .output .now) 0 (listBytes n g)) n,

@@ -23,9 +23,9 @@ complete-spec =
     let s = l .before .before .before .before .before .before in
     let a = s .args in
     let e = l .complete .ensures in
-    let f = completed-laid (a .journal .now) (a .adjacency .now) (a .n) _ (length-replicate {A = ℕ} recordsMost 0) _ _ (e .0) (e .1 .0)
+    let f = completed-laid (a .form) (a .journal .now) (a .adjacency .now) (a .n) _ (length-replicate {A = ℕ} recordsMost 0) _ _ (e .0) (e .1 .0)
     _ _ _ (k .answer2 .given .1) in
-    (f .0, f .1, f .2, s .pre))  -- put-state-requires
+    (f .0, f .1, f .2, s .pre .0, s .pre .1))  -- put-state-requires
     (λ c. search needs)  -- same-length
     (λ c. search needs)  -- same-length-2
     (λ c.
@@ -35,7 +35,7 @@ complete-spec =
     let a = l .before .before .before .before .before .before .args in
     let e = l .complete .ensures in
     says-line _ _ (a .output .now) _ _
-    (said-refused (a .journal .now) (a .adjacency .now) (a .n) _ (length-replicate {A = ℕ} recordsMost 0) _ _ (e .0) (e .1 .0) _ (k .answer .given .1))
+    (said-refused (a .form) (a .journal .now) (a .adjacency .now) (a .n) _ (length-replicate {A = ℕ} recordsMost 0) _ _ (e .0) (e .1 .0) _ (k .answer .given .1))
     (p .put-refused .ensures))  -- returns
     (λ c. search needs)  -- same-length-3
     (λ c. search needs)  -- same-length-4
@@ -46,6 +46,6 @@ complete-spec =
     let a = l .before .before .before .before .before .before .args in
     let e = l .complete .ensures in
     says _ _ (a .output .now) _ _
-    (said-completed (a .journal .now) (a .adjacency .now) (a .n) _ (length-replicate {A = ℕ} recordsMost 0) _ _ (e .0) (e .1 .0)
+    (said-completed (a .form) (a .journal .now) (a .adjacency .now) (a .n) _ (length-replicate {A = ℕ} recordsMost 0) _ _ (e .0) (e .1 .0)
     _ _ _ (k .answer2 .given .1))
     (p .put-state .ensures)))  -- returns-2

@@ -5,7 +5,7 @@ use native.Mathlib.Omega.{arith}
 use borrow.Author.Needs.{needs}
 use lib.ListN.{replicate, length-replicate}
 use Rattle.completion.specs.Complete.{mostEdges}
-use Rattle.runner.proofs.Room.{never-refused, listed, lines-fit}
+use Rattle.runner.proofs.Room.{never-refused, listed, passes, lines-fit}
 use Rattle.runner.proofs.put_state.Statement.{statement}
 use Rattle.runner.proofs.put_state.Tie as tie
 
@@ -29,14 +29,18 @@ put-state-spec =
     let s = l .before .before .before .before .before in
     let a = s .args in
     let f = listed (a .journal .now) (a .adjacency .now) (s .pre .0) (s .pre .1) (s .pre .2) (replicate (2 * mostEdges) 0) (length-replicate {A = ℕ} (2 * mostEdges) 0) _ _ (l .edge-list .ensures) _ (k .answer2 .given .1) in
-    rw (f .1) (f .0))  -- slice-aggregate-put-list
+    rw (f .1) (f .0))  -- slice-aggregate-put-form
     (λ c κs.
     let k = c .before .before .before in
     let l = k .before .before .before in
     let s = l .before .before .before .before .before in
     let a = s .args in
     let f = listed (a .journal .now) (a .adjacency .now) (s .pre .0) (s .pre .1) (s .pre .2) (replicate (2 * mostEdges) 0) (length-replicate {A = ℕ} (2 * mostEdges) 0) _ _ (l .edge-list .ensures) _ (k .answer2 .given .1) in
-    rw (f .1) (omega (arith, lines-fit (a .journal .now) (a .adjacency .now) (s .pre .0) (s .pre .1) (s .pre .2), s .pre .3)))  -- put-list-requires
+    rw (f .1, s .pre .3) (
+      passes (a .journal .now) (a .adjacency .now) (s .pre .0) (s .pre .1) (s .pre .2),
+      s .pre .4,
+      omega (arith, lines-fit (a .journal .now) (a .adjacency .now) (s .pre .0) (s .pre .1) (s .pre .2), s .pre .4),
+    ))  -- put-form-requires
     (λ c. search needs)  -- same-length
     (λ c.
     let k = c .before .before .before .before .before in
@@ -52,4 +56,4 @@ put-state-spec =
     let s = l .before .before .before .before .before in
     let a = s .args in
     let f = listed (a .journal .now) (a .adjacency .now) (s .pre .0) (s .pre .1) (s .pre .2) (replicate (2 * mostEdges) 0) (length-replicate {A = ℕ} (2 * mostEdges) 0) _ _ (l .edge-list .ensures) _ (k .answer2 .given .1) in
-    rw (f .1) at (p .put-list .ensures)))  -- returns-2
+    rw (f .1) at (p .put-form .ensures)))  -- returns-2

@@ -1,0 +1,4 @@
+pub mod Blocks
+pub mod Columns
+pub mod Bits
+pub mod Text
