@@ -6,9 +6,9 @@ use mathlib.Core.List.{List, [], _∷_}
 use Prim.Native.Nat.{ℕ, _≤_, _<_}
 use native.Mathlib.Decide.{decLt}
 use native.Mathlib.Omega.{arith}
-use lib.Dec.{eqb, leb}
-use lib.ListN.{length, take}
-use borrow.Author.Tests.{leb-true, le-leb, not-true}
+use lib.Dec.{leb}
+use lib.ListN.{length}
+use borrow.Author.Tests.{leb-true, le-leb}
 use Rattle.graph.specs.Graph.{Graph, Simple, SameOn}
 use Rattle.answer.specs.Refusals.{unlessStopped}
 use Rattle.answer.specs.Numbers.{numberOf}
@@ -24,7 +24,7 @@ use Rattle.slices.proofs.Part.{take-sets}
 use Rattle.layout.specs.Layout.{mostVertices}
 use Rattle.adjacency.specs.Adjacency.{edge}
 use Rattle.state.specs.Laid.{vertexCount}
-use Rattle.state.proofs.Facts.{Laid, valid-facts}
+use Rattle.state.proofs.Facts.{valid-facts}
 use Rattle.edgelist.specs.EdgeList.{listVerdict, graphOf, listOf}
 use Rattle.edgelist.proofs.List.{Passed, verdict-passed, list-simple}
 use Rattle.edgelist.proofs.Listing.{list-cong}
@@ -32,10 +32,10 @@ use Rattle.edgelist.proofs.Listed.{list-passed, list-graph}
 use Rattle.edgelist.proofs.Unique.{list-back}
 use Rattle.listing.specs.List.{listBytes}
 use Rattle.survey.specs.Survey.{surveyRecords, surveyListed}
-use Rattle.graph6.specs.Format.{graph6Text, sizeOf, tooLarge, framed, zeroPadded, wellFormed, bitOf, textGraph}
+use Rattle.graph6.specs.Format.{graph6Text, sizeOf, tooLarge, framed, zeroPadded, wellFormed, textGraph}
 use Rattle.graph6.proofs.Text.{framed-facts, framed-small, text-bit, text-size, text-well-formed, graph-up, graph-down, graph-loop, graph-simple, text-back, text-cong}
-use Rattle.graph6_writing.specs.Write.{writeText, writeListed, writeAnswer, writeOutput}
-use Rattle.graph6_reading.specs.Read.{readList, readFits, readAnswer, readOutput}
+use Rattle.graph6_writing.specs.Write.{writeText, writeListed, writeAnswer}
+use Rattle.graph6_reading.specs.Read.{readList, readAnswer}
 use Rattle.finite.proofs.All.{and-left}
 use Rattle.demands.specs.Demand1.{oneOf, Numbered}
 use Rattle.demands.proofs.Chains.{OfWritten}

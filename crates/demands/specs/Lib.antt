@@ -9,5 +9,6 @@ pub mod ReadBack
 pub mod EmptyBlocks
 pub mod Listed
 pub mod Graph6
+pub mod Graph6Cases
 pub mod Playback
 pub mod Isolated

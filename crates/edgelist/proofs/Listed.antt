@@ -9,7 +9,7 @@ use native.Mathlib.Omega.{arith}
 use lib.Dec.{eqb, ltb}
 use lib.ListN.{length}
 use borrow.Author.Tests.{ltb-true, lt-ltb, le-ltb, eq-eqb, ne-eqb}
-use Rattle.finite.specs.Range.{bit, sumTo, catTo}
+use Rattle.finite.specs.Range.{bit, sumTo}
 use Rattle.finite.proofs.All.{and-left, and-both}
 use Rattle.finite.proofs.Lowest.{lowest-none}
 use Rattle.finite.proofs.Sum.{sumTo-cong}

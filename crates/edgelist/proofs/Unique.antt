@@ -3,8 +3,7 @@
 use mathlib.Core.Path.{_≡_, refl, sym, ap, _∙_}
 use mathlib.Core.List.{List}
 use mathlib.Core.Logic.{⊎-elim}
-use Prim.Native.Nat.{ℕ, zero, suc, _+_, _*_, _/_, _%_, _≤_, _<_}
-use native.Mathlib.Nat.{eq-or-lt-of-le, le-of-suc-le-suc}
+use Prim.Native.Nat.{ℕ, zero, suc, _+_, _*_, _/_, _%_, _<_}
 use native.Mathlib.Decide.{decLt}
 use native.Mathlib.Omega.{arith}
 use lib.ListN.{length, getD}
@@ -12,9 +11,8 @@ use lib.Seq.{ext-getD}
 use Rattle.finite.proofs.Sum.{sumTo-zero, sumTo-less, sumTo-term}
 use Rattle.graph.specs.Graph.{Simple, atEdge, SameOn}
 use Rattle.graph.proofs.Edge.{Place, forth, back, elsewhere, place, atEdge-here, edges-same}
-use Rattle.layout.specs.Layout.{mostVertices}
 use Rattle.edgelist.specs.EdgeList.{listed, endV, endW, graphOf, listOf}
-use Rattle.edgelist.proofs.List.{Passed, Before, good, all-before, list-simple, edges-to}
+use Rattle.edgelist.proofs.List.{Passed, good, all-before, list-simple, edges-to}
 use Rattle.edgelist.proofs.Pairs.{place as placeOf}
 use Rattle.edgelist.proofs.Listed.{list-even, list-well, list-graph}
 

@@ -1,4 +1,5 @@
 pub mod Blocks
+pub mod Starts
 pub mod Columns
 pub mod Bits
 pub mod Text

@@ -3,21 +3,19 @@
 use mathlib.Core.Path.{_≡_, refl, sym, ap, _∙_}
 use mathlib.Core.Bool.{Bool, true, false, _&&_, _||_, not, cond}
 use mathlib.Core.List.{List, [], _∷_, _++_}
-use mathlib.Core.Logic.{⊎-elim}
 use Prim.Native.Nat.{ℕ, zero, suc, _+_, _-_, _*_, _/_, _%_, _≤_, _<_}
 use native.Mathlib.Decide.{ℕ-discrete, decLt}
 use native.Mathlib.Omega.{arith}
 use lib.Dec.{eqb, ltb, leb}
-use lib.ListN.{length, getD, drop, length-append, List·getD-append, length-drop}
-use lib.Seq.{ext-getD, getD-append-add, getD-drop}
+use lib.ListN.{length, getD, drop, length-append, length-drop}
+use lib.Seq.{ext-getD, getD-drop}
 use borrow.Author.Tests.{eqb-true, leb-true, ltb-true, le-leb, lt-leb, lt-ltb, le-ltb, eq-eqb, ne-eqb}
 use Rattle.finite.specs.Range.{allTo}
 use Rattle.finite.proofs.All.{and-left, and-right, and-both, and-false, allTo-at, allTo-holds}
 use Rattle.graph.specs.Graph.{Graph, Simple, SameOn}
-use Rattle.slices.specs.Slices.{allZero}
 use Rattle.slices.proofs.Zero.{all-zero-at, zeros-all-zero}
 use Rattle.layout.specs.Layout.{mostVertices}
-use Rattle.graph6.specs.Format.{plus, mostByte, shortMost, sizeBytes, triangle, sixBits, packed, graph6Text, columnStart, bodyLength, isLong, sizeLength, longSize, sizeOf, upTo, tooLarge, unpacked, bodyBits, framed, zeroPadded, wellFormed, bitOf, textGraph}
+use Rattle.graph6.specs.Format.{plus, mostByte, shortMost, sizeBytes, triangle, packed, graph6Text, columnStart, bodyLength, isLong, sizeLength, longSize, sizeOf, upTo, tooLarge, unpacked, bodyBits, framed, zeroPadded, wellFormed, bitOf, textGraph}
 use Rattle.graph6.proofs.Columns.{columns-most, place-of}
 use Rattle.graph6.proofs.Bits.{triangle-length, triangle-at, triangle-past, triangle-binary, triangle-cong, packed-length, packed-at, packed-bytes, packed-unpacked, unpacked-binary, unpacked-six}
 

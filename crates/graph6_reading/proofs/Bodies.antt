@@ -1,14 +1,14 @@
 -- The bits of a text in an array: what stands where, the padding, and how many edges they are.
 -- Assumes nothing.
-use mathlib.Core.Path.{_≡_, refl, sym, ap, _∙_}
-use mathlib.Core.Bool.{Bool, true}
+use mathlib.Core.Path.{_≡_, sym, ap, _∙_}
+use mathlib.Core.Bool.{true}
 use mathlib.Core.List.{List}
 use Prim.Native.Nat.{ℕ, _+_, _-_, _*_, _≤_, _<_}
 use native.Mathlib.Nat.{zero-add}
 use native.Mathlib.Decide.{decLt}
 use native.Mathlib.Omega.{arith}
 use lib.ListN.{length, getD, drop, replicate, length-drop, length-replicate, List·getD-eq-default}
-use lib.Seq.{sets, length-sets, getD-drop}
+use lib.Seq.{length-sets, getD-drop}
 use Rattle.finite.specs.Range.{sumTo}
 use Rattle.finite.proofs.All.{test-same}
 use Rattle.finite.proofs.Sum.{sumTo-cong, sumTo-mono, sumTo-const}
@@ -16,10 +16,9 @@ use Rattle.graph.specs.Graph.{edges}
 use Rattle.slices.specs.Slices.{allZero}
 use Rattle.slices.proofs.Zero.{all-zero-at, zeros-all-zero, getD-zeros}
 use Rattle.slices.proofs.Part.{getD-sets-in, getD-sets-after}
-use Rattle.layout.specs.Layout.{mostVertices}
 use Rattle.edgelist.specs.EdgeList.{listOf}
 use Rattle.edgelist.proofs.Listing.{list-length, list-cong}
-use Rattle.graph6.specs.Format.{columnStart, bodyLength, sizeLength, sizeOf, unpacked, bodyBits, framed, zeroPadded, textGraph}
+use Rattle.graph6.specs.Format.{columnStart, bodyLength, sizeLength, sizeOf, bodyBits, zeroPadded, textGraph}
 use Rattle.graph6.proofs.Columns.{columns-most, columns-sum}
 use Rattle.graph6.proofs.Bits.{unpacked-length, unpacked-binary}
 use Rattle.graph6.proofs.Text.{Framed, graph-simple, graph-up, graph-down}

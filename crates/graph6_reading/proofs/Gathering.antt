@@ -1,6 +1,6 @@
 -- Rows of bits that go by columns.
 -- Assumes nothing.
-use mathlib.Core.Path.{_≡_, refl, sym, ap, _∙_}
+use mathlib.Core.Path.{_≡_, ap, _∙_}
 use mathlib.Core.List.{List}
 use Prim.Native.Nat.{ℕ, _+_, _≤_, _<_}
 use native.Mathlib.Decide.{decLt}
@@ -11,7 +11,8 @@ use Rattle.layout.specs.Layout.{mostVertices}
 use Rattle.edgelist.specs.EdgeList.{rowBytes}
 use Rattle.edgelist.proofs.Listing.{row-cong}
 use Rattle.graph6.specs.Format.{columnStart}
-use Rattle.graph6.proofs.Columns.{columnStarts, column-start, columns-most, place-before}
+use Rattle.graph6.proofs.Starts.{columnStarts, column-start}
+use Rattle.graph6.proofs.Columns.{columns-most, place-before}
 use Rattle.graph6_reading.specs.Inner.Bits.{bitsMost, rowsOf, HasRow}
 
 -- in the code's words: where it reads the start x of column w

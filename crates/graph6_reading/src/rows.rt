@@ -8,7 +8,7 @@ ghost use Rattle.edgelist.specs.EdgeList.{listOf};
 ghost use Rattle.graph6_reading.specs.Inner.Bits.{HasRow, rowsOf};
 use crate::bits::BITS_MOST;
 use edgelist::put_row;
-use graph6::COLUMN_STARTS;
+use graph6::column_starts::COLUMN_STARTS;
 use graph6::wide16;
 use layout::MOST_VERTICES;
 

@@ -4,23 +4,23 @@ use mathlib.Core.Path.{_≡_, refl, sym, ap, ap₂, _∙_}
 use mathlib.Core.List.{List}
 use mathlib.Core.Logic.{_≢_}
 use Prim.Native.Nat.{ℕ, zero, suc, _+_, _*_, _/_, _%_, _≤_, _<_}
-use native.Mathlib.Nat.{add-zero, zero-add, one-mul, zero-mul}
-use native.Mathlib.Numerals.{add-one}
+use native.Mathlib.Nat.{add-zero, one-mul, zero-mul}
 use native.Mathlib.Decide.{ℕ-discrete, decLt}
 use native.Mathlib.Omega.{arith}
-use lib.ListN.{length, getD, set, take, replicate, length-set, length-replicate, length-take}
+use lib.ListN.{length, getD, take, replicate, length-set, length-replicate, length-take}
 use lib.Seq.{ext-getD, getD-take, getD-set-same, getD-set-other}
 use Rattle.finite.specs.Range.{δ, sumTo, foldTo}
 use Rattle.finite.proofs.Delta.{δ-self, δ-same, δ-other}
-use Rattle.finite.proofs.Sum.{sumTo-none, sumTo-more, sumTo-cong, sumTo-zero, sumTo-le}
-use Rattle.finite.proofs.Fold.{foldTo-none, foldTo-more, foldTo-keeps}
-use Rattle.graph.specs.Graph.{Graph, Simple, atEdge}
+use Rattle.finite.proofs.Sum.{sumTo-more, sumTo-cong, sumTo-zero, sumTo-le}
+use Rattle.finite.proofs.Fold.{foldTo-keeps}
+use Rattle.graph.specs.Graph.{atEdge}
 use Rattle.graph.proofs.Edge.{Place, forth, back, elsewhere, place, atEdge-here}
 use Rattle.layout.specs.Layout.{mostVertices}
 use Rattle.edgelist.specs.EdgeList.{listed, endV, endW, graphOf}
 use Rattle.edgelist.proofs.List.{Passed, good, list-simple}
-use Rattle.graph6.specs.Format.{plus, mostByte, triangle, sixBits, packed, columnStart, bodyLength}
-use Rattle.graph6.proofs.Columns.{columnStarts, column-start, columns-most, place-before, place-of, place-same}
+use Rattle.graph6.specs.Format.{plus, triangle, sixBits, packed, columnStart, bodyLength}
+use Rattle.graph6.proofs.Starts.{columnStarts, column-start}
+use Rattle.graph6.proofs.Columns.{columns-most, place-before, place-of, place-same}
 use Rattle.graph6.proofs.Bits.{triangle-length, triangle-at, triangle-past, triangle-binary, packed-length, packed-at}
 use Rattle.graph6_writing.specs.Inner.Body.{bodyMost, weightOf, bitPlace, addBit, bodyTo}
 

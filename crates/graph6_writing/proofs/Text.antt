@@ -1,7 +1,7 @@
 -- The text of a list that passes the checks 19: how long it is, and that the size and the body behind it are the text.
 -- Assumes nothing.
 use mathlib.Core.Path.{_≡_, sym, ap, _∙_}
-use mathlib.Core.List.{List, _++_}
+use mathlib.Core.List.{List}
 use Prim.Native.Nat.{ℕ, _+_, _/_}
 use native.Mathlib.Nat.{zero-add}
 use lib.ListN.{length, take}

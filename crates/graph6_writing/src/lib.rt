@@ -15,11 +15,11 @@ use answer::WrittenAnswer;
 use answer::refuse;
 use edgelist::list_check;
 use graph6::BODY_MOST;
-use graph6::COLUMN_STARTS;
 use graph6::MOST_BYTE;
 use graph6::PLUS;
 use graph6::SHORT_MOST;
 use graph6::body_length;
+use graph6::column_starts::COLUMN_STARTS;
 use graph6::wide16;
 use slices::copy_in;
 use slices::wide;
@@ -31,10 +31,10 @@ const WEIGHTS: [u8; 6] = [32, 16, 8, 4, 2, 1];
 fn size_length(n: usize) -> usize
     ensures { λ r. ⌜ (r ≡ length (sizeBytes n)) × (r ≤ 4) ⌝ }
 {
-    if n <= SHORT_MOST {
-        return 1;
+    if SHORT_MOST < n {
+        return 4;
     }
-    4
+    1
 }
 
 // Six bits as a byte.

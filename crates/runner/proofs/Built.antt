@@ -23,7 +23,6 @@ use Rattle.answer.specs.declared.LayOutAnswer.the-variants.{LaidOut, Refused as
 use Rattle.answer.specs.declared.CompleteAnswer.{CompleteAnswer}
 use Rattle.answer.specs.declared.CompleteAnswer.the-variants.{Completed, Refused as CompleteRefused}
 use Rattle.table.specs.Block.{blockCell, blockIsolated, plus}
-use Rattle.graph.specs.Tests.{vertices}
 use Rattle.journal.specs.Journal.{journalSize, phase, blocks, tableOf, laid}
 use Rattle.journal.proofs.Store.{phase-stored, blocks-stored, table-stored}
 use Rattle.journal.proofs.Laid.{table-laid, phase-laid}

@@ -1,6 +1,6 @@
 -- `edgelist::list_check` meets its contract: each check decides as the definition has it.
 -- Assumes nothing.
-use mathlib.Core.Path.{_≡_, refl, sym, ap, _∙_}
+use mathlib.Core.Path.{sym, ap, _∙_}
 use borrow.Author.Tests.{le-leb, lt-leb, eq-eqb, ne-eqb}
 use Rattle.answer.specs.declared.Verdict.the-variants.{Stop}
 use Rattle.edgelist.proofs.List.{verdict-go}

@@ -3,7 +3,8 @@ use mathlib.Core.Path.{_≡_, _∙_}
 use Prim.Native.Nat.{suc, _-_}
 use native.Mathlib.Omega.{arith}
 use borrow.Author.Needs.{needs}
-use Rattle.graph6.proofs.Columns.{columns-none, column-start, columns-next, columns-most}
+use Rattle.graph6.proofs.Columns.{columns-none, columns-next, columns-most}
+use Rattle.graph6.proofs.Starts.{column-start}
 use Rattle.graph6.proofs.bit_count.Statement.{statement}
 use Rattle.graph6.proofs.bit_count.Tie as tie
 

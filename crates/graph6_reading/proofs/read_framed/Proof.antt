@@ -3,7 +3,7 @@
 use mathlib.Core.Path.{refl, ap}
 use borrow.Author.Needs.{needs}
 use borrow.Author.Tests.{le-leb, lt-leb, not-true, not-false}
-use Rattle.answer.specs.declared.ReadAnswer.the-variants.{Read, Refused}
+use Rattle.answer.specs.declared.ReadAnswer.the-variants.{Refused}
 use Rattle.graph6.specs.Format.{zeroPadded}
 use Rattle.graph6.proofs.Text.{framed-facts}
 use Rattle.graph6_reading.proofs.Bodies.{bits-length, bits-few, bits-list, padding-same, rows-list}

@@ -1,15 +1,13 @@
 -- `graph6_writing::body_of` meets its contract: the bits of the edges before i are added.
 -- Assumes nothing.
-use mathlib.Core.Path.{_≡_, refl, sym, ap, _∙_}
-use mathlib.Core.List.{List}
-use Prim.Native.Nat.{ℕ, _+_, _-_, _≤_}
+use mathlib.Core.Path.{_≡_, sym}
+use Prim.Native.Nat.{_-_, _≤_}
 use native.Mathlib.Omega.{arith}
 use Rattle.finite.proofs.Fold.{foldTo-none, foldTo-after}
-use Rattle.edgelist.specs.EdgeList.{listed, endV, endW}
+use Rattle.edgelist.specs.EdgeList.{listed}
 use Rattle.edgelist.proofs.List.{verdict-passed, good}
-use Rattle.graph6.proofs.Columns.{column-start}
-use Rattle.graph6_writing.specs.Inner.Body.{addBit, bodyTo}
-use Rattle.graph6_writing.proofs.Body.{column-low, place-read, place-room}
+use Rattle.graph6_writing.specs.Inner.Body.{bodyTo}
+use Rattle.graph6_writing.proofs.Body.{place-read, place-room}
 use Rattle.graph6_writing.proofs.body_of.Statement.{statement}
 use Rattle.graph6_writing.proofs.body_of.Tie as tie
 

@@ -9,5 +9,5 @@ use Rattle.graph6_writing.proofs.size_length.Tie as tie
 pub size-length-spec : {M : Type 1} → statement M
 size-length-spec =
     tie.close (tie.spec
-    (λ c. rw (le-leb _ _ (c .if1 .taken)) (refl, omega arith))  -- returns
-    (λ c. rw (lt-leb _ _ (c .if1 .left)) (refl, omega arith)))  -- returns-2
+    (λ c. rw (lt-leb _ _ (c .if1 .taken)) (refl, omega arith))  -- returns
+    (λ c. rw (le-leb _ _ (c .if1 .left)) (refl, omega arith)))  -- returns-2

@@ -1,6 +1,5 @@
 -- `runner::choice_of` meets its contract.
 -- Assumes nothing.
-use mathlib.Core.Path.{refl}
 use borrow.Author.Needs.{needs}
 use borrow.Author.Tests.{le-leb, lt-leb}
 use Rattle.runner.proofs.choice_of.Statement.{statement}
