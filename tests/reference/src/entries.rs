@@ -1,9 +1,10 @@
-//! The ten entries. Each runs its checks in the order of document 01's table and writes only when
+//! The twelve entries. Each runs its checks in the order of document 01's table and writes only when
 //! all of them have passed, so that a refusal leaves every byte as it was.
 
+use crate::graphs::Graph;
 use crate::switching::{self, Switch};
 use crate::{
-    adjacency, join_record, journal, refused, refused_at, validity, Matrix, Refused, Table,
+    adjacency, graph6, join_record, journal, refused, refused_at, validity, Matrix, Refused, Table,
     ADJACENCY_LENGTH, JOURNAL_LENGTH, MOST_BLOCKS, MOST_DEGREE, MOST_VERTICES,
 };
 
@@ -212,10 +213,7 @@ pub fn edge_list(journal: &[u8], adjacency: &[u8], output: &mut [u8]) -> Result<
 /// Writes the degree table of a list of edges among `total` vertices as records. Returns the written
 /// length.
 pub fn jdm_of_edges(edges: &[u8], total: u64, output: &mut [u8]) -> Result<u64, Refused> {
-    if total > MOST_VERTICES as u64 {
-        return Err(refused(19));
-    }
-    let pairs = check_edges(edges, total as usize)?;
+    let pairs = check_edges(edges, total)?;
     let degree_of = |vertex: usize| {
         let at = |&&(v, w): &&(usize, usize)| v == vertex || w == vertex;
         pairs.iter().filter(at).count()
@@ -232,9 +230,12 @@ pub fn jdm_of_edges(edges: &[u8], total: u64, output: &mut [u8]) -> Result<u64, 
     write(&Table::new(matrix, isolated as u64).records(), output)
 }
 
-/// The rest of check 19: a whole number of edges, each with v below w below the total and above the
-/// edge before it.
-fn check_edges(edges: &[u8], total: usize) -> Result<Vec<(usize, usize)>, Refused> {
+/// Check 19: a total of at most 200, then a whole number of edges, each with v below w below the total
+/// and above the edge before it.
+fn check_edges(edges: &[u8], total: u64) -> Result<Vec<(usize, usize)>, Refused> {
+    if total > MOST_VERTICES as u64 {
+        return Err(refused(19));
+    }
     if edges.len() % 2 != 0 {
         return Err(refused_at(19, edges.len() as u64 / 2, 0));
     }
@@ -244,11 +245,30 @@ fn check_edges(edges: &[u8], total: usize) -> Result<Vec<(usize, usize)>, Refuse
         .collect();
     for (index, &(v, w)) in pairs.iter().enumerate() {
         let not_above = index > 0 && (v, w) <= pairs[index - 1];
-        if v >= w || w >= total || not_above {
+        if v >= w || w as u64 >= total || not_above {
             return Err(refused_at(19, index as u64, 0));
         }
     }
     Ok(pairs)
+}
+
+/// Writes a list of edges among `total` vertices as graph6, whatever their degrees. Returns the written
+/// length.
+pub fn graph6_write(edges: &[u8], total: u64, output: &mut [u8]) -> Result<u64, Refused> {
+    let pairs = check_edges(edges, total)?;
+    let mut graph = Graph::new(total as usize);
+    for (v, w) in pairs {
+        graph.join(v, w);
+    }
+    write(&graph6::text(&graph), output)
+}
+
+/// Reads a graph6 text and writes its edges, 2 bytes each. Returns the written length and the total of
+/// vertices.
+pub fn graph6_read(text: &[u8], output: &mut [u8]) -> Result<(u64, u64), Refused> {
+    let graph = graph6::graph(text)?;
+    let written = write(&graph.edge_list(), output)?;
+    Ok((written, graph.vertices() as u64))
 }
 
 /// Phase, blocks, N, edges wanted and edges laid; the last three are 0 while blocks are taken.

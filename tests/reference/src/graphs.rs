@@ -165,6 +165,19 @@ pub fn even(vertices: usize, edges: usize, random: &mut Random) -> Graph {
     graph
 }
 
+/// So many edges of all pairs alike, whatever the degrees.
+pub fn uniform(vertices: usize, edges: usize, random: &mut Random) -> Graph {
+    let mut pairs: Vec<(usize, usize)> = (0..vertices)
+        .flat_map(|v| (v + 1..vertices).map(move |w| (v, w)))
+        .collect();
+    random.shuffle(&mut pairs);
+    let mut graph = Graph::new(vertices);
+    for &(v, w) in &pairs[..edges] {
+        graph.join(v, w);
+    }
+    graph
+}
+
 /// Degrees spread from 1 to `most`, so that many cells are used.
 pub fn spread(vertices: usize, most: usize, random: &mut Random) -> Graph {
     let caps: Vec<usize> = (0..vertices).map(|v| 1 + v * most / vertices).collect();

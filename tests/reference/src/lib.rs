@@ -1,4 +1,4 @@
-//! A second implementation of document 01 and of document 02's P1, P2 and P4, written from the
+//! A second implementation of document 01 and of document 02's P1, P2, P4 and P5, written from the
 //! documents alone.
 //!
 //! It is meant to be read and believed, not to be fast: every call recounts everything from the
@@ -12,14 +12,16 @@
 //! * [`switching`]: the neighbour switch, adding one edge, completing
 //! * [`join_record`]: the record that completing writes of a join
 //! * [`player`]: plays such records onto an adjacency matrix, knowing nothing of switching
-//! * [`entries`]: the ten entries, in document 01's order of checks
-//! * [`numbers`]: the same ten entries, answering with the numbers of the C interface
+//! * [`graph6`]: graphs as McKay's graph6, and back
+//! * [`entries`]: the twelve entries, in document 01's order of checks
+//! * [`numbers`]: the same twelve entries, answering with the numbers of the C interface
 //! * [`program`]: what the program prints for an input
 //! * [`search`]: a second builder, by exhaustive search instead of switching
 //! * [`graphs`], [`random`]: graphs whose matrix is known, and reproducible random numbers
 
 pub mod adjacency;
 pub mod entries;
+pub mod graph6;
 pub mod graphs;
 pub mod join_record;
 pub mod journal;

@@ -1,4 +1,4 @@
-//! The ten entries answering as the C interface does: in numbers, the first 0 when the call did its
+//! The twelve entries answering as the C interface does: in numbers, the first 0 when the call did its
 //! work, else the refusal's number with its places in the second and third. Adding an edge answers
 //! with nine, all others with six.
 
@@ -123,6 +123,14 @@ pub fn edge_list(journal: &[u8], adjacency: &[u8], output: &mut [u8]) -> Six {
 
 pub fn jdm_of_edges(edges: &[u8], total: u64, output: &mut [u8]) -> Six {
     six(crate::jdm_of_edges(edges, total, output).map(|length| [length, 0, 0, 0, 0]))
+}
+
+pub fn graph6_write(edges: &[u8], total: u64, output: &mut [u8]) -> Six {
+    six(crate::graph6_write(edges, total, output).map(|length| [length, 0, 0, 0, 0]))
+}
+
+pub fn graph6_read(text: &[u8], output: &mut [u8]) -> Six {
+    six(crate::graph6_read(text, output).map(|(length, total)| [length, total, 0, 0, 0]))
 }
 
 pub fn figures(journal: &[u8], adjacency: &[u8]) -> Six {

@@ -1,23 +1,39 @@
 //! What the program prints for an input.
 
+use crate::graphs::Graph;
 use crate::{
-    add_edge, adjacency, complete, join_record, lay_out, take_block, Refused, ADJACENCY_LENGTH,
-    BLOCK_LENGTH, JOURNAL_LENGTH, MOST_EDGES,
+    add_edge, adjacency, complete, graph6, join_record, lay_out, take_block, Refused,
+    ADJACENCY_LENGTH, BLOCK_LENGTH, JOURNAL_LENGTH, MOST_EDGES,
 };
 
 /// The text on standard output, every line ended by one newline.
 pub fn output(input: &[u8]) -> String {
-    match run(input) {
-        Ok(text) => text,
-        Err(refused) => format!(
-            "refused {} {} {}\n",
-            refused.number, refused.first, refused.second
-        ),
-    }
+    lay(input, &[]).map_or_else(refusal_line, |laid| list(&laid))
 }
 
-fn run(input: &[u8]) -> Result<String, Refused> {
-    let laid = lay(input, &[])?;
+/// The same with the option --graph6: the graph as one line of graph6 and nothing else, or the same
+/// refusal.
+pub fn graph6_output(input: &[u8]) -> String {
+    lay(input, &[]).map_or_else(refusal_line, |laid| graph6_line(&laid))
+}
+
+fn refusal_line(refused: Refused) -> String {
+    format!(
+        "refused {} {} {}\n",
+        refused.number, refused.first, refused.second
+    )
+}
+
+fn graph6_line(laid: &Laid) -> String {
+    let mut graph = Graph::new(laid.vertices as usize);
+    for (v, w) in adjacency::edges(&laid.adjacency) {
+        graph.join(v, w);
+    }
+    let text = String::from_utf8(graph6::text(&graph)).expect("printable bytes");
+    text + "\n"
+}
+
+fn list(laid: &Laid) -> String {
     let edges = adjacency::edges(&laid.adjacency);
     let mut text = format!(
         "boards {} links {} switches {}\n",
@@ -28,7 +44,7 @@ fn run(input: &[u8]) -> Result<String, Refused> {
     for (v, w) in edges {
         text.push_str(&format!("{v} {w}\n"));
     }
-    Ok(text)
+    text
 }
 
 /// A completed state with what was answered on the way.
