@@ -34,6 +34,9 @@
  * degree 2, and so on. Once laid out, any two vertices that are not joined and whose cell is still
  * short of edges can be joined, in any order; there is no dead end.
  *
+ * Three calls need no state: replica_jdm_of_edges counts the matrix of an edge list,
+ * replica_graph6_write gives its graph6 text, and replica_graph6_read the edge list of such a text.
+ *
  * FORMATS
  *
  * A record is 4 bytes: k, l, then a 16-bit count, low byte first; the count may be 0. There are two
@@ -58,6 +61,18 @@
  * whether v or w was in need of it. To play a join record onto a graph, do its switches in their
  * order, each removing a-t and adding b-t, and then add v-w. What is removed is there when its turn
  * comes, and what is added is not.
+ *
+ * A graph6 text is one graph in McKay's format, in which many programs exchange them. It is bytes
+ * from 63 to 126, without a header, a line end or a byte 0 behind it:
+ *
+ *   - the number of vertices n: up to 62 one byte, n + 63; from 63 to 200 byte 126 and then three
+ *     bytes, each 63 plus six of the 18 bits of n, high bits first. The longer form is not allowed
+ *     for an n of 62 or less;
+ *   - one bit for each pair of vertices, 1 where they are joined, in the order 0-1, 0-2, 1-2, 0-3,
+ *     1-3, 2-3, 0-4 and on: six bits a byte, high bit first, plus 63. The last byte is filled up
+ *     with bits 0.
+ *
+ * The edges 0-3, 1-2, 1-3 and 2-3 among 4 vertices are the text CN. A graph has exactly one text.
  *
  * MEMORY
  *
@@ -109,6 +124,12 @@ extern "C" {
 /* An output of this many bytes is never too short for replica_jdm_of_edges: 820 cells, and the
  * isolated vertices. */
 #define REPLICA_MOST_RECORDS 3284
+/* An output of this many bytes is never too short for replica_graph6_write: 4 bytes for the number
+ * of vertices, 3,317 for the pairs of 200 vertices. */
+#define REPLICA_MOST_GRAPH6 3321
+/* An output of this many bytes is never too short for replica_graph6_read: all 19,900 pairs of 200
+ * vertices. */
+#define REPLICA_MOST_GRAPH6_EDGE_LIST 39800
 /* Bytes of a join record. */
 #define REPLICA_JOIN_RECORD_LENGTH 8
 /* An output of this many bytes is never too short for replica_complete: 4,000 join records. */
@@ -181,7 +202,14 @@ enum {
      * it (first: index of the first such edge). */
     REPLICA_REFUSED_EDGE_LIST = 19,
     /* A vertex of the edge list has a degree over 40. first: the lowest such vertex. */
-    REPLICA_REFUSED_DEGREE = 20
+    REPLICA_REFUSED_DEGREE = 20,
+    /* The text is not a graph6 text: it is empty, has a byte outside 63 to 126 (as a header and a
+     * line end do), another length than its number of vertices asks for, a bit behind the last pair
+     * that is not 0, or a number of vertices in the longer form without need. */
+    REPLICA_REFUSED_GRAPH6_TEXT = 21,
+    /* The text begins as that of a graph with more than 200 vertices: with byte 126, and then
+     * another 126 or three bytes that make a number above 200. What follows is not looked at. */
+    REPLICA_REFUSED_GRAPH6_SIZE = 22
 };
 
 /*
@@ -317,6 +345,39 @@ struct ReplicaAnswer replica_edge_list(const uint8_t *journal, size_t journal_le
 struct ReplicaAnswer replica_jdm_of_edges(const uint8_t *edges, size_t edges_length,
                                           uint64_t total,
                                           uint8_t *output, size_t output_length);
+
+/*
+ * Writes an edge list as graph6. It may be of any graph on vertices 0 to total - 1, total being 200
+ * at most; degrees over 40 are written too. Only the text is written: no line end and no byte 0.
+ * Output bytes after the written part are untouched. It needs no journal and no adjacency matrix.
+ *
+ * What is written is read by replica_graph6_read as the same edges and the same total. The edge
+ * list of a state, with the state's number of vertices as the total, gives its graph.
+ *
+ *   first   bytes written: 1 up to 62 vertices and 4 above, and one for every six pairs of vertices
+ *           or part of six
+ *
+ * Refused: 19 (the total, then an odd length, then the edges, as replica_jdm_of_edges has it), 18.
+ */
+struct ReplicaAnswer replica_graph6_write(const uint8_t *edges, size_t edges_length,
+                                          uint64_t total,
+                                          uint8_t *output, size_t output_length);
+
+/*
+ * Reads a graph6 text, which ends with its last byte: cut off a line end first. Writes its edges as
+ * an edge list, ascending by v and then w. Output bytes after the written part are untouched. It
+ * needs no journal and no adjacency matrix.
+ *
+ * Every text that is accepted is, byte by byte, what replica_graph6_write gives for the edges and
+ * the total read from it; it refuses none of them.
+ *
+ *   first   bytes written, 2 for each edge
+ *   second  the total: the number of vertices, the isolated ones included
+ *
+ * Refused: 22, 21, 18.
+ */
+struct ReplicaAnswer replica_graph6_read(const uint8_t *text, size_t text_length,
+                                         uint8_t *output, size_t output_length);
 
 /*
  * Reports on a state.

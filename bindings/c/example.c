@@ -1,7 +1,8 @@
 /*
  * Lays out six vertices of degree 2 and one isolated vertex, adds three edges by hand and completes
  * the rest. A copy of the graph, as a patch frame would keep one, follows by what each join says has
- * moved. Prints what moved and the edges, and counts the table of the graph it got.
+ * moved. Prints what moved and the edges, and counts the table of the graph it got. Last, another
+ * graph goes out as graph6 and comes back.
  */
 #include <inttypes.h>
 #include <stdio.h>
@@ -16,6 +17,8 @@ static uint8_t copy[REPLICA_ADJACENCY_LENGTH];
 static uint8_t joins[REPLICA_MOST_JOIN_RECORDS];
 static uint8_t edges[REPLICA_MOST_EDGE_LIST];
 static uint8_t records[REPLICA_MOST_RECORDS];
+static uint8_t text[REPLICA_MOST_GRAPH6];
+static uint8_t pairs[REPLICA_MOST_GRAPH6_EDGE_LIST];
 
 static const uint8_t block[] = {
     0, 0, 1, 0,  /* one vertex without an edge: it is vertex 0 */
@@ -89,6 +92,19 @@ static uint64_t lay_out(void)
                                            adjacency, sizeof adjacency)).first;
 }
 
+/* Writes four edges among four vertices as graph6 and reads them back: neither needs a state. */
+static int exchange(void)
+{
+    static const uint8_t four[] = {0, 3, 1, 2, 1, 3, 2, 3};
+    struct ReplicaAnswer out, in;
+
+    out = done("graph6_write", replica_graph6_write(four, sizeof four, 4, text, sizeof text));
+    in = done("graph6_read", replica_graph6_read(text, out.first, pairs, sizeof pairs));
+    /* The text has no byte 0 at its end: its length is told. */
+    printf("%.*s has %" PRIu64 " vertices\n", (int)out.first, (const char *)text, in.second);
+    return in.first == sizeof four && memcmp(pairs, four, sizeof four) == 0;
+}
+
 int main(void)
 {
     struct ReplicaAnswer completed, list, survey;
@@ -117,6 +133,10 @@ int main(void)
                                                        records, sizeof records));
     if (survey.first != sizeof block || memcmp(records, block, sizeof block) != 0) {
         fprintf(stderr, "the graph has another table\n");
+        return 1;
+    }
+    if (!exchange()) {
+        fprintf(stderr, "the text has other edges\n");
         return 1;
     }
     return 0;

@@ -41,8 +41,9 @@ cat >expected <<END
 2 6
 4 5
 5 6
+CN has 4 vertices
 END
 if ! cmp -s printed expected; then
-    echo "FAILED: other moves or edges than those worked out by hand" >&2
+    echo "FAILED: other moves, edges or text than those worked out by hand" >&2
     exit 1
 fi
