@@ -204,7 +204,8 @@ impl Edges {
         Edges { bytes, next: 0 }
     }
 
-    /// The bytes of the whole list, as [`jdm_of_edges`](crate::jdm_of_edges) takes them.
+    /// The bytes of the whole list, as [`jdm_of_edges`](crate::jdm_of_edges) and
+    /// [`graph6_write`](crate::graph6_write) take them.
     pub fn as_bytes(&self) -> &[u8] {
         &self.bytes
     }

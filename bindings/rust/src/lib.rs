@@ -35,15 +35,20 @@
 //! edge hands its switches back, and completing gives a record of each join, so that a copy of the
 //! graph can follow by playing them ([`Completion`]).
 //!
+//! Single graphs go out and come in as McKay's graph6 ([`State::graph6`], [`graph6_write`],
+//! [`graph6_read`]).
+//!
 //! [`raw`] has the same entries over slices of any length, answering with the plain numbers of the
 //! C interface.
 
+mod graph6;
 mod iterators;
 mod joins;
 pub mod raw;
 mod refusal;
 mod state;
 
+pub use graph6::{graph6_read, graph6_write};
 pub use iterators::{block, Cell, Cells, Edges, Record, Records};
 pub use joins::{Join, Joins, Switch, Switches};
 pub use refusal::{Cause, Refusal};
@@ -65,6 +70,10 @@ pub const MOST_DEGREE: usize = 40;
 pub const MOST_VERTICES: usize = 200;
 /// Most edges in a state: 200 vertices of degree 40.
 pub const MOST_EDGES: usize = MOST_VERTICES * MOST_DEGREE / 2;
+/// Most pairs of vertices, and so most edges of a graph6 text: those of 200 vertices.
+pub const MOST_PAIRS: usize = MOST_VERTICES * (MOST_VERTICES - 1) / 2;
+/// Most bytes of a graph6 text: the size in its longer form, and six pairs a byte.
+pub const MOST_GRAPH6: usize = 4 + MOST_PAIRS.div_ceil(6);
 /// Most cells with k at most l.
 pub const MOST_CELLS: usize = MOST_DEGREE * (MOST_DEGREE + 1) / 2;
 /// Most records that [`jdm_of_edges`] writes: the isolated vertices, and all cells.

@@ -1,4 +1,4 @@
-//! The ten exports of the C interface, over slices of any length.
+//! The twelve exports of the C interface, over slices of any length.
 //!
 //! These functions are safe: a slice is passed as its pointer and its length, and the library
 //! checks lengths itself. They answer with the numbers of the C interface as they are.
@@ -156,6 +156,21 @@ mod exports {
             output_length: usize,
         ) -> ReplicaAnswer;
 
+        pub fn replica_graph6_write(
+            edges: *const u8,
+            edges_length: usize,
+            total: u64,
+            output: *mut u8,
+            output_length: usize,
+        ) -> ReplicaAnswer;
+
+        pub fn replica_graph6_read(
+            text: *const u8,
+            text_length: usize,
+            output: *mut u8,
+            output_length: usize,
+        ) -> ReplicaAnswer;
+
         pub fn replica_figures(
             journal: *const u8,
             journal_length: usize,
@@ -297,6 +312,28 @@ pub fn jdm_of_edges(edges: &[u8], total: u64, output: &mut [u8]) -> ReplicaAnswe
             output.as_mut_ptr(),
             output.len(),
         )
+    }
+}
+
+/// Writes an edge list among `total` vertices as graph6: `first` is the written length.
+/// Refused: 19, 18.
+pub fn graph6_write(edges: &[u8], total: u64, output: &mut [u8]) -> ReplicaAnswer {
+    unsafe {
+        exports::replica_graph6_write(
+            edges.as_ptr(),
+            edges.len(),
+            total,
+            output.as_mut_ptr(),
+            output.len(),
+        )
+    }
+}
+
+/// Reads a graph6 text and writes its edges, 2 bytes each: `first` is the written length, `second`
+/// the number of vertices. Refused: 22, 21, 18.
+pub fn graph6_read(text: &[u8], output: &mut [u8]) -> ReplicaAnswer {
+    unsafe {
+        exports::replica_graph6_read(text.as_ptr(), text.len(), output.as_mut_ptr(), output.len())
     }
 }
 

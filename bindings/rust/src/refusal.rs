@@ -10,7 +10,7 @@ use std::fmt;
 ///
 /// assert_eq!(Cause::OddDiagonal.number(), 9);
 /// assert_eq!(Cause::from_number(9), Some(Cause::OddDiagonal));
-/// assert_eq!(Cause::from_number(21), None);
+/// assert_eq!(Cause::from_number(23), None);
 /// assert_eq!(Cause::SameVertex.to_string(), "both ends are the same vertex");
 /// ```
 #[derive(Clone, Copy, Debug, PartialEq, Eq, PartialOrd, Ord, Hash)]
@@ -56,11 +56,17 @@ pub enum Cause {
     BadEdgeList = 19,
     /// A vertex of the edge list has a degree over 40.
     DegreeTooHigh = 20,
+    /// A text that is not graph6: empty, a byte outside 63 to 126, another length than its number
+    /// of vertices asks for, a bit behind the last pair that is not 0, or a size in its longer form
+    /// without need.
+    Graph6Text = 21,
+    /// A graph6 text that begins with a size above 200.
+    Graph6Size = 22,
 }
 
 impl Cause {
     /// All causes, in the order of their numbers.
-    pub const ALL: [Cause; 20] = [
+    pub const ALL: [Cause; 22] = [
         Cause::WrongLength,
         Cause::InvalidState,
         Cause::WrongPhase,
@@ -81,6 +87,8 @@ impl Cause {
         Cause::OutputTooShort,
         Cause::BadEdgeList,
         Cause::DegreeTooHigh,
+        Cause::Graph6Text,
+        Cause::Graph6Size,
     ];
 
     /// Document 01's number.
@@ -121,6 +129,8 @@ impl fmt::Display for Cause {
                 "the total is over 200, or the edge list has an odd length or a bad edge"
             }
             Cause::DegreeTooHigh => "a vertex of the edge list has a degree over 40",
+            Cause::Graph6Text => "the text is not well-formed graph6",
+            Cause::Graph6Size => "the graph6 text has more than 200 vertices",
         })
     }
 }
