@@ -32,8 +32,17 @@ impl Both {
         }
     }
 
-    /// Makes the call on both sides, compares answers and bytes, and plays what has moved. Returns the
-    /// numbers of the answer.
+    /// For calls that are lent no state: there is none to compare.
+    pub fn without_state(label: &str) -> Both {
+        Both {
+            journal: Vec::new(),
+            adjacency: Vec::new(),
+            ..Both::new(label)
+        }
+    }
+
+    /// Makes the call on both sides, compares answers and bytes, plays what has moved, and reads or
+    /// writes a text the other way round. Returns the numbers of the answer.
     pub fn call(&mut self, call: Call) -> Numbers {
         self.calls += 1;
         if self.trace {
@@ -53,7 +62,10 @@ impl Both {
         }
         self.compare_inputs(&call, &after);
         let moves = &mut self.count.moves;
-        if let Err(wrong) = moves.follow(&call, &numbers, &before, &after) {
+        let moved = moves.follow(&call, &numbers, &before, &after);
+        let texts = &mut self.count.texts;
+        let turned = texts.follow(&call, &numbers, &after);
+        if let Err(wrong) = moved.and(turned) {
             panic!("{}: {wrong}", self.place(&call));
         }
         self.journal = after.journal;

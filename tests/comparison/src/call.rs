@@ -5,7 +5,7 @@ use reference::numbers::{self, Numbers};
 use reference::random::Random;
 use std::fmt;
 
-/// The ten entries.
+/// The twelve entries.
 #[derive(Clone, Copy, Debug, PartialEq, Eq)]
 pub enum Entry {
     Clear,
@@ -17,11 +17,13 @@ pub enum Entry {
     Complete,
     EdgeList,
     JdmOfEdges,
+    Graph6Write,
+    Graph6Read,
     Figures,
 }
 
 impl Entry {
-    pub const ALL: [Entry; 10] = [
+    pub const ALL: [Entry; 12] = [
         Entry::Clear,
         Entry::TakeBlock,
         Entry::HeldBlock,
@@ -31,6 +33,8 @@ impl Entry {
         Entry::Complete,
         Entry::EdgeList,
         Entry::JdmOfEdges,
+        Entry::Graph6Write,
+        Entry::Graph6Read,
         Entry::Figures,
     ];
 
@@ -45,6 +49,8 @@ impl Entry {
             Entry::Complete => "complete",
             Entry::EdgeList => "edge_list",
             Entry::JdmOfEdges => "jdm_of_edges",
+            Entry::Graph6Write => "graph6_write",
+            Entry::Graph6Read => "graph6_read",
             Entry::Figures => "figures",
         }
     }
@@ -61,6 +67,8 @@ impl Entry {
             Entry::Complete => &[1, 2, 3, 18],
             Entry::EdgeList => &[1, 2, 3, 18],
             Entry::JdmOfEdges => &[19, 20, 18],
+            Entry::Graph6Write => &[19, 18],
+            Entry::Graph6Read => &[22, 21, 18],
             Entry::Figures => &[1, 2],
         }
     }
@@ -97,6 +105,15 @@ pub enum Call {
         total: u64,
         output: Vec<u8>,
     },
+    Graph6Write {
+        edges: Vec<u8>,
+        total: u64,
+        output: Vec<u8>,
+    },
+    Graph6Read {
+        text: Vec<u8>,
+        output: Vec<u8>,
+    },
     Figures,
 }
 
@@ -112,6 +129,8 @@ impl Call {
             Call::Complete { .. } => Entry::Complete,
             Call::EdgeList { .. } => Entry::EdgeList,
             Call::JdmOfEdges { .. } => Entry::JdmOfEdges,
+            Call::Graph6Write { .. } => Entry::Graph6Write,
+            Call::Graph6Read { .. } => Entry::Graph6Read,
             Call::Figures => Entry::Figures,
         }
     }
@@ -120,7 +139,8 @@ impl Call {
     pub fn input(&self) -> &[u8] {
         match self {
             Call::TakeBlock { block, .. } => block,
-            Call::JdmOfEdges { edges, .. } => edges,
+            Call::JdmOfEdges { edges, .. } | Call::Graph6Write { edges, .. } => edges,
+            Call::Graph6Read { text, .. } => text,
             _ => &[],
         }
     }
@@ -130,7 +150,9 @@ impl Call {
         match self {
             Call::Complete { output }
             | Call::EdgeList { output }
-            | Call::JdmOfEdges { output, .. } => output,
+            | Call::JdmOfEdges { output, .. }
+            | Call::Graph6Write { output, .. }
+            | Call::Graph6Read { output, .. } => output,
             _ => &[],
         }
     }
@@ -150,7 +172,15 @@ impl fmt::Debug for Call {
                 edges,
                 total,
                 output,
+            }
+            | Call::Graph6Write {
+                edges,
+                total,
+                output,
             } => write!(f, "({edges:?}, total {total}, {} bytes)", output.len()),
+            Call::Graph6Read { text, output } => {
+                write!(f, "(b\"{}\", {} bytes)", text.escape_ascii(), output.len())
+            }
             _ => Ok(()),
         }
     }
@@ -220,6 +250,8 @@ pub fn on_library(
         Call::Complete { .. } => raw::complete(journal, adjacency, output),
         Call::EdgeList { .. } => raw::edge_list(journal, adjacency, output),
         Call::JdmOfEdges { total, .. } => raw::jdm_of_edges(input, total, output),
+        Call::Graph6Write { total, .. } => raw::graph6_write(input, total, output),
+        Call::Graph6Read { .. } => raw::graph6_read(input, output),
         Call::Figures => raw::figures(journal, adjacency),
     };
     Numbers::Six(answer.numbers())
@@ -243,6 +275,8 @@ pub fn on_reference(call: &Call, memory: &mut Memory) -> Numbers {
         Call::Complete { .. } => numbers::complete(journal, adjacency, output),
         Call::EdgeList { .. } => numbers::edge_list(journal, adjacency, output),
         Call::JdmOfEdges { total, .. } => numbers::jdm_of_edges(input, total, output),
+        Call::Graph6Write { total, .. } => numbers::graph6_write(input, total, output),
+        Call::Graph6Read { .. } => numbers::graph6_read(input, output),
         Call::Figures => numbers::figures(journal, adjacency),
     })
 }

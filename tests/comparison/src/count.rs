@@ -2,9 +2,10 @@
 
 use crate::call::Entry;
 use crate::moves::Moves;
+use crate::texts::Texts;
 use reference::numbers::Numbers;
 
-const REFUSALS: usize = 20;
+const REFUSALS: usize = 22;
 
 /// What a run tried. Counts of several runs add up.
 #[derive(Clone, Debug, Default)]
@@ -23,6 +24,7 @@ pub struct Count {
     pub isolated: Isolated,
     pub empty: Empty,
     pub moves: Moves,
+    pub texts: Texts,
 }
 
 named_counts! {
@@ -108,14 +110,16 @@ impl Count {
         self.isolated.add(&other.isolated);
         self.empty.add(&other.empty);
         self.moves.add(&other.moves);
+        self.texts.add(&other.texts);
     }
 
     /// The counts that have names, and what they are of.
-    fn named(&self) -> [(&'static str, Vec<(&'static str, u64)>); 3] {
+    fn named(&self) -> [(&'static str, Vec<(&'static str, u64)>); 4] {
         [
             ("isolated", self.isolated.named()),
             ("empty blocks", self.empty.named()),
             ("what moved", self.moves.named()),
+            ("graph6", self.texts.named()),
         ]
     }
 

@@ -5,12 +5,15 @@
 //! * [`lent`]: slices lent between guard bytes
 //! * [`both`]: makes a call on both sides and compares
 //! * [`moves`]: what joins and completions say has moved, played
+//! * [`texts`]: what goes out as graph6 comes in again, and the other way round
 //! * [`count`]: how many calls, tables and refusals were tried
 //! * `named`: counts with names
 //! * [`blocks`]: tables cut into blocks, whole and spoiled
+//! * [`edge_lists`]: edge lists with high degrees, and spoiled ones
 //! * [`lists`]: long random call lists
 //! * [`tables`]: tables laid out and completed, checked by a count of their own
 //! * [`joins`]: which pairs can be joined, over small states
+//! * [`exchange`]: graphs of any density as graph6, whole and spoiled
 //! * [`program`]: the program as a child process
 
 #[macro_use]
@@ -20,9 +23,12 @@ pub mod blocks;
 pub mod both;
 pub mod call;
 pub mod count;
+pub mod edge_lists;
+pub mod exchange;
 pub mod joins;
 pub mod lent;
 pub mod lists;
 pub mod moves;
 pub mod program;
 pub mod tables;
+pub mod texts;

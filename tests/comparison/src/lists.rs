@@ -1,14 +1,17 @@
 //! Long random call lists: blocks new, resent and spoiled, layings-out, joins, removals and
-//! completions in any order, damaged journals and matrices, outputs too short, just long enough and
-//! longer.
+//! completions in any order, surveys and graph6 between them, damaged journals and matrices, outputs
+//! too short, just long enough and longer.
 
 use crate::blocks::{self, Size};
 use crate::both::Both;
 use crate::call::{any_output, room, Call};
-use reference::graphs::{self, Graph};
+use crate::texts::text_length;
+use crate::{edge_lists, exchange};
+use reference::graphs;
 use reference::random::Random;
 use reference::{adjacency, journal, validity, Matrix};
 use reference::{ADJACENCY_LENGTH, JOURNAL_LENGTH, MOST_VERTICES};
+use replica::MOST_GRAPH6;
 
 /// The isolated vertices and 820 cells: no survey writes more.
 const MOST_RECORD_BYTES: usize = 4 * 821;
@@ -141,13 +144,15 @@ impl List<'_> {
     }
 
     fn at_any_time(&mut self) -> Call {
-        match self.random.below(4) {
+        match self.random.below(6) {
             0 => Call::Figures,
             1 => Call::HeldBlock {
                 number: self.block_number(),
             },
             2 => self.edge_list(),
-            _ => self.jdm_of_edges(),
+            3 => self.jdm_of_edges(),
+            4 => self.graph6_write(),
+            _ => self.graph6_read(),
         }
     }
 
@@ -304,12 +309,18 @@ impl List<'_> {
         }
     }
 
-    fn jdm_of_edges(&mut self) -> Call {
+    /// Edges, whole or spoiled, and a total that fits them or not.
+    fn edges_and_total(&mut self) -> (Vec<u8>, u64) {
         let mut edges = self.some_edges();
         if self.random.chance(40) {
-            self.spoil_edges(&mut edges);
+            edge_lists::spoil(&mut edges, &mut self.random);
         }
         let total = self.total(&edges);
+        (edges, total)
+    }
+
+    fn jdm_of_edges(&mut self) -> Call {
+        let (edges, total) = self.edges_and_total();
         let mut probe = vec![0; MOST_RECORD_BYTES];
         let needed = reference::jdm_of_edges(&edges, total, &mut probe).unwrap_or(0);
         let output = any_output(needed as usize, &mut self.random);
@@ -317,6 +328,35 @@ impl List<'_> {
             edges,
             total,
             output,
+        }
+    }
+
+    fn graph6_write(&mut self) -> Call {
+        let (edges, total) = self.edges_and_total();
+        let needed = text_length(total.min(MOST_VERTICES as u64) as usize);
+        let output = any_output(needed, &mut self.random);
+        Call::Graph6Write {
+            edges,
+            total,
+            output,
+        }
+    }
+
+    /// The text of such edges, whole or spoiled; where they have none, their bytes.
+    fn graph6_read(&mut self) -> Call {
+        let (edges, total) = self.edges_and_total();
+        let mut text = vec![0; MOST_GRAPH6];
+        let length = reference::graph6_write(&edges, total, &mut text);
+        text.truncate(length.unwrap_or(0) as usize);
+        if text.is_empty() {
+            text.clone_from(&edges);
+        }
+        if self.random.chance(40) {
+            text = exchange::spoil(&text, &mut self.random);
+        }
+        Call::Graph6Read {
+            text,
+            output: any_output(edges.len(), &mut self.random),
         }
     }
 
@@ -340,74 +380,10 @@ impl List<'_> {
         match self.random.below(9) {
             0..=2 => edge_bytes(&adjacency::edges(&self.both.adjacency)),
             3..=4 => graphs::any(60, &mut self.random).edge_list(),
-            5 => self.clique_with_one_more().edge_list(),
-            6 => self.one_center().edge_list(),
-            7 => self.two_centers().edge_list(),
+            5..=7 => edge_lists::high_degrees(&mut self.random).edge_list(),
             _ => {
                 let length = self.random.below(40);
                 self.random.bytes(length)
-            }
-        }
-    }
-
-    /// Degrees around 40 on both sides of the bound.
-    fn clique_with_one_more(&mut self) -> Graph {
-        let vertices = self.random.between(40, 44);
-        let far = self.random.between(vertices, MOST_VERTICES - 1);
-        let mut graph = graphs::cliques(vertices, vertices).widened(far + 1);
-        graph.join(self.random.below(vertices), far);
-        graph
-    }
-
-    /// One vertex joined to about 40 others.
-    fn one_center(&mut self) -> Graph {
-        let center = self.random.below(MOST_VERTICES);
-        let mut graph = Graph::new(MOST_VERTICES);
-        for w in (0..MOST_VERTICES).filter(|&w| w != center) {
-            if self.random.chance(20) {
-                graph.join(center, w);
-            }
-        }
-        graph
-    }
-
-    /// Two vertices over 40, or nearly; in the list the higher one gets there first.
-    fn two_centers(&mut self) -> Graph {
-        let lower = self.random.between(60, 100);
-        let higher = self.random.between(150, 199);
-        let mut graph = Graph::new(MOST_VERTICES);
-        for v in 0..self.random.between(39, 44) {
-            graph.join(v, higher);
-        }
-        for step in 1..=self.random.between(39, 44) {
-            graph.join(lower, lower + step);
-        }
-        graph
-    }
-
-    fn spoil_edges(&mut self, edges: &mut Vec<u8>) {
-        if edges.is_empty() {
-            edges.push(0);
-            return;
-        }
-        let place = self.random.below(edges.len());
-        match self.random.below(5) {
-            0 => {
-                edges.pop();
-            }
-            1 => edges[place] = self.random.byte(),
-            2 => edges[place] = edges[place].wrapping_add(1),
-            3 if edges.len() >= 4 => {
-                let whole = edges.len() / 2;
-                let (first, second) = (place / 2 % whole * 2, self.random.below(whole) * 2);
-                edges.swap(first, second);
-                edges.swap(first + 1, second + 1);
-            }
-            _ => {
-                let last = edges.len() / 2 * 2;
-                if last >= 2 {
-                    edges.extend_from_within(last - 2..last);
-                }
             }
         }
     }
@@ -421,6 +397,12 @@ impl List<'_> {
             let total = self.total(&edges);
             let output = self.random.bytes(MOST_RECORD_BYTES);
             self.both.call(Call::JdmOfEdges {
+                edges: edges.clone(),
+                total,
+                output,
+            });
+            let output = self.random.bytes(MOST_GRAPH6);
+            self.both.call(Call::Graph6Write {
                 edges,
                 total,
                 output,

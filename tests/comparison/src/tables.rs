@@ -4,6 +4,7 @@
 use crate::blocks;
 use crate::both::Both;
 use crate::call::Call;
+use crate::texts::text_length;
 use reference::adjacency;
 use reference::graphs::{self, Graph};
 use reference::numbers::refusal;
@@ -197,7 +198,7 @@ fn edges_by_hand(vertices: usize, random: &mut Random, both: &mut Both) -> u64 {
     laid
 }
 
-/// Completes and checks the graph by its own count, by its list and by the list's survey.
+/// Completes and checks the graph by its own count, by its list, and by the list's survey and text.
 fn finish(wanted: &Sum, vertices: usize, laid: u64, both: &mut Both) {
     let edges = wanted.edges();
     both.complete(edges - laid);
@@ -211,15 +212,43 @@ fn finish(wanted: &Sum, vertices: usize, laid: u64, both: &mut Both) {
     let output = vec![0xee; 2 * edges as usize];
     let numbers = both.call(Call::EdgeList { output });
     assert_eq!(numbers, [0, 2 * edges, 0, 0, 0, 0]);
+    let (edges, total) = (both.output.clone(), vertices as u64);
     let length = 4 * wanted.records();
     let call = Call::JdmOfEdges {
-        edges: both.output.clone(),
-        total: vertices as u64,
+        edges: edges.clone(),
+        total,
         output: vec![0xee; length],
     };
     assert_eq!(both.call(call), [0, length as u64, 0, 0, 0, 0]);
     assert_eq!(&sum_of(std::slice::from_ref(&both.output)), wanted);
+
+    let length = text_length(vertices);
+    let call = Call::Graph6Write {
+        edges,
+        total,
+        output: vec![0xee; length],
+    };
+    assert_eq!(both.call(call), [0, length as u64, 0, 0, 0, 0]);
+    assert!(is_text_of(&both.output, &both.adjacency, vertices));
     both.count.tables_laid += 1;
+}
+
+/// Whether a graph6 text says this number of vertices and has a bit for each pair, column by column,
+/// 1 where the matrix is, and zeros behind.
+fn is_text_of(text: &[u8], adjacency: &[u8], vertices: usize) -> bool {
+    let six = |byte: &u8| usize::from(byte - 63);
+    let (size, body) = match text {
+        [126, a, b, c, body @ ..] => (six(a) << 12 | six(b) << 6 | six(c), body),
+        [n, body @ ..] => (six(n), body),
+        [] => return false,
+    };
+    let bit = |place: usize| six(&body[place / 6]) >> (5 - place % 6) & 1;
+    let place = |v: usize, w: usize| w * (w - 1) / 2 + v;
+    let pairs = graphs::pairs(vertices);
+    size == vertices
+        && (1..vertices)
+            .all(|w| (0..w).all(|v| bit(place(v, w)) == usize::from(adjacency[200 * v + w])))
+        && (pairs..6 * body.len()).all(|place| bit(place) == 0)
 }
 
 /// Some degrees, and a most for each cell among them.

@@ -11,7 +11,7 @@ use comparison::blocks::Size;
 use comparison::both::Both;
 use comparison::count::Count;
 use comparison::tables::{self, Start};
-use comparison::{joins, lists};
+use comparison::{exchange, joins, lists};
 use reference::graphs;
 use reference::random::Random;
 use reference::search::tables_of_all_graphs;
@@ -27,6 +27,7 @@ enum Job {
     Joins(u64),
     Tables(usize, Vec<(Table, Start)>),
     RandomTable(u64, usize),
+    Texts(u64, usize),
 }
 
 impl Job {
@@ -36,6 +37,7 @@ impl Job {
             Job::Joins(seed) => format!("joins {seed}"),
             Job::Tables(number, _) => format!("tables {number}"),
             Job::RandomTable(seed, _) => format!("random table {seed}"),
+            Job::Texts(seed, _) => format!("texts {seed}"),
         }
     }
 
@@ -59,6 +61,7 @@ impl Job {
                 }
                 tables::run_from_part_of(&graph, &mut random, &mut both);
             }
+            Job::Texts(seed, most) => exchange::run(*seed, *most, &mut both),
         }
         both.count
     }
@@ -101,13 +104,16 @@ fn jobs() -> Vec<Job> {
     let mut jobs = table_jobs(effort);
     jobs.extend(seeds(60).map(|seed| Job::RandomTable(seed, 200)));
     jobs.extend(seeds(60).map(|seed| Job::List(seed, Size::Large)));
+    jobs.extend(seeds(80).map(|seed| Job::Texts(seed, 200)));
     let after = 1_000;
     jobs.extend(seeds(400).map(|seed| Job::RandomTable(seed + after, 60)));
     jobs.extend(seeds(1_000).map(|seed| Job::List(seed + after, Size::Medium)));
+    jobs.extend(seeds(400).map(|seed| Job::Texts(seed + after, 70)));
     let after = 10_000;
     jobs.extend(seeds(1_000).map(|seed| Job::RandomTable(seed + after, 9)));
     jobs.extend(seeds(3_000).map(|seed| Job::List(seed + after, Size::Small)));
     jobs.extend(seeds(600).map(Job::Joins));
+    jobs.extend(seeds(600).map(|seed| Job::Texts(seed + after, 9)));
     jobs
 }
 
