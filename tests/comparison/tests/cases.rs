@@ -2,8 +2,10 @@
 
 use comparison::tables::every_cell;
 use reference::Table;
-use replica::{block, jdm_of_edges, Cause, Join, Joins, Record, Records, State, Switch, Take};
-use replica::{BLOCK_LENGTH, JOIN_RECORD_LENGTH, MOST_EDGES, MOST_RECORDS, RECORD_LENGTH};
+use replica::{block, graph6_read, graph6_write, jdm_of_edges};
+use replica::{Cause, Join, Joins, Record, Records, State, Switch, Take};
+use replica::{BLOCK_LENGTH, JOIN_RECORD_LENGTH, RECORD_LENGTH};
+use replica::{MOST_EDGES, MOST_GRAPH6, MOST_PAIRS, MOST_RECORDS};
 use std::collections::BTreeSet;
 
 fn state_of(cells: &[(u8, u8, u16)]) -> State {
@@ -313,6 +315,64 @@ fn totals_of_a_survey() {
     assert_eq!(jdm_of_edges(&[], 0, &mut []), Ok(0));
 }
 
+/// Document 02's text, out of a state and into an edge list.
+#[test]
+fn graph6_of_document_004() {
+    assert_eq!(State::new().graph6().unwrap_err().cause, Cause::WrongPhase);
+    let mut state = laid(&[(1, 3, 1), (2, 2, 2), (2, 3, 2)]);
+    assert_eq!(state.graph6().as_deref(), Ok("C?"));
+    complete(&mut state);
+    assert_eq!(state.graph6().as_deref(), Ok("CN"));
+    let mut list = [9; 10];
+    assert_eq!(graph6_read(b"CN", &mut list), Ok((8, 4)));
+    assert_eq!(list[..8], *state.edges().unwrap().as_bytes());
+    assert_eq!(list[8..], [9, 9]);
+    // Isolated vertices are the first ones.
+    let mut state = laid(&[(0, 0, 1), (1, 3, 1), (2, 2, 2), (2, 3, 2)]);
+    complete(&mut state);
+    assert_eq!(state.graph6().as_deref(), Ok("D@["));
+}
+
+/// All pairs of 200 vertices: no text and no list is longer, and these fill the longest outputs.
+#[test]
+fn the_longest_text() {
+    let edges: Vec<u8> = (0..200)
+        .flat_map(|v| (v + 1..200).flat_map(move |w| [v, w]))
+        .collect();
+    assert_eq!(edges.len(), 2 * MOST_PAIRS);
+    let mut text = vec![0; MOST_GRAPH6];
+    let refusal = graph6_write(&edges, 200, &mut text[1..]).unwrap_err();
+    assert_eq!(refusal.cause, Cause::OutputTooShort);
+    assert_eq!(graph6_write(&edges, 200, &mut text), Ok(MOST_GRAPH6));
+    assert!(text.starts_with(b"~?BG~~~"));
+    let mut list = vec![0; 2 * MOST_PAIRS];
+    let refusal = graph6_read(&text, &mut list[1..]).unwrap_err();
+    assert_eq!(refusal.cause, Cause::OutputTooShort);
+    assert_eq!(graph6_read(&text, &mut list), Ok((2 * MOST_PAIRS, 200)));
+    assert_eq!(list, edges);
+}
+
+#[test]
+fn refusals_of_graph6() {
+    let cause = |text: &[u8]| {
+        let refusal = graph6_read(text, &mut [0; 8]).unwrap_err();
+        assert_eq!(refusal.places, (0, 0));
+        refusal.cause
+    };
+    for text in [&b""[..], b"CN\n", b">>graph6<<CN", b"C", b"A~", b"~???"] {
+        assert_eq!(cause(text), Cause::Graph6Text);
+    }
+    for text in [&b"~~"[..], b"~?BH", b"~?BH\n"] {
+        assert_eq!(cause(text), Cause::Graph6Size);
+    }
+    let refusal = graph6_write(&[0, 1, 0, 1], 4, &mut [0; 8]).unwrap_err();
+    assert_eq!(refusal.cause, Cause::BadEdgeList);
+    assert_eq!(refusal.places, (1, 0));
+    let refusal = graph6_write(&[], 201, &mut [0; 8]).unwrap_err();
+    assert_eq!(refusal.cause, Cause::BadEdgeList);
+    assert_eq!(refusal.places, (0, 0));
+}
+
 #[test]
 fn figures_checked_by_hand() {
     type Case = (&'static [(u8, u8, u16)], u64, (u64, u64));
@@ -343,5 +403,5 @@ fn every_cause_reads_well() {
         assert!(cause.to_string().len() > 10);
     }
     assert_eq!(Cause::from_number(0), None);
-    assert_eq!(Cause::from_number(21), None);
+    assert_eq!(Cause::from_number(23), None);
 }

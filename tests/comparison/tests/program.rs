@@ -1,11 +1,16 @@
-//! The program `replica`: its output for many inputs, byte by byte.
+//! The program `replica`: its output for many inputs, byte by byte, as a list and as graph6, and its
+//! answer to arguments it has not.
 
 use comparison::blocks::{self, Size};
 use comparison::program::{ended, program};
-use reference::program::output;
+use reference::graph6;
+use reference::graphs::{pairs, Graph};
+use reference::program::{graph6_output, output};
 use reference::random::Random;
+use std::ffi::OsStr;
 use std::io::Write;
-use std::process::{ChildStdin, Stdio};
+use std::os::unix::ffi::OsStrExt;
+use std::process::{ChildStdin, Output, Stdio};
 use std::thread::sleep;
 use std::time::Duration;
 
@@ -16,9 +21,14 @@ const DOCUMENT_01_OUTPUT: &str = "boards 4 links 4 switches 0\n0 3\n1 2\n1 3\n2 
 /// A pause in which a program that does not wait for the rest of its input goes on without it.
 const PAUSE: Duration = Duration::from_millis(200);
 
+/// What the program prints on standard error for other arguments than the option, or more.
+const USAGE: &str = "usage: replica [--graph6] < records\n";
+const GRAPH6: &str = "--graph6";
+
 /// Runs the program; `feed` writes its input, which ends then. What it prints fits into a pipe.
-fn run_fed(feed: impl FnOnce(&mut ChildStdin)) -> String {
+fn output_of<A: AsRef<OsStr>>(arguments: &[A], feed: impl FnOnce(&mut ChildStdin)) -> Output {
     let mut child = program()
+        .args(arguments)
         .stdin(Stdio::piped())
         .stdout(Stdio::piped())
         .stderr(Stdio::piped())
@@ -27,20 +37,41 @@ fn run_fed(feed: impl FnOnce(&mut ChildStdin)) -> String {
     let mut input = child.stdin.take().expect("a pipe");
     feed(&mut input);
     drop(input);
-    let output = ended(child);
+    ended(child)
+}
+
+/// What it prints where nothing is wrong with the arguments.
+fn run_fed(arguments: &[&str], feed: impl FnOnce(&mut ChildStdin)) -> String {
+    let output = output_of(arguments, feed);
     assert!(output.status.success(), "{}", output.status);
     assert_eq!(String::from_utf8_lossy(&output.stderr), "");
     String::from_utf8(output.stdout).expect("text")
 }
 
+/// The program may stop reading at a refusal; that is no error here.
+fn feed_all(input: &[u8]) -> impl FnOnce(&mut ChildStdin) + '_ {
+    |pipe| drop(pipe.write_all(input))
+}
+
 fn run(input: &[u8]) -> String {
-    // The program may stop reading at a refusal; that is no error here.
-    run_fed(|pipe| drop(pipe.write_all(input)))
+    run_fed(&[], feed_all(input))
+}
+
+fn run_graph6(input: &[u8]) -> String {
+    run_fed(&[GRAPH6], feed_all(input))
 }
 
 /// The pieces arrive one by one, with a pause after each.
-fn run_in_pieces<'a>(mut pieces: impl Iterator<Item = &'a [u8]>, pause: Duration) -> String {
-    run_fed(|pipe| {
+fn run_in_pieces<'a>(pieces: impl Iterator<Item = &'a [u8]>, pause: Duration) -> String {
+    run_with_in_pieces(&[], pieces, pause)
+}
+
+fn run_with_in_pieces<'a>(
+    arguments: &[&str],
+    mut pieces: impl Iterator<Item = &'a [u8]>,
+    pause: Duration,
+) -> String {
+    run_fed(arguments, |pipe| {
         let mut write = |piece| pipe.write_all(piece).and_then(|()| pipe.flush());
         while pieces.next().is_some_and(|piece| write(piece).is_ok()) {
             sleep(pause);
@@ -114,20 +145,128 @@ fn isolated_vertices() {
     }
 }
 
+/// Inputs of any tables, some of them spoiled.
+fn any_inputs(count: usize, size: Size, seed: u64) -> Vec<Vec<u8>> {
+    let mut random = Random::new(seed);
+    let mut any = || {
+        let input = blocks::plan(size, &mut random).concat();
+        match random.chance(20) {
+            true => blocks::spoil(&input, &mut random),
+            false => input,
+        }
+    };
+    (0..count).map(|_| any()).collect()
+}
+
 #[test]
 fn the_program_prints_what_the_reference_prints() {
-    let mut inputs = fixed_inputs();
-    let mut random = Random::new(5);
-    for _ in 0..150 {
-        let mut input = blocks::plan(Size::Medium, &mut random).concat();
-        if random.chance(20) {
-            input = blocks::spoil(&input, &mut random);
-        }
-        inputs.push(input);
-    }
-    for input in inputs {
+    for input in [fixed_inputs(), any_inputs(150, Size::Medium, 5)].concat() {
         assert_eq!(run(&input), output(&input), "input {input:?}");
     }
+}
+
+/// The line of graph6 for what is printed without the option; a refusal is the same line.
+fn as_graph6(printed: &str) -> String {
+    let mut lines = printed.lines();
+    let first: Vec<&str> = lines.next().expect("a line").split(' ').collect();
+    if first[0] == "refused" {
+        return printed.to_string();
+    }
+    let number = |word: &str| word.parse::<usize>().expect("a number");
+    let mut graph = Graph::new(number(first[1]));
+    for line in lines {
+        let (v, w) = line.split_once(' ').expect("two vertices");
+        graph.join(number(v), number(w));
+    }
+    let text = String::from_utf8(graph6::text(&graph)).expect("text");
+    text + "\n"
+}
+
+/// With the option, the graph that is listed without it is one line, and nothing else is printed.
+#[test]
+fn graph6_of_what_is_listed() {
+    let inputs = [
+        fixed_inputs(),
+        any_inputs(60, Size::Medium, 7),
+        any_inputs(15, Size::Large, 8),
+    ];
+    let (mut refused, mut long) = (0, 0);
+    for input in inputs.concat() {
+        let printed = run_graph6(&input);
+        assert_eq!(printed, as_graph6(&run(&input)), "input {input:?}");
+        assert_eq!(printed, graph6_output(&input), "input {input:?}");
+        assert_eq!(printed.find('\n'), Some(printed.len() - 1));
+        refused += usize::from(printed.starts_with("refused "));
+        long += usize::from(printed.starts_with('~'));
+    }
+    assert!(refused > 10 && long > 10, "{refused} refused, {long} long");
+}
+
+/// What some inputs print as graph6, written down here.
+#[test]
+fn graph6_lines() {
+    let cases: [(&[u8], &str); 8] = [
+        (&DOCUMENT_01, "CN\n"),
+        (&[], "?\n"),
+        (&[0, 0, 1, 0], "@\n"),
+        (&[0, 0, 2, 0, 1, 1, 2, 0], "C@\n"),
+        (&[2, 2, 6, 0], "Bw\n"),
+        (&[2, 2, 4, 0], "refused 11 2 2\n"),
+        (&[0, 0, 201, 0], "refused 12 0 0\n"),
+        (&[1, 1, 2], "refused 4 0 0\n"),
+    ];
+    for (input, expected) in cases {
+        assert_eq!(run_graph6(input), expected, "{input:?}");
+    }
+    let pieces = DOCUMENT_01.chunks(5);
+    assert_eq!(run_with_in_pieces(&[GRAPH6], pieces, PAUSE / 10), "CN\n");
+    for (vertices, size) in [(62, "}"), (63, "~??~"), (200, "~?BG")] {
+        let line = run_graph6(&[0, 0, vertices as u8, 0]);
+        let body = "?".repeat(pairs(vertices).div_ceil(6));
+        assert_eq!(line, format!("{size}{body}\n"));
+    }
+}
+
+/// Any other argument, and more than one: nothing on standard output, whatever the input.
+#[test]
+fn wrong_arguments() {
+    let long = "-".repeat(100_000);
+    let many = [GRAPH6; 200];
+    let wrong: [&[&str]; 20] = [
+        &[""],
+        &["-"],
+        &["--"],
+        &["--graph"],
+        &["--graph5"],
+        &["--graph66"],
+        &["--graph6 "],
+        &[" --graph6"],
+        &["--graph6=1"],
+        &["--Graph6"],
+        &["-graph6"],
+        &["graph6"],
+        &["-h"],
+        &["--help"],
+        &[&long],
+        &[GRAPH6, GRAPH6],
+        &[GRAPH6, ""],
+        &["", GRAPH6],
+        &[GRAPH6, "--help"],
+        &many,
+    ];
+    for arguments in wrong {
+        for input in [&[][..], &DOCUMENT_01, &[9]] {
+            assert_usage(&output_of(arguments, feed_all(input)));
+        }
+    }
+    let no_text = OsStr::from_bytes(b"--graph6\xff");
+    assert_usage(&output_of(&[no_text], feed_all(&DOCUMENT_01)));
+}
+
+fn assert_usage(output: &Output) {
+    assert_eq!(String::from_utf8_lossy(&output.stdout), "");
+    assert_eq!(String::from_utf8_lossy(&output.stderr), USAGE);
+    assert!(output.status.code().is_some(), "{}", output.status);
 }
 
 /// A read gives what has arrived, which need not be all.

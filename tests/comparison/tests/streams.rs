@@ -13,10 +13,14 @@ fn one_line(bytes: &[u8]) {
     assert!(!said.is_empty() && !said.contains('\n'), "{text:?}");
 }
 
+/// Without the option and with it.
+const ARGUMENTS: [&[&str]; 2] = [&[], &["--graph6"]];
+
 /// Every write to standard output fails.
-fn on_a_full_device(input: &[u8]) -> Output {
+fn on_a_full_device(arguments: &[&str], input: &[u8]) -> Output {
     let full = OpenOptions::new().write(true).open("/dev/full");
     let mut child = program()
+        .args(arguments)
         .stdin(Stdio::piped())
         .stdout(full.expect("a device that is full"))
         .stderr(Stdio::piped())
@@ -30,21 +34,26 @@ fn on_a_full_device(input: &[u8]) -> Output {
 fn an_output_that_cannot_be_written() {
     // No edge, one edge, as many as there can be, and a refusal.
     let inputs: [&[u8]; 4] = [&[], &[1, 1, 2, 0], &[40, 40, 64, 31], &[2, 2, 5, 0]];
-    for input in inputs {
-        one_line(&on_a_full_device(input).stderr);
+    for arguments in ARGUMENTS {
+        for input in inputs {
+            one_line(&on_a_full_device(arguments, input).stderr);
+        }
     }
 }
 
 #[test]
 fn an_input_that_cannot_be_read() {
-    let folder = File::open(env!("CARGO_MANIFEST_DIR")).expect("a folder");
-    let child = program()
-        .stdin(folder)
-        .stdout(Stdio::piped())
-        .stderr(Stdio::piped())
-        .spawn()
-        .expect("the program starts");
-    let output = ended(child);
-    assert_eq!(String::from_utf8_lossy(&output.stdout), "");
-    one_line(&output.stderr);
+    for arguments in ARGUMENTS {
+        let folder = File::open(env!("CARGO_MANIFEST_DIR")).expect("a folder");
+        let child = program()
+            .args(arguments)
+            .stdin(folder)
+            .stdout(Stdio::piped())
+            .stderr(Stdio::piped())
+            .spawn()
+            .expect("the program starts");
+        let output = ended(child);
+        assert_eq!(String::from_utf8_lossy(&output.stdout), "");
+        one_line(&output.stderr);
+    }
 }
