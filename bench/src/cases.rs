@@ -4,7 +4,7 @@ use comparison::call::{room, Call, Entry, Memory};
 use reference::graphs::{self, Graph};
 use reference::journal::{self, record, LAID, TAKING};
 use reference::random::Random;
-use reference::{adjacency, Matrix, Table};
+use reference::{adjacency, graph6, Matrix, Table};
 use reference::{ADJACENCY_LENGTH, BLOCK_LENGTH, JOURNAL_LENGTH, MOST_BLOCKS};
 
 const SIZES: [usize; 4] = [25, 50, 100, 200];
@@ -61,6 +61,11 @@ pub fn all() -> Vec<Case> {
     for size in SIZES {
         cases.extend(reports(size));
     }
+    for size in SIZES {
+        cases.extend(exchanges(&format!("regular-{size}"), &regular(size)));
+    }
+    let uniform = graphs::uniform(200, 4_000, &mut Random::new(4));
+    cases.extend(exchanges("uniform-200", &uniform));
     cases.extend(half_isolated());
     cases.push(case(
         "any",
@@ -268,6 +273,21 @@ fn layings_out(size: usize) -> Vec<Case> {
         cases.push(lay("64-blocks", &all_records(&cells(size).matrix())));
     }
     cases
+}
+
+/// Out as graph6 and in again, with just the room that either needs. No state is lent.
+fn exchanges(name: &str, graph: &Graph) -> [Case; 2] {
+    let (edges, text) = (graph.edge_list(), graph6::text(graph));
+    let read = Call::Graph6Read {
+        text: text.clone(),
+        output: vec![0; edges.len()],
+    };
+    let write = Call::Graph6Write {
+        edges,
+        total: graph.vertices() as u64,
+        output: vec![0; text.len()],
+    };
+    [write, read].map(|call| case(name, call, Vec::new(), Vec::new()))
 }
 
 /// A regular graph on 100 vertices beside 100 isolated ones.

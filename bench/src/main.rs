@@ -58,16 +58,18 @@ fn once(call: &Call, memory: &mut Memory) -> Numbers {
     )
 }
 
-/// The call on the twin, which has three of the entries.
+/// The call on the twin, which has five of the entries.
 fn on_twin(call: &Call, memory: &mut Memory) -> Option<Numbers> {
     let (journal, adjacency) = (&memory.journal, &mut memory.adjacency);
+    let (input, output) = (&memory.input, &mut memory.output);
     Some(match *call {
         Call::AddEdge { v, w } => Numbers::Nine(twin::twin_add_edge(journal, adjacency, v, w)),
         Call::RemoveEdge { v, w } => Numbers::Six(twin::twin_remove_edge(journal, adjacency, v, w)),
-        Call::Complete { .. } => {
-            let output = &mut memory.output;
-            Numbers::Six(twin::twin_complete(journal, adjacency, output))
+        Call::Complete { .. } => Numbers::Six(twin::twin_complete(journal, adjacency, output)),
+        Call::Graph6Write { total, .. } => {
+            Numbers::Six(twin::twin_graph6_write(input, total, output))
         }
+        Call::Graph6Read { .. } => Numbers::Six(twin::twin_graph6_read(input, output)),
         _ => return None,
     })
 }
@@ -103,9 +105,10 @@ fn call_once(
 mod tests {
     use super::*;
     use comparison::call::{any_output, room};
+    use comparison::{edge_lists, exchange};
     use reference::journal::LAID;
     use reference::random::Random;
-    use reference::{adjacency, graphs};
+    use reference::{adjacency, graph6, graphs};
     use std::collections::BTreeSet;
 
     /// The twin answers as the library does and leaves the same bytes.
@@ -177,5 +180,36 @@ mod tests {
         }
         let refusals = [1, 2, 3, 13, 14, 15, 16, 17, 18];
         assert!([0].iter().chain(&refusals).eq(&answered), "{answered:?}");
+    }
+
+    /// Random graphs as graph6, whole and spoiled, with room or without: every answer is reached.
+    #[test]
+    fn the_twin_on_random_graphs() {
+        let mut random = Random::new(9);
+        let mut answered = BTreeSet::new();
+        for number in 0..3_000 {
+            let most = *random.pick(&[5, 70, 70, 200]);
+            let graph = exchange::any_graph(most, &mut random);
+            let (mut edges, mut text) = (graph.edge_list(), graph6::text(&graph));
+            let mut total = graph.vertices() as u64;
+            let (listed, written) = (edges.len(), text.len());
+            if random.chance(60) {
+                edge_lists::spoil(&mut edges, &mut random);
+                text = exchange::spoil(&text, &mut random);
+                total += *random.pick(&[0, 0, 1, 200]);
+            }
+            let output = any_output(written, &mut random);
+            let write = Call::Graph6Write {
+                edges,
+                total,
+                output,
+            };
+            let output = any_output(listed, &mut random);
+            for call in [write, Call::Graph6Read { text, output }] {
+                let memory = Memory::of(&[], &[], &call);
+                answered.extend(compare(&call, memory, &format!("graph {number}, {call:?}")));
+            }
+        }
+        assert!([0, 18, 19, 21, 22].iter().eq(&answered), "{answered:?}");
     }
 }

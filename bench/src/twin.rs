@@ -1,6 +1,7 @@
-//! add_edge, remove_edge and complete written by hand to be fast, to hold the library's instructions
-//! against. It makes the library's savings (docs/DECISIONS.md 17 and 21), and what the check of a
-//! state has counted is handed on. Answers are the numbers of the C interface.
+//! add_edge, remove_edge, complete, graph6_write and graph6_read written by hand to be fast, to
+//! hold the library's instructions against. It makes the library's savings (docs/DECISIONS.md 17
+//! and 21), and what the check of a state has counted is handed on. Answers are the numbers of the
+//! C interface.
 
 use reference::join_record::{self, UNUSED};
 use reference::numbers::{refusal, Nine, Six};
@@ -384,7 +385,129 @@ fn fill(journal: &[u8], adjacency: &mut [u8], output: &mut [u8]) -> Result<Six, 
     Ok([0, missing as u64, switches, written as u64, 0, 0])
 }
 
-// Callgrind finds these three by their names.
+/// Most pairs of vertices.
+const MOST_PAIRS: usize = SIDE * (SIDE - 1) / 2;
+
+/// Of a graph6 text: the place of pair (0, w) among all pairs. Pair (v, w) is v places behind.
+const COLUMN_STARTS: [u16; SIDE] = {
+    let mut starts = [0; SIDE];
+    let mut w = 1;
+    while w < SIDE {
+        starts[w] = (w * (w - 1) / 2) as u16;
+        w += 1;
+    }
+    starts
+};
+
+/// Check 19: the edges of a well-formed list. As numbers of 16 bits, high byte first, they ascend.
+fn edges_of(list: &[u8], total: u64) -> Result<&[[u8; 2]], Refused> {
+    if total > SIDE as u64 {
+        return Err(refused(19));
+    }
+    let (edges, odd) = list.as_chunks();
+    if !odd.is_empty() {
+        return Err(refused_at(19, edges.len() as u64, 0));
+    }
+    // No edge is 0: v is below w.
+    let mut before = 0;
+    for (index, &[v, w]) in edges.iter().enumerate() {
+        let edge = u16::from_be_bytes([v, w]);
+        if v >= w || u64::from(w) >= total || edge <= before {
+            return Err(refused_at(19, index as u64, 0));
+        }
+        before = edge;
+    }
+    Ok(edges)
+}
+
+/// A body of no edges, to which each edge adds its bit.
+fn write_graph6(list: &[u8], total: u64, output: &mut [u8]) -> Result<Six, Refused> {
+    let edges = edges_of(list, total)?;
+    let n = total as usize;
+    let size = if n <= 62 { 1 } else { 4 };
+    let length = size + (n * n.saturating_sub(1) / 2).div_ceil(6);
+    let text = output.get_mut(..length).ok_or(refused(18))?;
+    let (head, body) = text.split_at_mut(size);
+    match head {
+        [byte] => *byte = 63 + n as u8,
+        _ => head.copy_from_slice(&[126, 63, 63 + (n >> 6) as u8, 63 + (n & 63) as u8]),
+    }
+    body.fill(63);
+    for &[v, w] in edges {
+        let place = COLUMN_STARTS[w as usize] + u16::from(v);
+        body[place as usize / 6] += 32 >> (place % 6);
+    }
+    Ok([0, length as u64, 0, 0, 0, 0])
+}
+
+/// The size of a text and the bytes behind it, if the size is a good one.
+fn size_of(text: &[u8]) -> Result<(usize, &[u8]), Refused> {
+    let six = |byte: u8| usize::from(byte - 63);
+    match *text {
+        [n @ 63..=125, ref body @ ..] => Ok((six(n), body)),
+        [126, 126, ..] => Err(refused(22)),
+        [126, a @ 63..=125, b @ 63..=126, c @ 63..=126, ref body @ ..] => {
+            match six(a) << 12 | six(b) << 6 | six(c) {
+                0..=62 => Err(refused(21)),
+                n @ 63..=SIDE => Ok((n, body)),
+                _ => Err(refused(22)),
+            }
+        }
+        _ => Err(refused(21)),
+    }
+}
+
+/// Spreads the bits of a body, one byte each. False where a byte is no graph6.
+fn spread(body: &[u8], bits: &mut [[u8; 6]]) -> bool {
+    for (&byte, six) in body.iter().zip(bits) {
+        let n = byte.wrapping_sub(63);
+        if n > 63 {
+            return false;
+        }
+        *six = [
+            n >> 5,
+            n >> 4 & 1,
+            n >> 3 & 1,
+            n >> 2 & 1,
+            n >> 1 & 1,
+            n & 1,
+        ];
+    }
+    true
+}
+
+/// One byte a pair, column by column, and then row by row: pair (v, w + 1) is w places behind (v,
+/// w).
+fn read_graph6(text: &[u8], output: &mut [u8]) -> Result<Six, Refused> {
+    let (n, body) = size_of(text)?;
+    let pairs = n * n.saturating_sub(1) / 2;
+    if body.len() != pairs.div_ceil(6) {
+        return Err(refused(21));
+    }
+    let mut sixes = [[0; 6]; MOST_PAIRS.div_ceil(6)];
+    let well_formed = spread(body, &mut sixes);
+    let (bits, padding) = sixes.as_flattened().split_at(pairs);
+    if !well_formed || !all_zero(padding) {
+        return Err(refused(21));
+    }
+    let edges: u16 = bits.iter().map(|&bit| u16::from(bit)).sum();
+    let edges = usize::from(edges);
+    let list = output.get_mut(..2 * edges).ok_or(refused(18))?;
+    let mut list = list.as_chunks_mut().0.iter_mut();
+    for v in 0..n.saturating_sub(1) {
+        let mut place = COLUMN_STARTS[v + 1] as usize + v;
+        for w in v + 1..n {
+            if bits[place] != 0 {
+                let edge = list.next().expect("as many as were counted");
+                *edge = [v as u8, w as u8];
+            }
+            place += w;
+        }
+    }
+    Ok([0, 2 * edges as u64, n as u64, 0, 0, 0])
+}
+
+// Callgrind finds these by their names.
 
 #[no_mangle]
 #[inline(never)]
@@ -402,4 +525,16 @@ pub fn twin_remove_edge(journal: &[u8], adjacency: &mut [u8], v: u64, w: u64) ->
 #[inline(never)]
 pub fn twin_complete(journal: &[u8], adjacency: &mut [u8], output: &mut [u8]) -> Six {
     fill(journal, adjacency, output).unwrap_or_else(refusal)
+}
+
+#[no_mangle]
+#[inline(never)]
+pub fn twin_graph6_write(edges: &[u8], total: u64, output: &mut [u8]) -> Six {
+    write_graph6(edges, total, output).unwrap_or_else(refusal)
+}
+
+#[no_mangle]
+#[inline(never)]
+pub fn twin_graph6_read(text: &[u8], output: &mut [u8]) -> Six {
+    read_graph6(text, output).unwrap_or_else(refusal)
 }
