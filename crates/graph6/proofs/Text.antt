@@ -161,63 +161,6 @@ framed-small t f = go (ℕ-discrete (getD t 0 0) mostByte) (f .few) (f .whole)
         rw (e, ne-eqb (getD t 1 0) mostByte (λ q. absurd (omega (arith, q, size))), le-ltb mostVertices (longSize t) size)
         (and-false (upTo 125 (getD t 1 0) && upTo mostByte (getD t 2 0) && upTo mostByte (getD t 3 0)))
 
--- The text of a graph.
-module _ (n : ℕ) (E : Graph) (few : n ≤ mostVertices) (simple : Simple n E) where
-  sized : Sized n (graph6Text n E) (packed (triangle n E))
-  sized = size-written n few (packed (triangle n E))
-
-  -- its bits are those of the graph
-  text-bits : (q : ℕ) → getD (bodyBits (graph6Text n E)) q 0 ≡ getD (triangle n E) q 0
-  text-bits q =
-      ap (λ (b : List ℕ). getD (unpacked b) q 0) (sized .behind) ∙ packed-unpacked (triangle n E) (triangle-binary E n simple) q
-
-  pub text-bit : (v w : ℕ) → v < w → w < n → bitOf (graph6Text n E) v w ≡ E v w
-  text-bit v w h l = text-bits (columnStart w + v) ∙ triangle-at E n v w h l
-
-  pub text-size : sizeOf (graph6Text n E) ≡ n
-  text-size = sized .said
-
-  pub text-length : length (graph6Text n E) ≡ length (sizeBytes n) + bodyLength n
-  text-length = length-append (sizeBytes n) (packed (triangle n E)) ∙ ap (λ (m : ℕ). length (sizeBytes n) + m) (packed-length (triangle n E) ∙ ap (λ (m : ℕ). (m + 5) / 6) (triangle-length E n))
-
-  pub text-most : length (graph6Text n E) ≤ 3321
-  text-most = omega (arith, text-length, columns-most n few, size-most (leb n shortMost))
-    where
-      size-most : (b : Bool)
-          → length (cond b ((n + plus) ∷ []) (mostByte ∷ (n / 4096 + plus) ∷ (n / 64 % 64 + plus) ∷ (n % 64 + plus) ∷ [])) ≤ 4
-      size-most true = omega arith
-      size-most false = omega arith
-
-  pub text-well-formed : wellFormed (graph6Text n E) ≡ true
-  text-well-formed =
-      and-both (framed (graph6Text n E)) (zeroPadded (graph6Text n E)) (framed-holds (graph6Text n E) frame)
-      (zeros-all-zero (drop (columnStart (sizeOf (graph6Text n E))) (bodyBits (graph6Text n E)))
-      (λ i l. getD-drop (columnStart (sizeOf (graph6Text n E))) (bodyBits (graph6Text n E)) i 0 ∙ text-bits _ ∙ padding i))
-    where
-      padding : (i : ℕ) → getD (triangle n E) (columnStart (sizeOf (graph6Text n E)) + i) 0 ≡ 0
-      padding i = triangle-past E n _ (omega (arith, ap columnStart text-size))
-
-      body : (i : ℕ) → i < length (graph6Text n E) → Dec (i < sizeLength (graph6Text n E)) → (plus ≤ getD (graph6Text n E) i 0) × (getD (graph6Text n E) i 0 ≤ mostByte)
-      body i l (yes h) = (sized .low i h, sized .high i h)
-      body i l (no h) =
-          let k = i - sizeLength (graph6Text n E) in
-          let e : i ≡ sizeLength (graph6Text n E) + k = omega arith in
-          let here = ap (λ (j : ℕ). getD (graph6Text n E) j 0) e
-          ∙ sym (getD-drop (sizeLength (graph6Text n E)) (graph6Text n E) k 0)
-          ∙ ap (λ (b : List ℕ). getD b k 0) (sized .behind) in
-          rw here (packed-bytes (triangle n E) (triangle-binary E n simple) k (omega (arith, sized .together)))
-
-      frame : Framed (graph6Text n E)
-      frame =
-          record {
-            low = λ i l. body i l (decLt i (sizeLength (graph6Text n E))) .0;
-            high = λ i l. body i l (decLt i (sizeLength (graph6Text n E))) .1;
-            few = rw text-size few;
-            needed = sized .needed;
-            whole = sized .together ∙ ap (λ (m : ℕ). sizeLength (graph6Text n E) + m)
-                (packed-length (triangle n E) ∙ ap (λ (m : ℕ). (m + 5) / 6) (triangle-length E n ∙ ap columnStart (sym text-size)));
-          }
-
 -- The graph of a text.
 module _ (t : List ℕ) where
   pub graph-up : (v w : ℕ) → v < w → textGraph t v w ≡ bitOf t v w
@@ -297,6 +240,63 @@ module _ (t : List ℕ) where
 
         body : packed x ≡ b
         body = ext-getD 0 (packed x) b size at
+
+-- The text of a graph.
+module _ (n : ℕ) (E : Graph) (few : n ≤ mostVertices) (simple : Simple n E) where
+  sized : Sized n (graph6Text n E) (packed (triangle n E))
+  sized = size-written n few (packed (triangle n E))
+
+  -- its bits are those of the graph
+  text-bits : (q : ℕ) → getD (bodyBits (graph6Text n E)) q 0 ≡ getD (triangle n E) q 0
+  text-bits q =
+      ap (λ (b : List ℕ). getD (unpacked b) q 0) (sized .behind) ∙ packed-unpacked (triangle n E) (triangle-binary E n simple) q
+
+  pub text-bit : (v w : ℕ) → v < w → w < n → bitOf (graph6Text n E) v w ≡ E v w
+  text-bit v w h l = text-bits (columnStart w + v) ∙ triangle-at E n v w h l
+
+  pub text-size : sizeOf (graph6Text n E) ≡ n
+  text-size = sized .said
+
+  pub text-length : length (graph6Text n E) ≡ length (sizeBytes n) + bodyLength n
+  text-length = length-append (sizeBytes n) (packed (triangle n E)) ∙ ap (λ (m : ℕ). length (sizeBytes n) + m) (packed-length (triangle n E) ∙ ap (λ (m : ℕ). (m + 5) / 6) (triangle-length E n))
+
+  pub text-most : length (graph6Text n E) ≤ 3321
+  text-most = omega (arith, text-length, columns-most n few, size-most (leb n shortMost))
+    where
+      size-most : (b : Bool)
+          → length (cond b ((n + plus) ∷ []) (mostByte ∷ (n / 4096 + plus) ∷ (n / 64 % 64 + plus) ∷ (n % 64 + plus) ∷ [])) ≤ 4
+      size-most true = omega arith
+      size-most false = omega arith
+
+  pub text-well-formed : wellFormed (graph6Text n E) ≡ true
+  text-well-formed =
+      and-both (framed (graph6Text n E)) (zeroPadded (graph6Text n E)) (framed-holds (graph6Text n E) frame)
+      (zeros-all-zero (drop (columnStart (sizeOf (graph6Text n E))) (bodyBits (graph6Text n E)))
+      (λ i l. getD-drop (columnStart (sizeOf (graph6Text n E))) (bodyBits (graph6Text n E)) i 0 ∙ text-bits _ ∙ padding i))
+    where
+      padding : (i : ℕ) → getD (triangle n E) (columnStart (sizeOf (graph6Text n E)) + i) 0 ≡ 0
+      padding i = triangle-past E n _ (omega (arith, ap columnStart text-size))
+
+      body : (i : ℕ) → i < length (graph6Text n E) → Dec (i < sizeLength (graph6Text n E)) → (plus ≤ getD (graph6Text n E) i 0) × (getD (graph6Text n E) i 0 ≤ mostByte)
+      body i l (yes h) = (sized .low i h, sized .high i h)
+      body i l (no h) =
+          let k = i - sizeLength (graph6Text n E) in
+          let e : i ≡ sizeLength (graph6Text n E) + k = omega arith in
+          let here = ap (λ (j : ℕ). getD (graph6Text n E) j 0) e
+          ∙ sym (getD-drop (sizeLength (graph6Text n E)) (graph6Text n E) k 0)
+          ∙ ap (λ (b : List ℕ). getD b k 0) (sized .behind) in
+          rw here (packed-bytes (triangle n E) (triangle-binary E n simple) k (omega (arith, sized .together)))
+
+      frame : Framed (graph6Text n E)
+      frame =
+          record {
+            low = λ i l. body i l (decLt i (sizeLength (graph6Text n E))) .0;
+            high = λ i l. body i l (decLt i (sizeLength (graph6Text n E))) .1;
+            few = rw text-size few;
+            needed = sized .needed;
+            whole = sized .together ∙ ap (λ (m : ℕ). sizeLength (graph6Text n E) + m)
+                (packed-length (triangle n E) ∙ ap (λ (m : ℕ). (m + 5) / 6) (triangle-length E n ∙ ap columnStart (sym text-size)));
+          }
 
 -- graphs with the same edges have the same text
 pub text-cong : (n : ℕ) (E E′ : Graph) → SameOn n E E′ → graph6Text n E′ ≡ graph6Text n E

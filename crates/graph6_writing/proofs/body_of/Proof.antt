@@ -30,18 +30,22 @@ body-of-spec =
     (λ c κs. tt)  -- wide-requires-2
     (λ c.
     let w = c .before in
-    let t = w .before .before .before .before in
+    let v = w .before .before in
+    let t = v .before .before in
     let l = t .before in
     let s = l .before .before in
     let p = verdict-passed (s .args .edges .now) (s .args .total) (s .pre) in
-    omega (arith, w .wide2 .ensures .0, good (s .args .edges .now) (s .args .total) (p .well) (l .loop .i) (t .loop-test .taken) .vertex, p .few))  -- mul-wide16
+    let g = good (s .args .edges .now) (s .args .total) (p .well) (l .loop .i) (t .loop-test .taken) in
+    omega (arith, w .wide2 .ensures .0, v .wide .ensures .0, g .ordered, g .vertex, p .few))  -- mul-wide16
     (λ c.
     let w = c .before in
-    let t = w .before .before .before .before in
+    let v = w .before .before in
+    let t = v .before .before in
     let l = t .before in
     let s = l .before .before in
     let p = verdict-passed (s .args .edges .now) (s .args .total) (s .pre) in
-    omega (arith, w .wide2 .ensures .0, good (s .args .edges .now) (s .args .total) (p .well) (l .loop .i) (t .loop-test .taken) .vertex, p .few))  -- array-read-wide16
+    let g = good (s .args .edges .now) (s .args .total) (p .well) (l .loop .i) (t .loop-test .taken) in
+    omega (arith, w .wide2 .ensures .0, v .wide .ensures .0, g .ordered, g .vertex, p .few))  -- array-read-wide16
     (λ c κs. tt)  -- wide16-requires
     (λ c. omega arith)  -- add-add-bit
     (λ c κs.
