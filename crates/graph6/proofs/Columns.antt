@@ -8,13 +8,13 @@ use native.Mathlib.Omega.{arith}
 use Rattle.finite.specs.Range.{sumTo}
 use Rattle.finite.proofs.Sum.{sumTo-split}
 use Rattle.layout.specs.Layout.{mostVertices}
-use Rattle.graph6.specs.Format.{columnStart}
+use Rattle.graph6.specs.Format.{columnStart, mostBits}
 
 pub columns-none : columnStart 0 ≡ 0
 unfolding columnStart
 columns-none = refl
 
-columns-last : columnStart mostVertices ≡ 19900
+columns-last : columnStart mostVertices ≡ mostBits
 unfolding columnStart
 columns-last = refl
 
@@ -68,5 +68,5 @@ columns-sum f zero = ap (λ (n : ℕ). sumTo n f) columns-none
 columns-sum f (suc n) = rw (columns-next n) (sumTo-split (columnStart n) n f ∙ ap (λ (s : ℕ). s + sumTo n (λ v. f (columnStart n + v))) (columns-sum f n))
 
 -- of up to 200 vertices there are at most 19,900
-pub columns-most : (n : ℕ) → n ≤ mostVertices → columnStart n ≤ 19900
+pub columns-most : (n : ℕ) → n ≤ mostVertices → columnStart n ≤ mostBits
 columns-most n h = omega (arith, columns-mono n mostVertices h, columns-last)

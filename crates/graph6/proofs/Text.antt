@@ -15,7 +15,7 @@ use Rattle.finite.proofs.All.{and-left, and-right, and-both, and-false, allTo-a
 use Rattle.graph.specs.Graph.{Graph, Simple, SameOn}
 use Rattle.slices.proofs.Zero.{all-zero-at, zeros-all-zero}
 use Rattle.layout.specs.Layout.{mostVertices}
-use Rattle.graph6.specs.Format.{plus, mostByte, shortMost, sizeBytes, triangle, packed, graph6Text, columnStart, bodyLength, isLong, sizeLength, longSize, sizeOf, upTo, tooLarge, unpacked, bodyBits, framed, zeroPadded, wellFormed, bitOf, textGraph}
+use Rattle.graph6.specs.Format.{plus, mostByte, shortMost, sizeBytes, triangle, packed, graph6Text, columnStart, bodyLength, bodyMost, isLong, sizeLength, longSize, sizeOf, upTo, tooLarge, unpacked, bodyBits, framed, zeroPadded, wellFormed, bitOf, textGraph}
 use Rattle.graph6.proofs.Columns.{columns-most, place-of}
 use Rattle.graph6.proofs.Bits.{triangle-length, triangle-at, triangle-past, triangle-binary, triangle-cong, packed-length, packed-at, packed-bytes, packed-unpacked, unpacked-binary, unpacked-six}
 
@@ -260,7 +260,7 @@ module _ (n : ℕ) (E : Graph) (few : n ≤ mostVertices) (simple : Simple n E) 
   pub text-length : length (graph6Text n E) ≡ length (sizeBytes n) + bodyLength n
   text-length = length-append (sizeBytes n) (packed (triangle n E)) ∙ ap (λ (m : ℕ). length (sizeBytes n) + m) (packed-length (triangle n E) ∙ ap (λ (m : ℕ). (m + 5) / 6) (triangle-length E n))
 
-  pub text-most : length (graph6Text n E) ≤ 3321
+  pub text-most : length (graph6Text n E) ≤ 4 + bodyMost
   text-most = omega (arith, text-length, columns-most n few, size-most (leb n shortMost))
     where
       size-most : (b : Bool)

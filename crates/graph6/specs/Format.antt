@@ -57,6 +57,13 @@ columnStart w = w * (w - 1) / 2
 abbrev pub bodyLength : ℕ → ℕ
 bodyLength n = (columnStart n + 5) / 6
 
+-- those of 200 vertices, the most
+abbrev pub mostBits : ℕ
+mostBits = 19900
+
+abbrev pub bodyMost : ℕ
+bodyMost = 3317
+
 -- the size that the first bytes say, and how many these are
 abbrev pub isLong : List ℕ → Bool
 isLong t = eqb (getD t 0 0) mostByte

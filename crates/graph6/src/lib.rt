@@ -2,8 +2,9 @@
 ghost use mathlib.Core.Path.{_≡_};
 ghost use Prim.Native.Nat.{_≤_, _<_};
 ghost use Rattle.layout.specs.Layout.{mostVertices};
-ghost use Rattle.graph6.specs.Format.{columnStart, bodyLength};
+ghost use Rattle.graph6.specs.Format.{columnStart, bodyLength, mostBits, bodyMost};
 use crate::column_starts::COLUMN_STARTS;
+use layout::MOST_VERTICES;
 
 pub mod column_starts;
 
@@ -16,8 +17,10 @@ pub const MOST_BYTE: u8 = 126;
 // The largest size of one byte.
 pub const SHORT_MOST: usize = 62;
 
-// The most bytes of a body: six of the 200 × 199 / 2 bits in each.
-pub const BODY_MOST: usize = 3317;
+// The most bits of a triangle, and the bytes that they take.
+const MOST_BITS: usize = MOST_VERTICES * (MOST_VERTICES - 1) / 2;
+
+pub const BODY_MOST: usize = (MOST_BITS + 5) / 6;
 
 // A column's start as a number.
 pub fn wide16(x: u16) -> usize
@@ -29,7 +32,7 @@ pub fn wide16(x: u16) -> usize
 // How many bits the columns of n vertices have.
 pub fn bit_count(n: usize) -> usize
     requires { ⌜ n ≤ mostVertices ⌝ }
-    ensures { λ r. ⌜ (r ≡ columnStart n) × (r ≤ 19900) ⌝ }
+    ensures { λ r. ⌜ (r ≡ columnStart n) × (r ≤ mostBits) ⌝ }
 {
     if n == 0 {
         return 0;
@@ -41,7 +44,7 @@ pub fn bit_count(n: usize) -> usize
 // And how many bytes they take.
 pub fn body_length(n: usize) -> usize
     requires { ⌜ n ≤ mostVertices ⌝ }
-    ensures { λ r. ⌜ (r ≡ bodyLength n) × (r ≤ 3317) ⌝ }
+    ensures { λ r. ⌜ (r ≡ bodyLength n) × (r ≤ bodyMost) ⌝ }
 {
     (bit_count(n) + 5) / 6
 }

@@ -18,11 +18,11 @@ use Rattle.graph.proofs.Edge.{Place, forth, back, elsewhere, place, atEdge-here
 use Rattle.layout.specs.Layout.{mostVertices}
 use Rattle.edgelist.specs.EdgeList.{listed, endV, endW, graphOf}
 use Rattle.edgelist.proofs.List.{Passed, good, list-simple}
-use Rattle.graph6.specs.Format.{plus, triangle, sixBits, packed, columnStart, bodyLength}
+use Rattle.graph6.specs.Format.{plus, triangle, sixBits, packed, columnStart, bodyLength, bodyMost}
 use Rattle.graph6.proofs.Starts.{columnStarts, column-start}
 use Rattle.graph6.proofs.Columns.{columns-most, place-before, place-of, place-same}
 use Rattle.graph6.proofs.Bits.{triangle-length, triangle-at, triangle-past, triangle-binary, packed-length, packed-at}
-use Rattle.graph6_writing.specs.Inner.Body.{bodyMost, weightOf, bitPlace, addBit, bodyTo}
+use Rattle.graph6_writing.specs.Inner.Body.{weightOf, bitPlace, addBit, bodyTo}
 
 -- what a place is worth is what its six bits say
 weight-sum : (r : ℕ) → r < 6 → 32 * δ r 0 + 16 * δ r 1 + 8 * δ r 2 + 4 * δ r 3 + 2 * δ r 4 + δ r 5 ≡ weightOf r

@@ -6,9 +6,9 @@ ghost use lib.Seq.{sets};
 ghost use Rattle.answer.specs.declared.Verdict.the-variants.{Go};
 ghost use Rattle.layout.specs.Layout.{mostVertices};
 ghost use Rattle.edgelist.specs.EdgeList.{listed, listVerdict};
-ghost use Rattle.graph6.specs.Format.{sizeBytes};
+ghost use Rattle.graph6.specs.Format.{plus, bodyMost, sizeBytes};
 ghost use Rattle.graph6_writing.specs.Write.{writeListed, writeAnswer, writeOutput};
-ghost use Rattle.graph6_writing.specs.Inner.Body.{bodyMost, weightOf, addBit, bodyTo};
+ghost use Rattle.graph6_writing.specs.Inner.Body.{weightOf, addBit, bodyTo};
 use answer::Cause;
 use answer::Verdict;
 use answer::WrittenAnswer;
@@ -40,7 +40,7 @@ fn size_length(n: usize) -> usize
 // Six bits as a byte.
 fn printed(x: usize) -> u8
     requires { ⌜ x < 64 ⌝ }
-    ensures { λ r. ⌜ r ≡ x + 63 ⌝ }
+    ensures { λ r. ⌜ r ≡ x + plus ⌝ }
 {
     x as u8 + PLUS
 }

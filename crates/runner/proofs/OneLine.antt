@@ -15,6 +15,7 @@ use Rattle.answer.specs.declared.WrittenAnswer.{WrittenAnswer}
 use Rattle.answer.specs.declared.WrittenAnswer.the-variants.{Written, Refused}
 use Rattle.answer.proofs.Checks.{refused-not-written, written-length}
 use Rattle.edgelist.specs.EdgeList.{listVerdict}
+use Rattle.graph6.specs.Format.{bodyMost}
 use Rattle.graph6_writing.specs.Write.{writeText, writeAnswer, writeOutput}
 use Rattle.text.specs.Text.{newline}
 use Rattle.runner.specs.Program.{textMost}
@@ -32,7 +33,7 @@ module _ (e : List ℕ) (n : ℕ) (out : List ℕ) (passes : listVerdict e n ≡
     size : len ≡ length (writeText e n)
     size = written-length (length (writeText e n)) len (sym answered ∙ sym (h .0) ∙ q)
 
-    pub len-small : len ≤ 3321
+    pub len-small : len ≤ 4 + bodyMost
     len-small = omega (arith, size, text-fits-room e n passes)
 
     pub line-length : len + 1 ≡ length (writeText e n ++ newline)

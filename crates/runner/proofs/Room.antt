@@ -33,6 +33,7 @@ use Rattle.edgelist.specs.EdgeList.{listVerdict, graphOf}
 use Rattle.edgelist.proofs.List.{verdict-passed, list-simple}
 use Rattle.edgelist.proofs.Listing.{list-length}
 use Rattle.edgelist.proofs.Listed.{list-rising, list-passed}
+use Rattle.graph6.specs.Format.{bodyMost}
 use Rattle.graph6.proofs.Text.{text-most}
 use Rattle.graph6_writing.specs.Write.{writeText}
 use Rattle.completion.specs.Complete.{mostEdges, completed, completeAnswer, completeAdjacency}
@@ -54,7 +55,7 @@ count (Written n) = n
 count (WriteRefused r) = 0
 
 -- the graph6 text of a list that passes the checks 19
-pub text-fits-room : (e : List ℕ) (n : ℕ) → listVerdict e n ≡ Go → length (writeText e n) ≤ 3321
+pub text-fits-room : (e : List ℕ) (n : ℕ) → listVerdict e n ≡ Go → length (writeText e n) ≤ 4 + bodyMost
 text-fits-room e n go =
     let p = verdict-passed e n go in
     text-most n (graphOf e) (p .few) (list-simple e n (p .well))

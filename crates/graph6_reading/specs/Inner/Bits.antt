@@ -2,7 +2,7 @@
 -- Assumes nothing.
 use mathlib.Core.Path.{_≡_}
 use mathlib.Core.List.{List}
-use Prim.Native.Nat.{ℕ, _+_, _<_}
+use Prim.Native.Nat.{ℕ, _+_, _*_, _<_}
 use lib.ListN.{getD, replicate}
 use lib.Seq.{sets}
 use Rattle.graph.specs.Graph.{Graph}
@@ -10,12 +10,12 @@ use Rattle.answer.specs.Refusals.{refusal, unless}
 use Rattle.answer.specs.declared.Cause.the-variants.{Graph6Text}
 use Rattle.answer.specs.declared.ReadAnswer.{ReadAnswer}
 use Rattle.answer.specs.declared.ReadAnswer.the-variants.{Refused}
-use Rattle.graph6.specs.Format.{columnStart, bodyBits, zeroPadded}
+use Rattle.graph6.specs.Format.{columnStart, bodyMost, bodyBits, zeroPadded}
 use Rattle.graph6_reading.specs.Read.{readFits}
 
 -- the most bits of a body, the padding among them
 abbrev pub bitsMost : ℕ
-bitsMost = 19902
+bitsMost = 6 * bodyMost
 
 -- the bits of a text, and zeros behind them
 abbrev pub bitsIn : List ℕ → List ℕ

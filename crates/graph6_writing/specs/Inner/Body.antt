@@ -5,11 +5,7 @@ use Prim.Native.Nat.{ℕ, _+_, _/_, _%_}
 use lib.ListN.{getD, set, replicate}
 use Rattle.finite.specs.Range.{foldTo}
 use Rattle.edgelist.specs.EdgeList.{endV, endW}
-use Rattle.graph6.specs.Format.{plus, columnStart}
-
--- the most bytes of a body
-abbrev pub bodyMost : ℕ
-bodyMost = 3317
+use Rattle.graph6.specs.Format.{plus, columnStart, bodyMost}
 
 -- what the bit at each of six places is worth in its byte
 abbrev pub weights : List ℕ
