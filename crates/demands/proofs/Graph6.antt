@@ -176,6 +176,8 @@ same-refusal (Stop s) a b r other h = h
 pub graph6 : Graph6
 graph6 =
     record {
+      text-of-graph = λ n E few s. text-well-formed n E few s;
+      graph-of-text = λ t well. (framed-facts t (and-left (framed t) (zeroPadded t) well) .few, graph-simple t (sizeOf t), text-back t well);
       wrote = λ e total out n h. rw (text-in e total out n h) (wrote-text e total (writes e total (length out) n h .passed));
       was-read = λ t out n total h.
           let r = reads t (length out) n total h in

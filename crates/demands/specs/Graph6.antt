@@ -6,20 +6,21 @@ use mathlib.Core.Bool.{true}
 use mathlib.Core.List.{List}
 use Prim.Native.Nat.{ℕ, _≤_, _<_}
 use lib.ListN.{length, take}
-use Rattle.graph.specs.Graph.{SameOn}
+use Rattle.graph.specs.Graph.{Graph, Simple, SameOn}
 use Rattle.answer.specs.Numbers.{numberOf}
 use Rattle.answer.specs.declared.Refusal.{Refusal}
 use Rattle.answer.specs.declared.Verdict.the-variants.{Go}
 use Rattle.answer.specs.declared.WrittenAnswer.the-variants.{Written, Refused}
 use Rattle.answer.specs.declared.ReadAnswer.the-variants.{Read}
 use Rattle.journal.specs.Journal.{phase}
+use Rattle.layout.specs.Layout.{mostVertices}
 use Rattle.adjacency.specs.Adjacency.{edge}
 use Rattle.state.specs.Valid.{lengthsOk, valid}
 use Rattle.state.specs.Laid.{vertexCount}
 use Rattle.edgelist.specs.EdgeList.{listVerdict, graphOf}
 use Rattle.listing.specs.List.{listBytes}
 use Rattle.survey.specs.Survey.{surveyAnswer}
-use Rattle.graph6.specs.Format.{graph6Text, bitOf, textGraph}
+use Rattle.graph6.specs.Format.{graph6Text, sizeOf, wellFormed, bitOf, textGraph}
 use Rattle.graph6_writing.specs.Write.{writeText, writeAnswer, writeOutput}
 use Rattle.graph6_reading.specs.Read.{readAnswer, readOutput}
 
@@ -49,6 +50,10 @@ pub record WasRead (t e : List ℕ) (total : ℕ) : Type 0 where
   pub same : (out : List ℕ) → length t ≤ length out → textIn e total out (length t) ≡ t
 
 pub record Graph6 : Type 0 where
+  -- the well-formed texts are those of the simple graphs on up to 200 vertices, each the text of its own graph
+  pub text-of-graph : (n : ℕ) (E : Graph) → n ≤ mostVertices → Simple n E → wellFormed (graph6Text n E) ≡ true
+  pub graph-of-text : (t : List ℕ) → wellFormed t ≡ true →
+      (sizeOf t ≤ mostVertices) × Simple (sizeOf t) (textGraph t) × (graph6Text (sizeOf t) (textGraph t) ≡ t)
   pub wrote : (e : List ℕ) (total : ℕ) (out : List ℕ) (n : ℕ) → writeAnswer e total (length out) ≡ Written n → Wrote e total (textIn e total out n)
   pub was-read : (t out : List ℕ) (n total : ℕ) → readAnswer t (length out) ≡ Read n total → WasRead t (listIn t out n) total
   -- 19 exactly where a survey gives 19, with its places, whatever room the two are lent

@@ -11,10 +11,11 @@ use Rattle.graph.specs.Graph.{Graph}
 use Rattle.slices.specs.Slices.{allZero}
 use Rattle.layout.specs.Layout.{mostVertices}
 
--- what is added to six bits to make them a byte, the byte of six ones, and that of the long form's start
+-- what is added to six bits to make them a byte
 abbrev pub plus : ℕ
 plus = 63
 
+-- the byte of six ones, with which a long size begins
 abbrev pub mostByte : ℕ
 mostByte = 126
 
