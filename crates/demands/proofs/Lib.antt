@@ -8,7 +8,6 @@ pub mod Demand3
 pub mod Uses
 pub mod Listed
 pub mod Graph6
-pub mod Graph6Cases
 pub mod Isolated
 pub mod Playing
 pub mod Playback

@@ -9,6 +9,5 @@ pub mod ReadBack
 pub mod EmptyBlocks
 pub mod Listed
 pub mod Graph6
-pub mod Graph6Cases
 pub mod Playback
 pub mod Isolated

@@ -1,9 +1,9 @@
--- The worked texts of graph6 (specs/Graph6Cases.antt): computed.
+-- The worked texts of graph6 (specs/Texts.antt): computed.
 -- Assumes nothing.
 use mathlib.Core.Path.{refl}
 use Rattle.finite.specs.Range.{δ, sumTo, allTo, lowFrom, lowest, catTo}
 use Rattle.graph6.specs.Format.{columnStart}
-use Rattle.demands.specs.Graph6Cases.{Graph6Cases}
+use Rattle.worked.specs.Texts.{Graph6Cases}
 
 pub graph6-cases : Graph6Cases
 unfolding δ sumTo allTo lowFrom lowest catTo columnStart
