@@ -12,7 +12,7 @@ use lib.Dec.{eqb, ltb}
 use borrow.Author.Tests.{lt-ltb, le-ltb, eq-eqb, ne-eqb}
 use Rattle.finite.specs.Range.{foldTo}
 use Rattle.finite.proofs.Lowest.{lowest-only, lowest-none}
-use Rattle.finite.proofs.Fold.{iterate-next, iterate-stop}
+use Rattle.finite.proofs.Fold.{iterate-next}
 use Rattle.finite.proofs.Delta.{δ-self}
 use Rattle.graph.specs.Graph.{jdm, edges, atEdge}
 use Rattle.graph.specs.Tests.{leastDegree, mostDegree, degrees}
@@ -27,6 +27,7 @@ use Rattle.completion.specs.Choice.{shortCell, shortL, shortK, openW, op
 use Rattle.completion.specs.Complete.{Ran, next, isIncomplete, run}
 use Rattle.completion.specs.Inner.Cellwise.{cellStep, cellMissing, fillCell, fillRow, fillAll, Filling}
 use Rattle.completion.proofs.Chosen.{Chosen, chosen, Stepped, stepped}
+use Rattle.completion.proofs.Full.{full-run}
 
 module _ (n : ℕ) (cls : ℕ → ℕ) (T : ℕ → ℕ → ℕ) where
   -- every cell before (k, l) is at its target
@@ -274,7 +275,7 @@ module _ (n : ℕ) (cls : ℕ → ℕ) (T : ℕ → ℕ → ℕ) where
 
     -- Cell by cell is what `run` does.
     pub fill-all : Filling n cls T (s₀ .adjacency) → run fuel n cls T s₀ ≡ fillAll n cls T s₀
-    fill-all f = r .progress .left ∙ iterate-stop (fuel - s .joins) 0 (isIncomplete n cls T) (next n cls T) s complete
+    fill-all f = r .progress .left ∙ full-run n cls T s full (fuel - s .joins)
       where
         s : Ran
         s = fillAll n cls T s₀
@@ -284,12 +285,3 @@ module _ (n : ℕ) (cls : ℕ → ℕ) (T : ℕ → ℕ → ℕ) where
 
         full : (i j : ℕ) → leastDegree ≤ i → i < degrees → i ≤ j → j < degrees → T i j ≤ jdm n cls (edge (s .adjacency)) i j
         full i j i1 iC ij jC = r .before i j i1 ij jC (λ e. absurd (omega arith)) (omega arith)
-
-        none : (i : ℕ) → leastDegree ≤ i → i < degrees → ltb (shortL n cls T (s .adjacency) i) degrees ≡ false
-        none i i1 iC =
-            rw (lowest-none i degrees (shortCell n cls T (s .adjacency) i) (omega arith)
-            (λ j ij jC. le-ltb (jdm n cls (edge (s .adjacency)) i j) (T i j) (full i j i1 iC ij jC)))
-            (le-ltb degrees degrees (omega arith))
-
-        complete : isIncomplete n cls T s ≡ false
-        complete = rw (lowest-none leastDegree degrees (λ i. ltb (shortL n cls T (s .adjacency) i) degrees) (omega arith) none) (le-ltb degrees degrees (omega arith))

@@ -1,4 +1,5 @@
 pub mod Chosen
+pub mod Full
 pub mod Cellwise
 pub mod Works
 pub mod Records

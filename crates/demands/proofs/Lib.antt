@@ -5,9 +5,14 @@ pub mod Kept
 pub mod EmptyBlocks
 pub mod Demand2
 pub mod Demand3
-pub mod Uses
 pub mod Listed
 pub mod Graph6
 pub mod Isolated
 pub mod Playing
 pub mod Playback
+pub mod Orders
+pub mod Ascending
+pub mod Bytes
+pub mod Drawing
+pub mod WithinReach
+pub mod Uses

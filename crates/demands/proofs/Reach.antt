@@ -66,7 +66,7 @@ reach-cleared =
     record { lengths = c .lengths; sound = c .sound; table = c .no-table; numbered = c .no-blocks; phased = c .taking; counted = refl }
 
 -- what a join, a lift or a finish that was not refused needs: a laid state
-laid-tally : (s : State) (t : Tally) → Reach s t → phase (s .journal) ≡ 1 → t .laid ≡ true
+pub laid-tally : (s : State) (t : Tally) → Reach s t → phase (s .journal) ≡ 1 → t .laid ≡ true
 laid-tally s t r e = go (t .laid) refl
   where
     go : (b : Bool) → t .laid ≡ b → t .laid ≡ true

@@ -1,5 +1,5 @@
--- What a user takes from the theorems, clause by clause. A weaker statement of demand 2 or 3, or a tally that counts a block twice, would not
--- give it.
+-- What a user takes from the theorems, clause by clause. A weaker statement of demand 2 or 3 or of the reach of every replica, or a tally that
+-- counts a block twice, would not give it.
 -- Assumes nothing.
 use mathlib.Core.Path.{_≡_, refl, sym, ap, _∙_}
 use mathlib.Core.Bool.{Bool, true, false, _&&_, not, cond}
@@ -10,25 +10,34 @@ use lib.Dec.{eqb, ltb}
 use lib.ListN.{length}
 use borrow.Author.Tests.{ne-eqb, eqb-true}
 use Rattle.finite.proofs.All.{and-left, and-right, and-false}
-use Rattle.graph.specs.Graph.{isolated}
+use Rattle.graph.specs.Graph.{Graph, isolated}
 use Rattle.graph.specs.Tests.{vertices}
 use Rattle.graph.specs.Theorems.{Realized}
 use Rattle.answer.specs.declared.Refusal.{Refusal}
+use Rattle.answer.specs.declared.switches.Switches.the-variants.{None}
+use Rattle.answer.specs.declared.AddAnswer.{AddAnswer}
+use Rattle.answer.specs.declared.AddAnswer.the-variants.{Added, Refused as AddRefused}
 use Rattle.answer.specs.declared.CompleteAnswer.the-variants.{Completed, Refused}
 use Rattle.table.specs.Block.{wellFormed, blockIsolated}
-use Rattle.adjacency.specs.Adjacency.{edge}
-use Rattle.journal.specs.Journal.{mostBlocks}
+use Rattle.adjacency.specs.Adjacency.{edge, setEdge}
+use Rattle.journal.specs.Journal.{mostBlocks, tableOf}
+use Rattle.state.specs.Laid.{vertexCount, degreeAt}
 use Rattle.taking.specs.Take.{takeAnswer}
+use Rattle.joining.proofs.Alone.{none-alone}
+use Rattle.adding.specs.Add.{addAnswer, addAdjacency}
+use Rattle.adding.proofs.Add.{added-facts}
 use Rattle.join_records.specs.Record.{joinRecordSize}
 use Rattle.completion.specs.Complete.{completeAnswer}
 use Rattle.completion.proofs.Entry.{refused-not-completed}
-use Rattle.demands.specs.Calls.{Call, take, complete, cleared, after, afterAll}
+use Rattle.demands.specs.Calls.{Call, take, add, complete, State, cleared, after, afterAll}
 use Rattle.demands.specs.Accepted.{accepted, AcceptedIn}
 use Rattle.demands.specs.Tally.{Tally, noTally, missingEdges, toldTake, counts, withBlock, tally, tallyAll}
 use Rattle.demands.specs.Demand2.{answered, answeredSum}
 use Rattle.demands.specs.Demand3.{RefusedForWantOfAGraph, OpenPair, CanBeJoined}
+use Rattle.demands.specs.WithinReach.{Replica, Pair, Order, adds, AddedAlone, AllAdded, emptyMatrix, ValidLaid}
 use Rattle.demands.proofs.Demand2.{demand-2}
 use Rattle.demands.proofs.Demand3.{demand-3}
+use Rattle.demands.proofs.WithinReach.{every-replica-within-reach}
 
 module _ (calls : List Call) where
   -- where laying out is refused with 9, 10 or 11, no simple graph has the table ..
@@ -93,3 +102,24 @@ resent-once t number b h = rw h (ap (λ (c : Bool). cond c (withBlock (withBlock
 
     again : counts (withBlock t b) number b ≡ false
     again = rw (ne-eqb number (t .blocks + 1) (λ e. omega (arith, number-is, e)), and-false (wellFormed b))
+
+-- of each pair of a list that is all added alone, the answer has no triples
+added-at : (before : List Pair) (p : Pair) (rest : List Pair) (s : State) → AllAdded s (before ++ p ∷ rest)
+    → addAnswer (afterAll s (adds before) .journal) (afterAll s (adds before) .adjacency) (p .0) (p .1) ≡ Added None
+added-at [] p rest s a = alone (addAnswer (s .journal) (s .adjacency) (p .0) (p .1)) (a .0)
+  where
+    alone : (x : AddAnswer) → AddedAlone x → x ≡ Added None
+    alone (Added switches) e = ap Added e
+    alone (AddRefused r) e = absurd e
+added-at (x ∷ before) p rest s a = added-at before p rest (after s (add (x .0) (x .1))) (a .1)
+
+-- While a drawing is laid onto the empty matrix, no edge that lies is ever moved: each call sets the bytes of its own edge and no others.
+pub nothing-moves : (s : State) → ValidLaid s → s .adjacency ≡ emptyMatrix → (H : Graph) → Replica (tableOf (s .journal)) H
+    → (before : List Pair) (p : Pair) (rest : List Pair) → Order (vertexCount (s .journal)) H (before ++ p ∷ rest)
+    → after (afterAll s (adds before)) (add (p .0) (p .1)) .adjacency ≡ setEdge (afterAll s (adds before) .adjacency) (p .0) (p .1) 1
+nothing-moves s v e H d before p rest o =
+    let x = afterAll s (adds before) in
+    let a = added-at before p rest s (every-replica-within-reach .from-empty s v e H d (before ++ p ∷ rest) o .added) in
+    ap (λ (a : AddAnswer). addAdjacency a (x .journal) (x .adjacency) (p .0) (p .1)) a
+    ∙ none-alone (vertexCount (x .journal)) (degreeAt (x .journal)) (x .adjacency) (p .0) (p .1)
+    (sym (added-facts (x .journal) (x .adjacency) (p .0) (p .1) None a .1))

@@ -11,3 +11,4 @@ pub mod Listed
 pub mod Graph6
 pub mod Playback
 pub mod Isolated
+pub mod WithinReach

@@ -55,7 +55,7 @@ module _ (x y : List ℕ) (m : ℕ) (h : length x ≡ 2 * m) where
   endW-right : (i j : ℕ) → i ≡ m + j → endW (x ++ y) i ≡ endW y j
   endW-right i j s = let e : 2 * i + 1 ≡ length x + (2 * j + 1) = omega arith in rw e (getD-append-add x y (2 * j + 1) 0)
 
-  over-append : (f : ℕ → ℕ → ℕ) (k : ℕ) → over (m + k) f (x ++ y) ≡ over m f x + over k f y
+  pub over-append : (f : ℕ → ℕ → ℕ) (k : ℕ) → over (m + k) f (x ++ y) ≡ over m f x + over k f y
   over-append f k =
       sumTo-split m k (λ i. f (endV (x ++ y) i) (endW (x ++ y) i))
       ∙ ap₂ _+_ (sumTo-cong m (λ i. f (endV (x ++ y) i) (endW (x ++ y) i)) (λ i. f (endV x i) (endW x i))

@@ -1,0 +1,29 @@
+-- Where every cell is full, completing ends where it begins.
+-- Assumes nothing.
+use mathlib.Core.Path.{_≡_}
+use mathlib.Core.Bool.{false}
+use Prim.Native.Nat.{ℕ, _≤_, _<_}
+use native.Mathlib.Omega.{arith}
+use lib.Dec.{ltb}
+use borrow.Author.Tests.{le-ltb}
+use Rattle.finite.proofs.Fold.{iterate-stop}
+use Rattle.finite.proofs.Lowest.{lowest-none}
+use Rattle.graph.specs.Graph.{jdm}
+use Rattle.graph.specs.Tests.{leastDegree, degrees}
+use Rattle.adjacency.specs.Adjacency.{edge}
+use Rattle.completion.specs.Choice.{shortCell, shortL}
+use Rattle.completion.specs.Complete.{Ran, next, isIncomplete, run}
+
+module _ (n : ℕ) (cls : ℕ → ℕ) (T : ℕ → ℕ → ℕ) (s : Ran)
+    (full : (i j : ℕ) → leastDegree ≤ i → i < degrees → i ≤ j → j < degrees → T i j ≤ jdm n cls (edge (s .adjacency)) i j) where
+  none : (i : ℕ) → leastDegree ≤ i → i < degrees → ltb (shortL n cls T (s .adjacency) i) degrees ≡ false
+  none i i1 iC =
+      rw (lowest-none i degrees (shortCell n cls T (s .adjacency) i) (omega arith)
+      (λ j ij jC. le-ltb (jdm n cls (edge (s .adjacency)) i j) (T i j) (full i j i1 iC ij jC)))
+      (le-ltb degrees degrees (omega arith))
+
+  full-complete : isIncomplete n cls T s ≡ false
+  full-complete = rw (lowest-none leastDegree degrees (λ i. ltb (shortL n cls T (s .adjacency) i) degrees) (omega arith) none) (le-ltb degrees degrees (omega arith))
+
+  pub full-run : (fuel : ℕ) → run fuel n cls T s ≡ s
+  full-run fuel = iterate-stop fuel 0 (isIncomplete n cls T) (next n cls T) s full-complete

@@ -1,0 +1,91 @@
+-- The bytes of a matrix: two matrices that are the same between the vertices and 0 elsewhere are the same list, so the matrix of a graph is one
+-- list of bytes (specs/WithinReach.antt).
+-- Assumes nothing.
+use mathlib.Core.Path.{_≡_, sym, ap, _∙_}
+use mathlib.Core.Bool.{_&&_, cond}
+use mathlib.Core.List.{List, [], _∷_, _++_}
+use mathlib.Core.Logic.{_⊎_, inl, inr, ⊎-elim}
+use Prim.Native.Nat.{ℕ, zero, suc, _+_, _*_, _/_, _%_, _≤_, _<_}
+use native.Mathlib.Numerals.{add-one}
+use native.Mathlib.Nat.{mul-one}
+use native.Mathlib.Decide.{decLt}
+use native.Mathlib.Omega.{arith}
+use lib.Dec.{ltb}
+use lib.ListN.{length, getD, length-replicate, List·getD-append}
+use lib.Seq.{ext-getD, getD-append-add}
+use borrow.Author.Tests.{lt-ltb, le-ltb}
+use Rattle.finite.specs.Range.{catTo}
+use Rattle.finite.proofs.All.{and-false}
+use Rattle.finite.proofs.Sum.{sumTo-const}
+use Rattle.finite.proofs.Fold.{catTo-more, catTo-length}
+use Rattle.graph.specs.Graph.{Graph, SameOn}
+use Rattle.slices.proofs.Zero.{getD-zeros}
+use Rattle.adjacency.specs.Adjacency.{side, adjacencySize, edge}
+use Rattle.adjacency.proofs.Facts.{ZeroOutside}
+use Rattle.demands.specs.WithinReach.{matrixOf, emptyMatrix}
+
+-- a list made byte by byte
+made-length : (f : ℕ → ℕ) (n : ℕ) → length (catTo n (λ i. f i ∷ [])) ≡ n
+made-length f n = catTo-length (λ i. f i ∷ []) n ∙ sumTo-const 1 n ∙ mul-one n
+
+made-at : (f : ℕ → ℕ) (n i : ℕ) → i < n → getD (catTo n (λ i. f i ∷ [])) i 0 ≡ f i
+made-at f zero i l = absurd (omega arith)
+made-at f (suc n) i l = rw (← (add-one n), catTo-more (λ i. f i ∷ []) n) (go (decLt i n) (λ h. made-at f n i h))
+  where
+    front : List ℕ
+    front = catTo n (λ i. f i ∷ [])
+
+    go : Dec (i < n) → (i < n → getD (catTo n (λ i. f i ∷ [])) i 0 ≡ f i) → getD (catTo n (λ i. f i ∷ []) ++ f n ∷ []) i 0 ≡ f i
+    go (yes h) r = List·getD-append front (f n ∷ []) 0 i (rw (made-length f n) h) ∙ r h
+    go (no h) r =
+        let e : i ≡ n = omega arith in
+        let q : n ≡ length front + 0 = omega (arith, made-length f n) in
+        rw e (ap (λ (k : ℕ). getD (front ++ f n ∷ []) k 0) q ∙ getD-append-add front (f n ∷ []) 0 0)
+
+-- equal between the vertices, and 0 elsewhere
+pub same-bytes : (n : ℕ) (g h : List ℕ) → length g ≡ adjacencySize → length h ≡ adjacencySize → ZeroOutside n g → ZeroOutside n h
+    → SameOn n (edge g) (edge h) → g ≡ h
+same-bytes n g h gs hs go ho same = ext-getD 0 g h (gs ∙ sym hs) at
+  where
+    pair : (v w : ℕ) → v < side → w < side → Dec (v < n) → Dec (w < n) → edge g v w ≡ edge h v w
+    pair v w vs ws (yes p) (yes q) = sym (same v w p q)
+    pair v w vs ws (yes p) (no q) = go v w vs ws (inr (omega arith)) ∙ sym (ho v w vs ws (inr (omega arith)))
+    pair v w vs ws (no p) d = go v w vs ws (inl (omega arith)) ∙ sym (ho v w vs ws (inl (omega arith)))
+
+    at : (i : ℕ) → i < length g → getD g i 0 ≡ getD h i 0
+    at i l =
+        let e : i ≡ i / side * side + i % side = omega arith in
+        ap (λ (k : ℕ). getD g k 0) e
+        ∙ pair (i / side) (i % side) (omega (arith, gs)) (omega arith) (decLt (i / side) n) (decLt (i % side) n)
+        ∙ ap (λ (k : ℕ). getD h k 0) (sym e)
+
+-- the matrix of a graph
+module _ (n : ℕ) (H : Graph) where
+  byte : ℕ → ℕ → ℕ
+  byte v w = cond (ltb v n && ltb w n) (H v w) 0
+
+  pub matrix-length : length (matrixOf n H) ≡ adjacencySize
+  unfolding byte
+  matrix-length = made-length (λ i. byte (i / side) (i % side)) adjacencySize
+
+  matrix-at : (v w : ℕ) → v < side → w < side → edge (matrixOf n H) v w ≡ byte v w
+  unfolding byte
+  matrix-at v w vs ws =
+      let a : (v * side + w) / side ≡ v = omega arith in
+      let b : (v * side + w) % side ≡ w = omega arith in
+      rw (made-at (λ i. byte (i / side) (i % side)) adjacencySize (v * side + w) (omega arith), a, b)
+
+  pub matrix-outside : ZeroOutside n (matrixOf n H)
+  unfolding byte
+  matrix-outside v w vs ws o = matrix-at v w vs ws ∙ ⊎-elim (λ h. rw (le-ltb v n h)) (λ h. rw (le-ltb w n h, and-false (ltb v n))) o
+
+  pub matrix-edges : n ≤ side → SameOn n H (edge (matrixOf n H))
+  unfolding byte
+  matrix-edges few v w l m = matrix-at v w (omega arith) (omega arith) ∙ rw (lt-ltb v n l, lt-ltb w n m)
+
+-- the empty matrix
+pub empty-length : length emptyMatrix ≡ adjacencySize
+empty-length = length-replicate {A = ℕ} adjacencySize 0
+
+pub empty-edge : (v w : ℕ) → edge emptyMatrix v w ≡ 0
+empty-edge v w = getD-zeros adjacencySize (v * side + w)
