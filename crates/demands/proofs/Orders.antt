@@ -1,22 +1,24 @@
--- Lists of pairs that name edges, each once (specs/WithinReach.antt), on functions alone: what such a list says of its first pair, that the next edge
--- of a drawing fits wherever only edges of the drawing lie, and that an edge list is an order.
+-- Lists of pairs that name edges, each once (specs/WithinReach.antt), on functions alone: what such a list says of its first pair, how long it is,
+-- and that the next edge of a drawing fits wherever only edges of the drawing lie.
 -- Assumes nothing.
-use mathlib.Core.Path.{_≡_}
-use mathlib.Core.List.{List, _∷_}
+use mathlib.Core.Path.{_≡_, refl, sym, ap₂, _∙_}
+use mathlib.Core.List.{List, [], _∷_}
 use mathlib.Core.Logic.{_≢_, _⊎_, inl, inr}
 use Prim.Native.Nat.{ℕ, _+_, _≤_, _<_}
 use native.Mathlib.Decide.{decLt}
 use native.Mathlib.Omega.{arith}
-use Rattle.finite.specs.Range.{δ}
+use lib.ListN.{length}
+use Rattle.finite.specs.Range.{δ, sumTo}
 use Rattle.finite.proofs.Delta.{δ-self}
-use Rattle.finite.proofs.Sum.{sumTo-mono}
-use Rattle.graph.specs.Graph.{Graph, Simple, degree, jdm, atEdge}
+use Rattle.finite.proofs.Sum.{sumTo-mono, sumTo-zero}
+use Rattle.graph.specs.Graph.{Graph, Simple, degree, edges, jdm, atEdge}
 use Rattle.graph.specs.Target.{Open}
 use Rattle.graph.specs.Theorems.{Updated}
 use Rattle.graph.proofs.Functions.{addEdge}
 use Rattle.graph.proofs.Matrix.{jdm-mono}
-use Rattle.graph.proofs.Update.{addEdge-adds, adding-updates}
-use Rattle.demands.specs.WithinReach.{Pair, named}
+use Rattle.graph.proofs.Edge.{atEdge-sym}
+use Rattle.graph.proofs.Update.{addEdge-adds, edges-same, adding-updates}
+use Rattle.demands.specs.WithinReach.{Pair, named, Order}
 
 -- the pairs name no edge but those of E ..
 abbrev pub Within : ℕ → Graph → List Pair → Type 0
@@ -29,6 +31,10 @@ NoOther n ps = (v w : ℕ) → (n ≤ v) ⊎ (n ≤ w) → named ps v w ≡ 0
 -- a pair names its edge
 names-itself : (x y : ℕ) → 1 ≤ atEdge x y x y
 names-itself x y = rw (δ-self x, δ-self y) (omega arith)
+
+named-sym : (ps : List Pair) (v w : ℕ) → named ps v w ≡ named ps w v
+named-sym [] v w = refl
+named-sym (p ∷ ps) v w = ap₂ _+_ (atEdge-sym (p .0) (p .1) v w) (named-sym ps v w)
 
 -- what holds of each pair that is named
 pub record EdgeOf (n : ℕ) (E : Graph) (p : Pair) : Type 0 where
@@ -73,6 +79,35 @@ module _ (n : ℕ) (p : Pair) (ps : List Pair) where
     where
       loop : p .0 ≡ p .1 → 1 ≤ atEdge (p .0) (p .1) (p .0) (p .0)
       loop e = rw (← e) (names-itself (p .0) (p .0))
+
+-- Such a list is as long as the graph of the edges that it names has edges.
+module _ (n : ℕ) (E : Graph) (s : Simple n E) where
+  named-simple : (ps : List Pair) → Within n E ps → Simple n (named ps)
+  named-simple ps h =
+      record {
+        binary = λ v w l m. omega (arith, h v w l m, s .binary v w l m);
+        symmetric = λ v w l m. named-sym ps v w;
+        loopless = λ v l. omega (arith, h v v l l, s .loopless v l);
+      }
+
+  named-length : (ps : List Pair) → Within n E ps → NoOther n ps → edges n (named ps) ≡ length ps
+  unfolding edges
+  named-length [] h o = sumTo-zero n (λ v. sumTo v (named [] v)) (λ v l. sumTo-zero v (named [] v) (λ w m. refl))
+  named-length (p ∷ ps) h o =
+      let e = first-edge n p ps E s h o in
+      let rest : Within n E ps = λ v w l m. omega (arith, h v w l m) in
+      let none : named ps (p .0) (p .1) ≡ 0 =
+      omega (arith, names-itself (p .0) (p .1), h (p .0) (p .1) (e .first) (e .second), s .binary (p .0) (p .1) (e .first) (e .second)) in
+      omega (
+        arith,
+        adding-updates n (λ v. v) (named ps) (named (p ∷ ps)) (p .0) (p .1) (e .first) (e .second) (e .distinct) (λ v w l m. omega arith)
+            (named-simple ps rest) none .2 .count,
+        named-length ps rest (rest-no-other n p ps o),
+      )
+
+pub order-length : (n : ℕ) (H : Graph) → Simple n H → (ps : List Pair) → Order n H ps → length ps ≡ edges n H
+order-length n H s ps o =
+    sym (named-length n H s ps (λ v w l m. omega (arith, o .once v w l m)) (o .no-other)) ∙ edges-same n H (named ps) (o .once)
 
 -- The drawing H: a simple graph with each vertex at the degree of its class and every cell at T. E has some of its edges, and the pairs name the others.
 module _ (n : ℕ) (cls deg : ℕ → ℕ) (T : ℕ → ℕ → ℕ) (H : Graph) (simple-H : Simple n H) (at-degree : (v : ℕ) → v < n → degree n H v ≡ deg (cls v))

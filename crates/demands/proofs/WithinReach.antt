@@ -23,6 +23,7 @@ use Rattle.demands.specs.Demand3.{Completes}
 use Rattle.demands.specs.WithinReach.{Replica, Pair, Order, ascending, adds, removes, emptyMatrix, ValidLaid, NothingToComplete, Drawn, Redrawn, lacking, EveryReplicaWithinReach}
 use Rattle.demands.proofs.Reach.{Reach, reach, laid-tally, phase-1, after-append}
 use Rattle.demands.proofs.Demand3.{demand-3}
+use Rattle.demands.proofs.Orders.{order-length}
 use Rattle.demands.proofs.Ascending.{ascending-order}
 use Rattle.demands.proofs.Bytes.{empty-edge}
 use Rattle.demands.proofs.Drawing.{laid, drawn, redrawn, emptied}
@@ -125,6 +126,7 @@ pub every-replica-within-reach : EveryReplicaWithinReach
 every-replica-within-reach =
     record {
       some = some;
+      order-length = order-length;
       from-empty = λ s v e H d. from-empty s v H d e;
       to-empty = λ s v qs. emptied (s .journal) qs (s .adjacency) v;
       from-anywhere = from-anywhere;

@@ -10,7 +10,7 @@ use Prim.Native.Nat.{ℕ, _+_, _-_, _/_, _%_, _≤_, _<_}
 use lib.Dec.{ltb}
 use lib.ListN.{length, replicate}
 use Rattle.finite.specs.Range.{catTo}
-use Rattle.graph.specs.Graph.{Graph, Simple, degree, ownJdm, atEdge, DegreeTable}
+use Rattle.graph.specs.Graph.{Graph, Simple, degree, edges, ownJdm, atEdge, DegreeTable}
 use Rattle.graph.specs.Tests.{vertices, vertexDegree}
 use Rattle.answer.specs.declared.switches.Switches.the-variants.{None}
 use Rattle.answer.specs.declared.AddAnswer.{AddAnswer}
@@ -130,6 +130,8 @@ pub record EveryReplicaWithinReach : Type 0 where
   -- There always is such a graph: what completing ends in is one.
   pub some : (s : State) (out : List ℕ) (joins switches m : ℕ) → completeAnswer (s .journal) (s .adjacency) (length out) ≡ Completed joins switches m →
       Replica (tableOf (s .journal)) (edge (after s (complete out) .adjacency))
+  -- An order is as long as the graph has edges.
+  pub order-length : (n : ℕ) (H : Graph) → Simple n H → (ps : List Pair) → Order n H ps → length ps ≡ edges n H
   -- 1. from the empty matrix, in any order
   pub from-empty : (s : State) → ValidLaid s → s .adjacency ≡ emptyMatrix →
       (H : Graph) → Replica (tableOf (s .journal)) H → (ps : List Pair) → Order (vertexCount (s .journal)) H ps → Drawn s H ps
