@@ -34,6 +34,11 @@
  * degree 2, and so on. Once laid out, any two vertices that are not joined and whose cell is still
  * short of edges can be joined, in any order; there is no dead end.
  *
+ * Every graph that has the matrix, and at each vertex the degree laid out for it, is within reach
+ * from every laid state: remove the edges that it does not have, then add those that are missing,
+ * in any order and direction. No call is refused, no edge is moved, and nothing is left to
+ * complete.
+ *
  * Three calls need no state: replica_jdm_of_edges counts the matrix of an edge list,
  * replica_graph6_write gives its graph6 text, and replica_graph6_read the edge list of such a text.
  *
