@@ -91,6 +91,39 @@ impl Graph {
         self.numbered(&linked)
     }
 
+    /// The same graph with the numbers of two vertices exchanged.
+    pub fn exchanged(&self, v: usize, w: usize) -> Graph {
+        let mut order: Vec<usize> = (0..self.vertices).collect();
+        order.swap(v, w);
+        self.numbered(&order)
+    }
+
+    /// A graph with the same degrees and the same matrix, mostly another one: edges a-b and c-d become
+    /// a-d and c-b where a and c are of one degree and neither is joined to its new end. So many pairs
+    /// of edges are tried.
+    pub fn rewired(&self, tries: usize, random: &mut Random) -> Graph {
+        let degrees = self.degrees();
+        let mut graph = self.clone();
+        let mut edges: Vec<(usize, usize)> = self.edges.iter().copied().collect();
+        for _ in 0..tries {
+            if edges.is_empty() {
+                break;
+            }
+            let (i, j) = (random.below(edges.len()), random.below(edges.len()));
+            let ((a, b), (c, d)) = (random.either_way(edges[i]), random.either_way(edges[j]));
+            let new = |v, w| v != w && !graph.joined(v, w);
+            if i != j && degrees[a] == degrees[c] && new(a, d) && new(c, b) {
+                for (v, w) in [(a, b), (c, d)] {
+                    graph.edges.remove(&(v.min(w), v.max(w)));
+                }
+                graph.join(a, d);
+                graph.join(c, b);
+                (edges[i], edges[j]) = ((a, d), (c, b));
+            }
+        }
+        graph
+    }
+
     /// The vertices in this order, which leaves out isolated ones at most.
     fn numbered(&self, order: &[usize]) -> Graph {
         let mut number = vec![0; self.vertices];
@@ -125,16 +158,19 @@ impl Graph {
 /// A graph on at most 16 vertices from the bits of a number, one bit a pair.
 pub fn from_bits(vertices: usize, bits: u64) -> Graph {
     let mut graph = Graph::new(vertices);
-    let mut bit = 0;
-    for v in 0..vertices {
-        for w in v + 1..vertices {
-            if bits >> bit & 1 == 1 {
-                graph.join(v, w);
-            }
-            bit += 1;
+    for (bit, (v, w)) in all_pairs(vertices).into_iter().enumerate() {
+        if bits >> bit & 1 == 1 {
+            graph.join(v, w);
         }
     }
     graph
+}
+
+/// All pairs among some vertices, ascending.
+pub fn all_pairs(vertices: usize) -> Vec<(usize, usize)> {
+    (0..vertices)
+        .flat_map(|v| (v + 1..vertices).map(move |w| (v, w)))
+        .collect()
 }
 
 /// The number of pairs among some vertices.
@@ -167,9 +203,7 @@ pub fn even(vertices: usize, edges: usize, random: &mut Random) -> Graph {
 
 /// So many edges of all pairs alike, whatever the degrees.
 pub fn uniform(vertices: usize, edges: usize, random: &mut Random) -> Graph {
-    let mut pairs: Vec<(usize, usize)> = (0..vertices)
-        .flat_map(|v| (v + 1..vertices).map(move |w| (v, w)))
-        .collect();
+    let mut pairs = all_pairs(vertices);
     random.shuffle(&mut pairs);
     let mut graph = Graph::new(vertices);
     for &(v, w) in &pairs[..edges] {

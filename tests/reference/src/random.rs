@@ -48,6 +48,15 @@ impl Random {
         &items[self.below(items.len())]
     }
 
+    /// The pair as it is or the other way round.
+    pub fn either_way<T>(&mut self, (v, w): (T, T)) -> (T, T) {
+        if self.chance(50) {
+            (v, w)
+        } else {
+            (w, v)
+        }
+    }
+
     pub fn shuffle<T>(&mut self, items: &mut [T]) {
         for i in (1..items.len()).rev() {
             items.swap(i, self.below(i + 1));

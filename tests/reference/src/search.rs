@@ -1,9 +1,10 @@
 //! A second builder that knows no switching: it tries pair after pair, with the edge and without.
-//! It answers for small tables whether any graph has them.
+//! It answers for small tables whether any graph has them, which ones, and which graphs are part of
+//! the way to one.
 
-use crate::graphs::{from_bits, pairs, Graph};
+use crate::graphs::{all_pairs, from_bits, pairs, Graph};
 use crate::{Matrix, Table, MOST_DEGREE};
-use std::collections::BTreeSet;
+use std::collections::{BTreeMap, BTreeSet};
 
 /// The tables of all graphs on exactly `vertices` vertices.
 pub fn tables_of_all_graphs(vertices: usize) -> BTreeSet<Table> {
@@ -17,6 +18,64 @@ pub fn tables_of_all_graphs(vertices: usize) -> BTreeSet<Table> {
 pub fn matrices_of_all_graphs(vertices: usize) -> BTreeSet<Matrix> {
     let tables = tables_of_all_graphs(vertices).into_iter();
     tables.map(|table| table.matrix).collect()
+}
+
+/// For each table of a graph on exactly `vertices` vertices, all graphs that have it and, vertex by
+/// vertex, the degrees laid out for it: those of all graphs that are numbered by rising degree.
+pub fn realizations_by_table(vertices: usize) -> BTreeMap<Table, Vec<Graph>> {
+    let mut by_table: BTreeMap<Table, Vec<Graph>> = BTreeMap::new();
+    for bits in 0..1u64 << pairs(vertices) {
+        let graph = from_bits(vertices, bits);
+        if graph.degrees().is_sorted() {
+            by_table.entry(graph.table()).or_default().push(graph);
+        }
+    }
+    by_table
+}
+
+/// All graphs that a state laid out for this table can hold: no vertex above its degree, no cell above
+/// the table. They are bits, one a pair, as [`from_bits`] takes them. For a few vertices only.
+pub fn partial_graphs(table: &Table) -> Vec<u64> {
+    let degrees = table.degrees();
+    let mut search = Partial {
+        pairs: all_pairs(degrees.len()),
+        missing: table.matrix.clone(),
+        free: degrees.clone(),
+        degrees,
+        found: Vec::new(),
+    };
+    search.decide(0, 0);
+    search.found
+}
+
+struct Partial {
+    degrees: Vec<usize>,
+    pairs: Vec<(usize, usize)>,
+    missing: Matrix,
+    free: Vec<usize>,
+    found: Vec<u64>,
+}
+
+impl Partial {
+    /// Decides this pair and all pairs after it; the bits are those of the pairs before it.
+    fn decide(&mut self, pair: usize, bits: u64) {
+        let Some(&(v, w)) = self.pairs.get(pair) else {
+            self.found.push(bits);
+            return;
+        };
+        self.decide(pair + 1, bits);
+        let (k, l) = (self.degrees[v], self.degrees[w]);
+        let cost = if k == l { 2 } else { 1 };
+        if self.free[v] > 0 && self.free[w] > 0 && self.missing.cell(k, l) >= cost {
+            self.missing.take_edge(k, l);
+            self.free[v] -= 1;
+            self.free[w] -= 1;
+            self.decide(pair + 1, bits | 1 << pair);
+            self.missing.add_edge(k, l);
+            self.free[v] += 1;
+            self.free[w] += 1;
+        }
+    }
 }
 
 /// A graph with this table, or none. For a few vertices only.
