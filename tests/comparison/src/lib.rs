@@ -15,6 +15,7 @@
 //! * [`joins`]: which pairs can be joined, over small states
 //! * [`exchange`]: graphs of any density as graph6, whole and spoiled
 //! * [`program`]: the program as a child process
+//! * [`jobs`]: independent pieces of work, run on all cores
 
 #[macro_use]
 mod named;
@@ -25,6 +26,7 @@ pub mod call;
 pub mod count;
 pub mod edge_lists;
 pub mod exchange;
+pub mod jobs;
 pub mod joins;
 pub mod lent;
 pub mod lists;
