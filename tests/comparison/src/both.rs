@@ -41,13 +41,15 @@ impl Both {
         }
     }
 
+    /// Which test it belongs to.
+    pub fn label(&self) -> &str {
+        &self.label
+    }
+
     /// Makes the call on both sides, compares answers and bytes, plays what has moved, and reads or
     /// writes a text the other way round. Returns the numbers of the answer.
     pub fn call(&mut self, call: Call) -> Numbers {
-        self.calls += 1;
-        if self.trace {
-            println!("{}", self.place(&call));
-        }
+        self.count_call(&call);
         let before = Memory::of(&self.journal, &self.adjacency, &call);
         let mut expected = before.clone();
         let expected_numbers = on_reference(&call, &mut expected);
@@ -75,6 +77,26 @@ impl Both {
         self.count_isolated(&call, &numbers);
         self.count_empty(&call, &numbers);
         numbers
+    }
+
+    /// Makes the call on the library alone, between guard bytes, for whoever knows what must come of
+    /// it: the reference takes some ten times as long.
+    pub fn call_library(&mut self, call: Call) -> Numbers {
+        self.count_call(&call);
+        let (numbers, after) = self.on_library_between_guards(&call);
+        self.compare_inputs(&call, &after);
+        self.journal = after.journal;
+        self.adjacency = after.adjacency;
+        self.output = after.output;
+        self.count.answered(call.entry(), &numbers);
+        numbers
+    }
+
+    fn count_call(&mut self, call: &Call) {
+        self.calls += 1;
+        if self.trace {
+            println!("{}", self.place(call));
+        }
     }
 
     /// Completes a laid state in which so many edges are missing: refused for want of one byte, then

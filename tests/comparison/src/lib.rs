@@ -13,6 +13,8 @@
 //! * [`lists`]: long random call lists
 //! * [`tables`]: tables laid out and completed, checked by a count of their own
 //! * [`joins`]: which pairs can be joined, over small states
+//! * [`reach`]: laid states brought to given graphs, edge by edge
+//! * [`steps`]: the same in every order, over small states
 //! * [`exchange`]: graphs of any density as graph6, whole and spoiled
 //! * [`program`]: the program as a child process
 //! * [`jobs`]: independent pieces of work, run on all cores
@@ -32,5 +34,7 @@ pub mod lent;
 pub mod lists;
 pub mod moves;
 pub mod program;
+pub mod reach;
+pub mod steps;
 pub mod tables;
 pub mod texts;

@@ -143,7 +143,7 @@ pub fn run_from_part_of(graph: &Graph, random: &mut Random, both: &mut Both) {
 const MOST_BY_CALLS: usize = 100;
 
 /// Clears, and takes the table's blocks, some of them twice.
-fn take_all(table: &Table, random: &mut Random, both: &mut Both) -> Vec<Vec<u8>> {
+pub fn take_all(table: &Table, random: &mut Random, both: &mut Both) -> Vec<Vec<u8>> {
     both.call(Call::Clear);
     let blocks = blocks::cut(table, random);
     for (number, block) in (0..).zip(&blocks) {
