@@ -35,12 +35,15 @@
 //! edge hands its switches back, and completing gives a record of each join, so that a copy of the
 //! graph can follow by playing them ([`Completion`]).
 //!
+//! Whoever has a graph of the table already, a drawing, brings a laid state to it: [`State::draw`].
+//!
 //! Single graphs go out and come in as McKay's graph6 ([`State::graph6`], [`graph6_write`],
 //! [`graph6_read`]).
 //!
 //! [`raw`] has the same entries over slices of any length, answering with the plain numbers of the
 //! C interface.
 
+mod drawing;
 mod graph6;
 mod iterators;
 mod joins;
@@ -48,6 +51,7 @@ pub mod raw;
 mod refusal;
 mod state;
 
+pub use drawing::{Drawn, NotDrawn};
 pub use graph6::{graph6_read, graph6_write};
 pub use iterators::{block, Cell, Cells, Edges, Record, Records};
 pub use joins::{Join, Joins, Switch, Switches};

@@ -1,12 +1,16 @@
 //! The cases of document 01 and the figures checked by hand, on the library through its safe crate.
 
 use comparison::tables::every_cell;
+use reference::graphs::{self, Graph};
+use reference::random::Random;
 use reference::Table;
 use replica::{block, graph6_read, graph6_write, jdm_of_edges};
-use replica::{Cause, Join, Joins, Record, Records, State, Switch, Take};
+use replica::{Cause, Drawn, Join, Joins, NotDrawn, Record, Records, Refusal};
+use replica::{State, Switch, Take};
 use replica::{BLOCK_LENGTH, JOIN_RECORD_LENGTH, RECORD_LENGTH};
 use replica::{MOST_EDGES, MOST_GRAPH6, MOST_PAIRS, MOST_RECORDS};
 use std::collections::BTreeSet;
+use std::error::Error;
 
 fn state_of(cells: &[(u8, u8, u16)]) -> State {
     let mut state = State::new();
@@ -371,6 +375,195 @@ fn refusals_of_graph6() {
     let refusal = graph6_write(&[], 201, &mut [0; 8]).unwrap_err();
     assert_eq!(refusal.cause, Cause::BadEdgeList);
     assert_eq!(refusal.places, (0, 0));
+}
+
+/// Two squares that differ in two edges, from states of every kind.
+#[test]
+fn drawings_of_a_square() {
+    let ring = [(0, 1), (2, 1), (2, 3), (3, 0)];
+    let mut state = laid(&SQUARE);
+    let expected = Drawn {
+        removed: vec![],
+        added: ring.to_vec(),
+    };
+    assert_eq!(state.draw(&ring), Ok(expected));
+    assert_eq!(edges(&state), [(0, 1), (0, 3), (1, 2), (2, 3)]);
+    // Once drawn, there is nothing to do.
+    assert_eq!(state.draw(&ring), Ok(Drawn::default()));
+    let mut completed = laid(&SQUARE);
+    complete(&mut completed);
+    let drawn = completed.draw(&ring).unwrap();
+    assert_eq!(drawn.removed, [(0, 2), (1, 3)]);
+    assert_eq!(drawn.added, [(0, 1), (2, 3)]);
+    assert_eq!(completed, state);
+    // A triangle leaves no room for vertex 3.
+    let mut half_laid = laid(&SQUARE);
+    for (v, w) in [(0, 1), (0, 2), (1, 2)] {
+        half_laid.add_edge(v, w).unwrap();
+    }
+    let drawn = half_laid.draw(&ring).unwrap();
+    assert_eq!(drawn.removed, [(0, 2)]);
+    assert_eq!(drawn.added, [(2, 3), (3, 0)]);
+    assert_eq!(half_laid, state);
+    assert_eq!(State::new().draw(&[]).unwrap_err(), not_laid());
+    assert_eq!(laid(&[]).draw(&[]), Ok(Drawn::default()));
+}
+
+fn not_laid() -> NotDrawn {
+    let refusal = State::new().edges().unwrap_err();
+    assert_eq!(refusal.cause, Cause::WrongPhase);
+    NotDrawn::from(refusal)
+}
+
+/// States without an edge, completed, with one of the drawing's edges and another, and half laid with
+/// a switch. Two vertices are isolated, four are in a square.
+fn squares() -> [State; 4] {
+    let empty = laid(&[(0, 0, 2), (2, 2, 8)]);
+    let [mut completed, mut by_hand, mut switched] = [empty.clone(), empty.clone(), empty.clone()];
+    complete(&mut completed);
+    for (v, w) in [(2, 3), (2, 4)] {
+        by_hand.add_edge(v, w).unwrap();
+    }
+    for (v, w) in [(2, 3), (2, 4), (3, 4), (2, 5)] {
+        switched.add_edge(v, w).unwrap();
+    }
+    switched.remove_edge(3, 5).unwrap();
+    [empty, completed, by_hand, switched]
+}
+
+/// What `draw` says, the same from every state, each of which it leaves as it was.
+fn not_drawn(edges: &[(u64, u64)]) -> NotDrawn {
+    let said = squares().map(|mut state| {
+        let before = state.clone();
+        let said = state.draw(edges).unwrap_err();
+        assert_eq!(state, before, "{edges:?}");
+        said
+    });
+    assert!(
+        said.iter().all(|each| same_kind(each, &said[0])),
+        "{said:?}"
+    );
+    said[0]
+}
+
+/// The switches that an edge would take depend on the state.
+fn same_kind(one: &NotDrawn, other: &NotDrawn) -> bool {
+    match (one, other) {
+        (NotDrawn::Moved { .. }, NotDrawn::Moved { .. }) => true,
+        _ => one == other,
+    }
+}
+
+/// The last edge of each drawing is refused.
+#[test]
+fn drawings_that_are_refused() {
+    type Case = (&'static [(u64, u64)], Cause, (u64, u64));
+    let cases: [Case; 8] = [
+        (&[(2, 3), (4, 5), (2, 3)], Cause::EdgePresent, (0, 0)),
+        (&[(2, 3), (4, 5), (3, 2)], Cause::EdgePresent, (0, 0)),
+        (&[(2, 3), (4, 4)], Cause::SameVertex, (0, 0)),
+        (&[(2, 3), (2, 6)], Cause::NoSuchVertex, (0, 0)),
+        (&[(6, 6)], Cause::NoSuchVertex, (0, 0)),
+        (&[(u64::MAX, 2)], Cause::NoSuchVertex, (0, 0)),
+        (&[(258, 3)], Cause::NoSuchVertex, (0, 0)),
+        (&[(2, 3), (2, 1)], Cause::CellNotShort, (0, 2)),
+    ];
+    for (edges, cause, places) in cases {
+        let refusal = Refusal { cause, places };
+        let edge = edges.last().copied();
+        assert_eq!(not_drawn(edges), NotDrawn::Refused { refusal, edge });
+    }
+    let refused = not_drawn(&[(4, 4)]);
+    let text = "edge 4-4: both ends are the same vertex (refusal 14)";
+    assert_eq!(refused.to_string(), text);
+    assert!(refused.source().is_some());
+    assert!(not_laid().to_string().ends_with("(refusal 3)"));
+    // A fifth edge: the cell is full.
+    let five = [(2, 3), (3, 4), (4, 5), (5, 2), (2, 4)];
+    let refused = laid(&[(0, 0, 2), (2, 2, 8)]).draw(&five).unwrap_err();
+    let text =
+        "edge 2-4: the cell of the two vertices takes no more edges: cell (2, 2) (refusal 16)";
+    assert_eq!(refused.to_string(), text);
+}
+
+/// A vertex with more edges than its degree, and drawings with too few edges.
+#[test]
+fn drawings_of_other_degrees_or_too_few_edges() {
+    let moved = not_drawn(&[(2, 3), (2, 4), (2, 5), (3, 4)]);
+    assert!(matches!(moved, NotDrawn::Moved { .. }));
+    let mut state = laid(&[(0, 0, 2), (2, 2, 8)]);
+    let NotDrawn::Moved { edge, switches } = state.draw(&[(2, 3), (2, 4), (2, 5)]).unwrap_err()
+    else {
+        panic!("vertex 2 has three edges");
+    };
+    assert_eq!((edge, switches.len()), ((2, 5), 1));
+    let [first, ..] = *switches else { panic!() };
+    assert_eq!(first.a, 2);
+    for (edges, missing) in [(&[(2, 3), (3, 4)][..], 2), (&[], 4)] {
+        assert_eq!(not_drawn(edges), NotDrawn::Incomplete { missing });
+    }
+    for said in [moved, not_drawn(&[])] {
+        assert!(said.to_string().len() > 20 && said.source().is_none());
+    }
+}
+
+/// Draws a graph in any order, and follows edge by edge what was said.
+fn draw(graph: &Graph, state: &mut State, random: &mut Random) {
+    let mut followed: BTreeSet<(u8, u8)> = edges(state).into_iter().collect();
+    let pair = |(v, w): (u64, u64)| (v.min(w) as u8, v.max(w) as u8);
+    let drawn = state.draw(&in_any_order(graph, random)).unwrap();
+    for edge in drawn.removed {
+        assert!(followed.remove(&pair(edge)), "{edge:?}");
+    }
+    for edge in drawn.added {
+        assert!(followed.insert(pair(edge)), "{edge:?}");
+    }
+    assert!(followed.into_iter().eq(edges(state)));
+    assert_eq!(state.adjacency(), graph.adjacency());
+}
+
+/// Random graphs, each reached from another of its table and degrees and back, and one with two
+/// vertices of different degrees exchanged, which is not.
+#[test]
+fn drawings_of_random_graphs() {
+    let mut exchanged = 0;
+    for seed in 0..60 {
+        let mut random = Random::new(seed);
+        let graph = graphs::any(80, &mut random).by_rising_degree();
+        let other = graph.rewired(300, &mut random);
+        let mut state = laid_for(&graph);
+        for graph in [&graph, &other, &graph] {
+            draw(graph, &mut state, &mut random);
+        }
+        let degrees = graph.degrees();
+        let last = degrees.len() - 1;
+        if degrees[0] < degrees[last] {
+            let before = state.clone();
+            let wrong = in_any_order(&graph.exchanged(0, last), &mut random);
+            assert!(state.draw(&wrong).is_err(), "seed {seed}");
+            assert_eq!(state, before);
+            exchanged += 1;
+        }
+    }
+    assert!(exchanged > 20, "{exchanged}");
+}
+
+fn laid_for(graph: &Graph) -> State {
+    let mut state = State::new();
+    for (number, block) in (0..).zip(graph.table().records().chunks(BLOCK_LENGTH)) {
+        state.take_block(number, block).unwrap();
+    }
+    state.lay_out().unwrap();
+    state
+}
+
+fn in_any_order(graph: &Graph, random: &mut Random) -> Vec<(u64, u64)> {
+    let mut drawing: Vec<(u64, u64)> = Vec::new();
+    for &(v, w) in graph.edges() {
+        drawing.push(random.either_way((v as u64, w as u64)));
+    }
+    random.shuffle(&mut drawing);
+    drawing
 }
 
 #[test]
