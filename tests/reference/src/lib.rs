@@ -16,7 +16,8 @@
 //! * [`entries`]: the twelve entries, in document 01's order of checks
 //! * [`numbers`]: the same twelve entries, answering with the numbers of the C interface
 //! * [`program`]: what the program prints for an input
-//! * [`search`]: a second builder, by exhaustive search instead of switching
+//! * [`search`]: a second builder, by exhaustive search instead of switching; all graphs of a small
+//!   table
 //! * [`graphs`], [`random`]: graphs whose matrix is known, and reproducible random numbers
 
 pub mod adjacency;
