@@ -161,19 +161,20 @@ impl<'a> Laid<'a> {
     /// way round.
     pub fn bring(&mut self, start: Start, removal: Removal, graph: &Graph) {
         self.begin(start, graph);
+        self.count_start(start);
         let mut laid = self.laid();
         if removal == Removal::Differing {
             laid.retain(|&(v, w)| !graph.joined(v, w));
             self.count.differing += 1;
         }
-        let some = u64::from(!laid.is_empty());
+        let removes = u64::from(!laid.is_empty());
         for (v, w) in self.in_any_order(laid) {
             self.remove(v, w);
         }
         if removal == Removal::All {
             let zero = self.both.adjacency.iter().all(|&byte| byte == 0);
             assert!(zero, "{}: an edge is left", self.place());
-            self.count.all += some;
+            self.count.all += removes;
         }
         let mut missing: Vec<_> = graph.edges().iter().copied().collect();
         missing.retain(|&(v, w)| !adjacency::joined(&self.adjacency, v, w));
@@ -185,6 +186,7 @@ impl<'a> Laid<'a> {
     /// Adds the graph's edges in this order, each named as it stands there, onto the empty matrix.
     pub fn bring_in_order(&mut self, order: &[(u64, u64)], graph: &Graph) {
         self.begin(Start::Empty, graph);
+        self.count_start(Start::Empty);
         self.add_all(order);
         self.end(graph);
     }
@@ -223,23 +225,28 @@ impl<'a> Laid<'a> {
         self.steps.clear();
         self.set(vec![0; ADJACENCY_LENGTH]);
         match start {
-            Start::Empty => self.count.empty += 1,
+            Start::Empty => {}
             Start::Completed => {
                 self.complete();
-                self.count.completed += 1;
             }
             Start::HalfLaid => {
                 let switches = self.lay_half();
-                self.count.half_laid += 1;
                 self.count.switched += u64::from(switches > 0);
             }
-            Start::Another(other) => {
-                self.set(other.adjacency());
-                self.count.another += 1;
-            }
+            Start::Another(other) => self.set(other.adjacency()),
         }
         self.check();
-        self.count.orders += 1;
+    }
+
+    fn count_start(&mut self, start: Start) {
+        let count = &mut self.count;
+        count.orders += 1;
+        *match start {
+            Start::Empty => &mut count.empty,
+            Start::Completed => &mut count.completed,
+            Start::HalfLaid => &mut count.half_laid,
+            Start::Another(_) => &mut count.another,
+        } += 1;
     }
 
     /// The state holds these edges.
