@@ -110,10 +110,8 @@ impl State {
     ///
     /// A drawing in which every vertex has the degree laid out for it, and whose joint degree matrix is
     /// the table, is always reached, from every laid state, in any order of its edges, each named
-    /// either way round, without a switch. For adding the edges of such a drawing onto an empty matrix
-    /// is never refused and moves nothing, in any order, so also when those that stay come first:
-    /// theorem `EveryReplicaWithinReach` in `crates/demands/specs/WithinReach.antt`. Any other drawing
-    /// gives a [`NotDrawn`].
+    /// either way round, without a switch: theorem `EveryReplicaWithinReach`, clause `differences`, in
+    /// `crates/demands/specs/WithinReach.antt`. Any other drawing gives a [`NotDrawn`].
     ///
     /// ```
     /// # use replica::State;
