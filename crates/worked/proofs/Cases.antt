@@ -48,7 +48,7 @@ use Rattle.graph6_reading.specs.Read.{readAnswer, readOutput}
 use Rattle.completion.specs.Complete.{completeLaid, completeAdjacency, completeOutput}
 use Rattle.demands.specs.Calls.{Call, take, layOut, add, remove, complete, readBack, list, figures, survey, writeGraph6, readGraph6, State, cleared, after}
 use Rattle.demands.specs.Tally.{Tally, noTally, told, tally}
-use Rattle.worked.specs.Cases.{six, nine, answerOf, Step, Case, sameList, edgesOf, holdsFrom, allHold, starred, StarredHold, moved, MovedHold, drawings, DrawingsHold}
+use Rattle.worked.specs.Cases.{six, nine, answerOf, Step, Case, sameList, edgesOf, holdsFrom, allHold, starred, StarredHold, moved, MovedHold}
 use Rattle.demands.proofs.Reach.{Reach, reach-cleared, after-call}
 
 -- The answers past the checks 1 and 2.
@@ -180,15 +180,8 @@ moved-computed : allRest moved ≡ true
 unfolding δ sumTo allTo lowFrom lowest catTo iterate jdm edges
 moved-computed = refl
 
-drawings-computed : allRest drawings ≡ true
-unfolding δ sumTo allTo lowFrom lowest catTo iterate jdm edges
-drawings-computed = refl
-
 pub starred-hold : StarredHold
 starred-hold = all-rest starred ∙ starred-computed
 
 pub moved-hold : MovedHold
 moved-hold = all-rest moved ∙ moved-computed
-
-pub drawings-hold : DrawingsHold
-drawings-hold = all-rest drawings ∙ drawings-computed

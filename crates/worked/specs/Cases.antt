@@ -1,6 +1,6 @@
 -- Worked examples as lists of cases, and one test that runs the entries' definitions on a case: what all its calls from a cleared state hand back,
 -- in document 01's numbers and the bytes of their outputs, and the edges in the end. `starred` are the starred cases of document 01 ("Tables to
--- try"), `moved` those of document 02's switches and records, `drawings` those of its replicas within reach.
+-- try"), `moved` those of document 02's switches and records.
 -- Assumes nothing.
 use mathlib.Core.Path.{_≡_}
 use mathlib.Core.Bool.{Bool, true, false, _&&_}
@@ -226,36 +226,3 @@ moved =
 -- one theorem over the list: proofs/Cases.antt `moved-hold`
 abbrev pub MovedHold : Type 0
 MovedHold = allHold moved ≡ true
-
--- drawings (document 02, P6)
-abbrev pub drawings : List Case
-drawings =
-    -- document 004's graph in another order than its list's, each edge in some direction: no switch, and nothing is missing then
-    record {
-      steps =
-          take 0 (rec 1 3 1 (rec 2 2 2 (rec 2 3 2 []))) gives taken 1 ∷ layOut gives laidOut 4
-          ∷ add 3 2 gives joined ∷ add 0 3 gives joined ∷ add 2 1 gives joined ∷ add 1 3 gives joined
-          ∷ complete [] gives finished 0 0 0 [] ∷ figures gives report 1 1 4 4 4 ∷ [];
-      edges = 0 ∷ 3 ∷ 1 ∷ 2 ∷ 1 ∷ 3 ∷ 2 ∷ 3 ∷ [];
-    }
-    -- Not drawings: an edge named twice is refused; so, in the end, is a graph with this table but its degrees 1 and 3 at each other's vertices.
-    ∷ record {
-      steps =
-          take 0 (rec 1 3 1 (rec 2 2 2 (rec 2 3 2 []))) gives taken 1 ∷ layOut gives laidOut 4
-          ∷ add 3 0 gives joined ∷ add 0 3 gives noJoin 15 0 0 ∷ add 1 2 gives joined ∷ add 1 0 gives noJoin 16 1 2 ∷ [];
-      edges = 0 ∷ 3 ∷ 1 ∷ 2 ∷ [];
-    }
-    -- one square of (2,2) = 8, which took a switch, is removed and another one drawn
-    ∷ record {
-      steps =
-          take 0 (rec 2 2 8 []) gives taken 1 ∷ layOut gives laidOut 4
-          ∷ add 0 1 gives joined ∷ add 0 2 gives joined ∷ add 1 2 gives joined ∷ add 0 3 gives joinedBy 0 3 1
-          ∷ remove 3 1 gives removed ∷ remove 0 2 gives removed ∷ remove 2 1 gives removed ∷ remove 3 0 gives removed
-          ∷ add 2 3 gives joined ∷ add 1 0 gives joined ∷ add 3 0 gives joined ∷ add 1 2 gives joined ∷ [];
-      edges = 0 ∷ 1 ∷ 0 ∷ 3 ∷ 1 ∷ 2 ∷ 2 ∷ 3 ∷ [];
-    }
-    ∷ []
-
--- one theorem over the list: proofs/Cases.antt `drawings-hold`
-abbrev pub DrawingsHold : Type 0
-DrawingsHold = allHold drawings ≡ true
