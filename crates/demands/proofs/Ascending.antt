@@ -51,7 +51,7 @@ module _ (n : ℕ) (H : Graph) (few : n ≤ mostVertices) where
   pub ascending-order : Simple n H → Order n H (ascending n H)
   ascending-order s =
       record {
-        once = λ v w l m. omega (arith, named-graph (listOf n H) v w, list-graph n H s v w l m);
+        once = λ v w l m. omega (arith, named-graph (listOf n H) v w, list-graph n H s v w l m, s .binary v w l m);
         no-other = λ v w o.
             named-graph (listOf n H) v w
             ∙ sumTo-zero (listed (listOf n H)) (λ i. atEdge (endV (listOf n H) i) (endW (listOf n H) i) v w) (listed-inside v w o);
