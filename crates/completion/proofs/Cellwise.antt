@@ -11,7 +11,7 @@ use native.Mathlib.Omega.{arith}
 use lib.Dec.{eqb, ltb}
 use borrow.Author.Tests.{lt-ltb, le-ltb, eq-eqb, ne-eqb}
 use Rattle.finite.specs.Range.{foldTo}
-use Rattle.finite.proofs.Lowest.{lowest-only, lowest-none}
+use Rattle.finite.proofs.Lowest.{lowest-only}
 use Rattle.finite.proofs.Fold.{iterate-next}
 use Rattle.finite.proofs.Delta.{δ-self}
 use Rattle.graph.specs.Graph.{jdm, edges, atEdge}
@@ -27,7 +27,7 @@ use Rattle.completion.specs.Choice.{shortCell, shortL, shortK, openW, op
 use Rattle.completion.specs.Complete.{Ran, next, isIncomplete, run}
 use Rattle.completion.specs.Inner.Cellwise.{cellStep, cellMissing, fillCell, fillRow, fillAll, Filling}
 use Rattle.completion.proofs.Chosen.{Chosen, chosen, Stepped, stepped}
-use Rattle.completion.proofs.Full.{full-run}
+use Rattle.completion.proofs.Full.{full-row, full-run}
 
 module _ (n : ℕ) (cls : ℕ → ℕ) (T : ℕ → ℕ → ℕ) where
   -- every cell before (k, l) is at its target
@@ -49,10 +49,7 @@ module _ (n : ℕ) (cls : ℕ → ℕ) (T : ℕ → ℕ → ℕ) where
           (λ j kj jl. le-ltb (jdm n cls (edge g) k j) (T k j) (before k j k1 kj (omega arith) (λ e. jl) (omega arith)))
 
       earlier : (i : ℕ) → leastDegree ≤ i → i < k → ltb (shortL n cls T g i) degrees ≡ false
-      earlier i i1 ik =
-          rw (lowest-none i degrees (shortCell n cls T g i) (omega arith)
-          (λ j ij jC. le-ltb (jdm n cls (edge g) i j) (T i j) (before i j i1 ij jC (λ e. absurd (omega arith)) (omega arith))))
-          (le-ltb degrees degrees (omega arith))
+      earlier i i1 ik = full-row n cls T g i (omega arith) (λ j ij jC. before i j i1 ij jC (λ e. absurd (omega arith)) (omega arith))
 
   -- a join adds 1 to its cell, or 2 on the diagonal
   abbrev unit : ℕ → ℕ → ℕ

@@ -2,6 +2,7 @@
 -- Assumes nothing.
 use mathlib.Core.Path.{_≡_}
 use mathlib.Core.Bool.{false}
+use mathlib.Core.List.{List}
 use Prim.Native.Nat.{ℕ, _≤_, _<_}
 use native.Mathlib.Omega.{arith}
 use lib.Dec.{ltb}
@@ -14,16 +15,20 @@ use Rattle.adjacency.specs.Adjacency.{edge}
 use Rattle.completion.specs.Choice.{shortCell, shortL}
 use Rattle.completion.specs.Complete.{Ran, next, isIncomplete, run}
 
+-- a row whose cells are full from the diagonal on has no short one
+pub full-row : (n : ℕ) (cls : ℕ → ℕ) (T : ℕ → ℕ → ℕ) (g : List ℕ) (i : ℕ) → i < degrees
+    → ((j : ℕ) → i ≤ j → j < degrees → T i j ≤ jdm n cls (edge g) i j) → ltb (shortL n cls T g i) degrees ≡ false
+full-row n cls T g i iC full =
+    rw (lowest-none i degrees (shortCell n cls T g i) (omega arith) (λ j ij jC. le-ltb (jdm n cls (edge g) i j) (T i j) (full j ij jC)))
+    (le-ltb degrees degrees (omega arith))
+
 module _ (n : ℕ) (cls : ℕ → ℕ) (T : ℕ → ℕ → ℕ) (s : Ran)
     (full : (i j : ℕ) → leastDegree ≤ i → i < degrees → i ≤ j → j < degrees → T i j ≤ jdm n cls (edge (s .adjacency)) i j) where
-  none : (i : ℕ) → leastDegree ≤ i → i < degrees → ltb (shortL n cls T (s .adjacency) i) degrees ≡ false
-  none i i1 iC =
-      rw (lowest-none i degrees (shortCell n cls T (s .adjacency) i) (omega arith)
-      (λ j ij jC. le-ltb (jdm n cls (edge (s .adjacency)) i j) (T i j) (full i j i1 iC ij jC)))
-      (le-ltb degrees degrees (omega arith))
-
   full-complete : isIncomplete n cls T s ≡ false
-  full-complete = rw (lowest-none leastDegree degrees (λ i. ltb (shortL n cls T (s .adjacency) i) degrees) (omega arith) none) (le-ltb degrees degrees (omega arith))
+  full-complete =
+      rw (lowest-none leastDegree degrees (λ i. ltb (shortL n cls T (s .adjacency) i) degrees) (omega arith)
+      (λ i i1 iC. full-row n cls T (s .adjacency) i iC (λ j ij jC. full i j i1 iC ij jC)))
+      (le-ltb degrees degrees (omega arith))
 
   pub full-run : (fuel : ℕ) → run fuel n cls T s ≡ s
   full-run fuel = iterate-stop fuel 0 (isIncomplete n cls T) (next n cls T) s full-complete

@@ -3,44 +3,23 @@
 -- Assumes nothing.
 use mathlib.Core.Path.{_≡_, sym, ap, _∙_}
 use mathlib.Core.Bool.{_&&_, cond}
-use mathlib.Core.List.{List, [], _∷_, _++_}
+use mathlib.Core.List.{List}
 use mathlib.Core.Logic.{_⊎_, inl, inr, ⊎-elim}
-use Prim.Native.Nat.{ℕ, zero, suc, _+_, _*_, _/_, _%_, _≤_, _<_}
-use native.Mathlib.Numerals.{add-one}
-use native.Mathlib.Nat.{mul-one}
+use Prim.Native.Nat.{ℕ, _+_, _*_, _/_, _%_, _≤_, _<_}
 use native.Mathlib.Decide.{decLt}
 use native.Mathlib.Omega.{arith}
 use lib.Dec.{ltb}
-use lib.ListN.{length, getD, length-replicate, List·getD-append}
-use lib.Seq.{ext-getD, getD-append-add}
+use lib.ListN.{length, getD, length-replicate}
+use lib.Seq.{ext-getD}
 use borrow.Author.Tests.{lt-ltb, le-ltb}
-use Rattle.finite.specs.Range.{catTo}
 use Rattle.finite.proofs.All.{and-false}
-use Rattle.finite.proofs.Sum.{sumTo-const}
-use Rattle.finite.proofs.Fold.{catTo-more, catTo-length}
+use Rattle.finite.proofs.Blocks.{singles-length, singles-at}
 use Rattle.graph.specs.Graph.{Graph, SameOn}
 use Rattle.slices.proofs.Zero.{getD-zeros}
 use Rattle.adjacency.specs.Adjacency.{side, adjacencySize, edge}
 use Rattle.adjacency.proofs.Facts.{ZeroOutside}
-use Rattle.demands.specs.WithinReach.{matrixOf, emptyMatrix}
-
--- a list made byte by byte
-made-length : (f : ℕ → ℕ) (n : ℕ) → length (catTo n (λ i. f i ∷ [])) ≡ n
-made-length f n = catTo-length (λ i. f i ∷ []) n ∙ sumTo-const 1 n ∙ mul-one n
-
-made-at : (f : ℕ → ℕ) (n i : ℕ) → i < n → getD (catTo n (λ i. f i ∷ [])) i 0 ≡ f i
-made-at f zero i l = absurd (omega arith)
-made-at f (suc n) i l = rw (← (add-one n), catTo-more (λ i. f i ∷ []) n) (go (decLt i n) (λ h. made-at f n i h))
-  where
-    front : List ℕ
-    front = catTo n (λ i. f i ∷ [])
-
-    go : Dec (i < n) → (i < n → getD (catTo n (λ i. f i ∷ [])) i 0 ≡ f i) → getD (catTo n (λ i. f i ∷ []) ++ f n ∷ []) i 0 ≡ f i
-    go (yes h) r = List·getD-append front (f n ∷ []) 0 i (rw (made-length f n) h) ∙ r h
-    go (no h) r =
-        let e : i ≡ n = omega arith in
-        let q : n ≡ length front + 0 = omega (arith, made-length f n) in
-        rw e (ap (λ (k : ℕ). getD (front ++ f n ∷ []) k 0) q ∙ getD-append-add front (f n ∷ []) 0 0)
+use Rattle.demands.specs.Calls.{emptyMatrix}
+use Rattle.demands.specs.WithinReach.{matrixOf}
 
 -- equal between the vertices, and 0 elsewhere
 pub same-bytes : (n : ℕ) (g h : List ℕ) → length g ≡ adjacencySize → length h ≡ adjacencySize → ZeroOutside n g → ZeroOutside n h
@@ -66,14 +45,14 @@ module _ (n : ℕ) (H : Graph) where
 
   pub matrix-length : length (matrixOf n H) ≡ adjacencySize
   unfolding byte
-  matrix-length = made-length (λ i. byte (i / side) (i % side)) adjacencySize
+  matrix-length = singles-length (λ i. byte (i / side) (i % side)) adjacencySize
 
   matrix-at : (v w : ℕ) → v < side → w < side → edge (matrixOf n H) v w ≡ byte v w
   unfolding byte
   matrix-at v w vs ws =
       let a : (v * side + w) / side ≡ v = omega arith in
       let b : (v * side + w) % side ≡ w = omega arith in
-      rw (made-at (λ i. byte (i / side) (i % side)) adjacencySize (v * side + w) (omega arith), a, b)
+      rw (singles-at (λ i. byte (i / side) (i % side)) adjacencySize (v * side + w) (omega arith), a, b)
 
   pub matrix-outside : ZeroOutside n (matrixOf n H)
   unfolding byte

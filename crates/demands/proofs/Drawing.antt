@@ -29,8 +29,8 @@ use Rattle.removing.specs.Remove.{removeAnswer, removeAdjacency}
 use Rattle.removing.proofs.Remove.{RemoveFacts, facts-removed, remove-works}
 use Rattle.completion.specs.Complete.{Ran, completeAdjacency}
 use Rattle.completion.proofs.Entry.{CompleteFacts, full-completed, full-answer}
-use Rattle.demands.specs.Calls.{add, remove, complete, State, after, afterAll}
-use Rattle.demands.specs.WithinReach.{Replica, Pair, named, Order, adds, removes, AddedAlone, AllAdded, AllRemoved, matrixOf, emptyMatrix, ValidLaid, NothingToComplete, Drawn, Redrawn, Emptied}
+use Rattle.demands.specs.Calls.{add, remove, complete, State, emptyMatrix, after, afterAll}
+use Rattle.demands.specs.WithinReach.{Replica, Pair, named, Order, adds, removes, AddedAlone, AllAdded, AllRemoved, matrixOf, ValidLaid, NothingToComplete, Drawn, Redrawn, Emptied}
 use Rattle.demands.proofs.Reach.{after-append}
 use Rattle.demands.proofs.Orders.{Within, NoOther, EdgeOf, rest-no-other, first-edge, next-open, room-first, room-second}
 use Rattle.demands.proofs.Bytes.{same-bytes, matrix-length, matrix-outside, matrix-edges, empty-length, empty-edge}

@@ -47,19 +47,19 @@ module _ (n : ℕ) (p : Pair) (ps : List Pair) where
   pub rest-no-other : NoOther n (p ∷ ps) → NoOther n ps
   rest-no-other o v w h = omega (arith, o v w h)
 
-  first-below : NoOther n (p ∷ ps) → p .0 < n
-  first-below o = go (decLt (p .0) n)
+  -- both ends of a pair that is named are vertices
+  end-below : (x : ℕ) → (n ≤ x → (n ≤ p .0) ⊎ (n ≤ p .1)) → NoOther n (p ∷ ps) → x < n
+  end-below x out o = go (decLt x n)
     where
-      go : Dec (p .0 < n) → p .0 < n
+      go : Dec (x < n) → x < n
       go (yes l) = l
-      go (no l) = absurd (omega (arith, names-itself (p .0) (p .1), o (p .0) (p .1) (inl (omega arith))))
+      go (no l) = absurd (omega (arith, names-itself (p .0) (p .1), o (p .0) (p .1) (out (omega arith))))
+
+  first-below : NoOther n (p ∷ ps) → p .0 < n
+  first-below = end-below (p .0) inl
 
   second-below : NoOther n (p ∷ ps) → p .1 < n
-  second-below o = go (decLt (p .1) n)
-    where
-      go : Dec (p .1 < n) → p .1 < n
-      go (yes l) = l
-      go (no l) = absurd (omega (arith, names-itself (p .0) (p .1), o (p .0) (p .1) (inr (omega arith))))
+  second-below = end-below (p .1) inr
 
   -- the first of the pairs that name edges of a simple graph is one of its edges
   pub first-edge : (E : Graph) → Simple n E → Within n E (p ∷ ps) → NoOther n (p ∷ ps) → EdgeOf n E p

@@ -29,12 +29,12 @@ use Rattle.adding.proofs.Add.{added-facts}
 use Rattle.join_records.specs.Record.{joinRecordSize}
 use Rattle.completion.specs.Complete.{completeAnswer}
 use Rattle.completion.proofs.Entry.{refused-not-completed}
-use Rattle.demands.specs.Calls.{Call, take, add, complete, State, cleared, after, afterAll}
+use Rattle.demands.specs.Calls.{Call, take, add, complete, State, emptyMatrix, cleared, after, afterAll}
 use Rattle.demands.specs.Accepted.{accepted, AcceptedIn}
 use Rattle.demands.specs.Tally.{Tally, noTally, missingEdges, toldTake, counts, withBlock, tally, tallyAll}
 use Rattle.demands.specs.Demand2.{answered, answeredSum}
 use Rattle.demands.specs.Demand3.{RefusedForWantOfAGraph, OpenPair, CanBeJoined}
-use Rattle.demands.specs.WithinReach.{Replica, Pair, Order, adds, AddedAlone, AllAdded, emptyMatrix, ValidLaid}
+use Rattle.demands.specs.WithinReach.{Replica, Pair, Order, adds, AddedAlone, AllAdded, ValidLaid}
 use Rattle.demands.proofs.Demand2.{demand-2}
 use Rattle.demands.proofs.Demand3.{demand-3}
 use Rattle.demands.proofs.WithinReach.{every-replica-within-reach}

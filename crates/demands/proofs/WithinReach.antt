@@ -17,10 +17,10 @@ use Rattle.state.specs.Laid.{vertexCount}
 use Rattle.join_records.specs.Record.{joinRecordSize}
 use Rattle.completion.specs.Complete.{completeAnswer, completeAdjacency}
 use Rattle.completion.proofs.Entry.{completed-facts, complete-works}
-use Rattle.demands.specs.Calls.{Call, complete, State, cleared, after, afterAll}
+use Rattle.demands.specs.Calls.{Call, complete, State, emptyMatrix, cleared, after, afterAll}
 use Rattle.demands.specs.Tally.{noTally, missingEdges, tallyAll}
 use Rattle.demands.specs.Demand3.{Completes}
-use Rattle.demands.specs.WithinReach.{Replica, Pair, Order, ascending, adds, removes, emptyMatrix, ValidLaid, NothingToComplete, Drawn, Redrawn, lacking, EveryReplicaWithinReach}
+use Rattle.demands.specs.WithinReach.{Replica, Pair, Order, ascending, adds, removes, ValidLaid, NothingToComplete, Drawn, Redrawn, lacking, EveryReplicaWithinReach}
 use Rattle.demands.proofs.Reach.{Reach, reach, laid-tally, phase-1, after-append}
 use Rattle.demands.proofs.Demand3.{demand-3}
 use Rattle.demands.proofs.Orders.{order-length}

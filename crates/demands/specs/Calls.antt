@@ -30,9 +30,13 @@ pub record State : Type 0 where
   pub journal : List ℕ
   pub adjacency : List ℕ
 
+-- the empty matrix
+abbrev pub emptyMatrix : List ℕ
+emptyMatrix = replicate adjacencySize 0
+
 -- just cleared
 abbrev pub cleared : State
-cleared = record { journal = replicate journalSize 0; adjacency = replicate adjacencySize 0 }
+cleared = record { journal = replicate journalSize 0; adjacency = emptyMatrix }
 
 -- the state after one call
 abbrev pub after : State → Call → State

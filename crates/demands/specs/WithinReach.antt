@@ -8,7 +8,7 @@ use mathlib.Core.List.{List, [], _∷_, _++_, map}
 use mathlib.Core.Logic.{_⊎_}
 use Prim.Native.Nat.{ℕ, _+_, _-_, _/_, _%_, _≤_, _<_}
 use lib.Dec.{ltb}
-use lib.ListN.{length, replicate}
+use lib.ListN.{length}
 use Rattle.finite.specs.Range.{catTo}
 use Rattle.graph.specs.Graph.{Graph, Simple, degree, edges, ownJdm, atEdge, DegreeTable}
 use Rattle.graph.specs.Tests.{vertices, vertexDegree}
@@ -25,7 +25,7 @@ use Rattle.edgelist.specs.EdgeList.{listOf}
 use Rattle.adding.specs.Add.{addAnswer}
 use Rattle.removing.specs.Remove.{removeAnswer}
 use Rattle.completion.specs.Complete.{completeAnswer}
-use Rattle.demands.specs.Calls.{Call, add, remove, complete, State, cleared, after, afterAll}
+use Rattle.demands.specs.Calls.{Call, add, remove, complete, State, emptyMatrix, cleared, after, afterAll}
 use Rattle.demands.specs.Tally.{noTally, missingEdges, tallyAll}
 
 -- "every simple graph on the laid boards with the table and the boards' degrees": on the N vertices of the table t, each with the degree laid out
@@ -86,10 +86,6 @@ matrixOf n H =
     let byte : ℕ → ℕ → ℕ = λ v w. cond (ltb v n && ltb w n) (H v w) 0 in
     catTo adjacencySize (λ i. byte (i / side) (i % side) ∷ [])
 
--- "an empty grid"
-abbrev pub emptyMatrix : List ℕ
-emptyMatrix = replicate adjacencySize 0
-
 -- a journal with another matrix
 abbrev pub withMatrix : State → List ℕ → State
 withMatrix s g = record { journal = s .journal; adjacency = g }
@@ -132,7 +128,7 @@ pub record EveryReplicaWithinReach : Type 0 where
       Replica (tableOf (s .journal)) (edge (after s (complete out) .adjacency))
   -- An order is as long as the graph has edges.
   pub order-length : (n : ℕ) (H : Graph) → Simple n H → (ps : List Pair) → Order n H ps → length ps ≡ edges n H
-  -- 1. from the empty matrix, in any order
+  -- 1. from the empty matrix ("an empty grid"), in any order
   pub from-empty : (s : State) → ValidLaid s → s .adjacency ≡ emptyMatrix →
       (H : Graph) → Replica (tableOf (s .journal)) H → (ps : List Pair) → Order (vertexCount (s .journal)) H ps → Drawn s H ps
   -- 2. to the empty matrix, in any order; so H is reached from every valid laid state ..

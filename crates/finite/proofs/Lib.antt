@@ -3,3 +3,4 @@ pub mod Sum
 pub mod All
 pub mod Lowest
 pub mod Fold
+pub mod Blocks

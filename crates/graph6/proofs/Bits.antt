@@ -17,7 +17,7 @@ use Rattle.finite.proofs.All.{allTo-at}
 use Rattle.finite.proofs.Fold.{catTo-cong}
 use Rattle.graph.specs.Graph.{Graph, Simple}
 use Rattle.graph6.specs.Format.{plus, mostByte, triangle, sixBits, packed, columnStart, bitsOf, unpacked}
-use Rattle.graph6.proofs.Blocks.{singles-length, singles-at, sixes-length, sixes-at}
+use Rattle.finite.proofs.Blocks.{singles-length, singles-at, sixes-length, sixes-at}
 use Rattle.graph6.proofs.Columns.{columns-none, columns-next, place-before, place-of}
 
 -- the upper triangle

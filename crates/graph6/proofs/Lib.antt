@@ -1,4 +1,3 @@
-pub mod Blocks
 pub mod Starts
 pub mod Columns
 pub mod Bits

@@ -10,7 +10,7 @@ use lib.Seq.{sets}
 use Rattle.finite.specs.Range.{catTo}
 use Rattle.finite.proofs.Fold.{catTo-none, catTo-more, sets-append}
 use Rattle.graph6.specs.Format.{plus, bitsOf}
-use Rattle.graph6.proofs.Blocks.{sixes-length}
+use Rattle.finite.proofs.Blocks.{sixes-length}
 use Rattle.graph6_reading.proofs.bits.unpack.Statement.{statement}
 use Rattle.graph6_reading.proofs.bits.unpack.Tie as tie
 
