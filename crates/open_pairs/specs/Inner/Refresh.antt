@@ -1,0 +1,48 @@
+-- Counting rows anew, and flagging a cell.
+-- Assumes nothing.
+use mathlib.Core.Path.{_≡_}
+use mathlib.Core.List.{List}
+use Prim.Native.Nat.{ℕ, _+_, _-_, _*_, _<_, min}
+use lib.ListN.{getD, set}
+use Rattle.finite.specs.Range.{foldTo}
+use Rattle.answer.specs.declared.switches.Switch.{Switch}
+use Rattle.answer.specs.declared.switches.Switches.{Switches}
+use Rattle.answer.specs.declared.switches.Switches.the-variants.{None, One, Two}
+use Rattle.graph.specs.Tests.{degrees}
+use Rattle.adjacency.specs.Adjacency.{side}
+use Rattle.open_pairs.specs.Inner.Rows.{freeTo, Scannable}
+
+-- row v counted anew, its class being what the array says
+abbrev pub refreshRow : ℕ → List ℕ → List ℕ → List ℕ → ℕ → List ℕ → List ℕ
+refreshRow n classes g full v counts = set counts v (freeTo g full (getD classes v 0) v n)
+
+-- the rows from, .., to - 1
+abbrev pub refreshRange : ℕ → List ℕ → List ℕ → List ℕ → ℕ → ℕ → List ℕ → List ℕ
+refreshRange n classes g full from to counts = foldTo (to - from) (λ i. refreshRow n classes g full (from + i)) counts
+
+-- the rows of the edges that a switch moved: each stands in the row of its lower end
+abbrev pub refreshSwitch : ℕ → List ℕ → List ℕ → List ℕ → Switch → List ℕ → List ℕ
+refreshSwitch n classes g full s counts =
+    refreshRow n classes g full (min (s .b) (s .t)) (refreshRow n classes g full (min (s .a) (s .t)) counts)
+
+abbrev pub refreshSwitches : ℕ → List ℕ → List ℕ → List ℕ → Switches → List ℕ → List ℕ
+refreshSwitches n classes g full None counts = counts
+refreshSwitches n classes g full (One x) counts = refreshSwitch n classes g full x counts
+refreshSwitches n classes g full (Two x y) counts = refreshSwitch n classes g full y (refreshSwitch n classes g full x counts)
+
+-- the cell of class k and the class of the vertices from, .., to - 1 flagged as full
+abbrev pub markFull : ℕ → ℕ → ℕ → List ℕ → List ℕ
+markFull k from to full = foldTo (to - from) (λ i f. set f (k * side + (from + i)) 1) full
+
+-- the array has a class for each of the n vertices
+abbrev pub Classed : ℕ → List ℕ → Type 0
+Classed n classes = (v : ℕ) → v < n → getD classes v 0 < degrees
+
+-- the vertices of a switch, or of all, are below n
+abbrev pub SwitchWithin : ℕ → Switch → Type 0
+SwitchWithin n s = (s .a < n) × (s .b < n) × (s .t < n)
+
+abbrev pub Within : ℕ → Switches → Type 0
+Within n None = 0 < 1
+Within n (One x) = SwitchWithin n x
+Within n (Two x y) = SwitchWithin n x × SwitchWithin n y

@@ -1,0 +1,70 @@
+// The rows' counts and their sums over eight rows: how many open pairs there are, in which row one stands, and one count changed.
+ghost use mathlib.Core.Path.{_≡_};
+ghost use Prim.Native.Nat.{_+_, _-_, _≤_, _<_};
+ghost use lib.ListN.{length, getD, set};
+ghost use Rattle.finite.specs.Range.{sumTo};
+ghost use Rattle.adjacency.specs.Adjacency.{side};
+ghost use Rattle.open_pairs.specs.Inner.Rows.{openTo, Summed};
+use layout::MOST_VERTICES;
+
+// The rows of one sum, and how many sums there are.
+const ROWS: usize = 8;
+
+pub const SUMS: usize = MOST_VERTICES / ROWS;
+
+// An entry of an array of counts, and how many of what it counts are still to pass from it on.
+pub struct Place {
+    pub at: usize,
+    pub rest: usize,
+}
+
+// The entry among from, .., to - 1 in which the position falls.
+fn seek(counts: &[usize], from: usize, to: usize, position: usize) -> Place
+    requires { ⌜ (from ≤ to) × (to ≤ length (now counts)) × (position < sumTo (to - from) (λ i. getD (now counts) (from + i) 0)) ⌝ }
+    ensures { λ r. ⌜ (from ≤ r .at) × (r .at < to) × (sumTo (r .at - from) (λ i. getD (now (counts .entry)) (from + i) 0) + r .rest ≡ position) × (r .rest < getD (now (counts .entry)) (r .at) 0) ⌝ }
+{
+    let mut at = from;
+    let mut rest = position;
+    while at < to {
+        let count = counts[at];
+        if rest < count {
+            return Place { at, rest };
+        }
+        rest -= count;
+        at += 1;
+    }
+    Place { at, rest }
+}
+
+// How many open pairs there are.
+pub fn total(counts: &[usize; MOST_VERTICES], sums: &[usize; SUMS]) -> usize
+    requires { ⌜ Summed (now counts) (now sums) ⌝ }
+    ensures { λ r. ⌜ r ≡ openTo (now (counts .entry)) side ⌝ }
+{
+    let mut sum = 0;
+    for b in 0..SUMS {
+        sum += sums[b];
+    }
+    sum
+}
+
+// The row in which the open pair at the position stands.
+pub fn row_at(counts: &[usize; MOST_VERTICES], sums: &[usize; SUMS], position: usize) -> Place
+    requires { ⌜ Summed (now counts) (now sums) × (position < openTo (now counts) side) ⌝ }
+    ensures { λ r. ⌜ (r .at < side) × (openTo (now (counts .entry)) (r .at) + r .rest ≡ position) × (r .rest < getD (now (counts .entry)) (r .at) 0) ⌝ }
+{
+    let block = seek(sums, 0, SUMS, position);
+    let from = ROWS * block.at;
+    seek(counts, from, from + ROWS, block.rest)
+}
+
+// Row v has m open pairs now.
+pub fn set_row(counts: &mut [usize; MOST_VERTICES], sums: &mut [usize; SUMS], v: usize, m: usize)
+    requires { ⌜ Summed (now counts) (now sums) × (v < side) × (m ≤ side) ⌝ }
+    ensures { λ _. ⌜ now (counts .exit) ≡ set (now (counts .entry)) v m ⌝ }
+    ensures { λ _. ⌜ Summed (set (now (counts .entry)) v m) (now (sums .exit)) ⌝ }
+{
+    let b = v / ROWS;
+    sums[b] = sums[b] - counts[v] + m;
+    counts[v] = m;
+}
