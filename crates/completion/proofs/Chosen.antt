@@ -116,14 +116,15 @@ module _ (n : ℕ) (cls : ℕ → ℕ) (T : ℕ → ℕ → ℕ) where
       distinct e (yes q) = omega (arith, facts .2 q)
       distinct e (no q) = facts .3 q e
 
-  -- after a step in cell (k, l)
+  -- after a join in cell (k, l)
   pub record Stepped (g g′ : List ℕ) (k l : ℕ) : Type 0 where
     pub filling : Filling n cls T g′
     pub cells : (i j : ℕ) → jdm n cls (edge g′) i j ≡ jdm n cls (edge g) i j + atEdge k l i j
     pub one-more : edges n (edge g′) ≡ edges n (edge g) + 1
 
-  pub stepped : (g : List ℕ) → Filling n cls T g → (k l v w : ℕ) → Chosen n cls T g k l v w → Stepped g (joinBytes n cls g v w) k l
-  stepped g f k l v w c =
+  -- the join of any open pair
+  pub opened : (g : List ℕ) → Filling n cls T g → (v w : ℕ) → Open n cls T (edge g) v w → Stepped g (joinBytes n cls g v w) (cls v) (cls w)
+  opened g f v w pair =
       record {
         filling =
             record {
@@ -132,12 +133,15 @@ module _ (n : ℕ) (cls : ℕ → ℕ) (T : ℕ → ℕ → ℕ) where
               target = f .target;
               partial = a .partial;
             };
-        cells = λ i j. rw (← (c .row), ← (c .column)) (a .cells i j);
+        cells = a .cells;
         one-more = a .one-more;
       }
     where
       jo : Joined n cls own (edge g) v w (edge (joinBytes n cls g v w))
-      jo = join-bytes n cls T g v w (f .sized) (f .few) (f .target) (f .partial) (c .pair)
+      jo = join-bytes n cls T g v w (f .sized) (f .few) (f .target) (f .partial) pair
 
       a : AfterJoin n degrees cls own T (edge g) v w (jo .twice) (edge (joinBytes n cls g v w))
-      a = join-works n degrees cls own T (edge g) v w (f .target) (f .partial) (c .pair) (edge (joinBytes n cls g v w)) jo
+      a = join-works n degrees cls own T (edge g) v w (f .target) (f .partial) pair (edge (joinBytes n cls g v w)) jo
+
+  pub stepped : (g : List ℕ) → Filling n cls T g → (k l v w : ℕ) → Chosen n cls T g k l v w → Stepped g (joinBytes n cls g v w) k l
+  stepped g f k l v w c = rw (← (c .row), ← (c .column)) (opened g f v w (c .pair))

@@ -33,10 +33,10 @@ use Rattle.state.proofs.Facts.{edgeTotal, StateFacts, Laid, valid-facts, length
 use Rattle.state.proofs.Checks.{phase-passed, phase-go}
 use Rattle.state.proofs.Graph.{laid-valid}
 use Rattle.join_records.specs.Record.{joinRecordSize}
-use Rattle.completion.specs.Complete.{Ran, mostEdges, fresh, completed, missing, completeLaid, completeAnswer}
+use Rattle.completion.specs.Complete.{Ran, mostEdges, fresh, completed, missing, finishLaid, finishAnswer, completeAnswer}
 use Rattle.completion.proofs.Full.{full-run}
 use Rattle.completion.proofs.Works.{few-edges, Good, Finished, finishes}
-use Rattle.completion.proofs.Records.{completed-length}
+use Rattle.completion.proofs.Records.{Recorded, completed-length}
 
 -- what the checks of a completed state said
 pub record CompleteFacts (j g : List ℕ) : Type 0 where
@@ -56,42 +56,43 @@ module _ (j g : List ℕ) where
   pub phase-complete : phaseVerdict 1 j g ≡ Go → CompleteFacts j g
   phase-complete e = let q = phase-passed 1 j g e in record { lengths = q .0; sound = q .1; phased = q .2 }
 
-  -- what an answer Completed for an output of m bytes says
-  pub record CompletedFacts (m joins switches n : ℕ) : Type 0 where
-    pub facts : CompleteFacts j g
-    pub room : joinRecordSize * missing j g ≤ m
-    pub joins-are : joins ≡ completed j g .joins
-    pub switches-are : switches ≡ completed j g .switches
-    pub length-is : n ≡ length (completed j g .records)
+  -- the work ends in r, whichever pairs it joins
+  module _ (r : Ran) where
+    -- what an answer Completed for an output of m bytes says
+    pub record CompletedFacts (m joins switches n : ℕ) : Type 0 where
+      pub facts : CompleteFacts j g
+      pub room : joinRecordSize * missing j g ≤ m
+      pub joins-are : joins ≡ r .joins
+      pub switches-are : switches ≡ r .switches
+      pub length-is : n ≡ length (r .records)
 
-  pub completed-facts : (m joins switches n : ℕ) → completeAnswer j g m ≡ Completed joins switches n → CompletedFacts m joins switches n
-  completed-facts m joins switches n e =
-      let no = refused-not-completed joins switches n in
-      let p = unless-stopped-passed (phaseVerdict 1 j g) Refused _ (Completed joins switches n) no e in
-      let h = unless-passed (leb (joinRecordSize * missing j g) m) _ _ (Completed joins switches n) (no _) (p .1) in
-      record {
-        facts = phase-complete (p .0);
-        room = leb-true (joinRecordSize * missing j g) m (h .0);
-        joins-are = cc (h .1);
-        switches-are = cc (h .1);
-        length-is = cc (h .1);
-      }
+    pub completed-facts : (m joins switches n : ℕ) → finishAnswer r j g m ≡ Completed joins switches n → CompletedFacts m joins switches n
+    completed-facts m joins switches n e =
+        let no = refused-not-completed joins switches n in
+        let p = unless-stopped-passed (phaseVerdict 1 j g) Refused _ (Completed joins switches n) no e in
+        let h = unless-passed (leb (joinRecordSize * missing j g) m) _ _ (Completed joins switches n) (no _) (p .1) in
+        record {
+          facts = phase-complete (p .0);
+          room = leb-true (joinRecordSize * missing j g) m (h .0);
+          joins-are = cc (h .1);
+          switches-are = cc (h .1);
+          length-is = cc (h .1);
+        }
 
-  -- by the room that an output of m bytes has
-  module _ (m : ℕ) where
-    pub laid-roomy : joinRecordSize * missing j g ≤ m
-        → completeLaid j g m ≡ Completed (completed j g .joins) (completed j g .switches) (length (completed j g .records))
-    laid-roomy h = rw (le-leb (joinRecordSize * missing j g) m h)
+    -- by the room that an output of m bytes has
+    module _ (m : ℕ) where
+      pub laid-roomy : joinRecordSize * missing j g ≤ m → finishLaid r j g m ≡ Completed (r .joins) (r .switches) (length (r .records))
+      laid-roomy h = rw (le-leb (joinRecordSize * missing j g) m h)
 
-    pub laid-short : m < joinRecordSize * missing j g → completeLaid j g m ≡ Refused (refusal OutputLength 0 0)
-    laid-short h = rw (lt-leb (joinRecordSize * missing j g) m h)
+      pub laid-short : m < joinRecordSize * missing j g → finishLaid r j g m ≡ Refused (refusal OutputLength 0 0)
+      laid-short h = rw (lt-leb (joinRecordSize * missing j g) m h)
 
-    pub facts-completed : CompleteFacts j g → joinRecordSize * missing j g ≤ m
-        → completeAnswer j g m ≡ Completed (completed j g .joins) (completed j g .switches) (length (completed j g .records))
-    facts-completed f h = rw (phase-go 1 j g (f .lengths) (f .sound) (f .phased)) (laid-roomy h)
+      pub facts-completed : CompleteFacts j g → joinRecordSize * missing j g ≤ m
+          → finishAnswer r j g m ≡ Completed (r .joins) (r .switches) (length (r .records))
+      facts-completed f h = rw (phase-go 1 j g (f .lengths) (f .sound) (f .phased)) (laid-roomy h)
 
-    pub short-refused : CompleteFacts j g → m < joinRecordSize * missing j g → completeAnswer j g m ≡ Refused (refusal OutputLength 0 0)
-    short-refused f h = rw (phase-go 1 j g (f .lengths) (f .sound) (f .phased)) (laid-short h)
+      pub short-refused : CompleteFacts j g → m < joinRecordSize * missing j g → finishAnswer r j g m ≡ Refused (refusal OutputLength 0 0)
+      short-refused f h = rw (phase-go 1 j g (f .lengths) (f .sound) (f .phased)) (laid-short h)
 
   -- a valid laid state is where a run may begin
   pub good-start : CompleteFacts j g → Good (vertexCount j) (degreeAt j) (jdmOf j) (fresh g)
@@ -106,32 +107,32 @@ module _ (j g : List ℕ) where
       let filling = good-start f .0 in
       omega (arith, few-edges (vertexCount j) (degreeAt j) (jdmOf j) (filling .target) (filling .few))
 
-  -- after it
-  pub record CompleteWorks : Type 0 where
-    pub lengths : lengthsOk j (completed j g .adjacency) ≡ true
-    pub sound : valid j (completed j g .adjacency) ≡ true
-    pub more : edgeTotal j (completed j g .adjacency) ≡ edgeTotal j g + completed j g .joins
-    pub made : completed j g .joins ≡ missing j g
-    pub written : length (completed j g .records) ≡ joinRecordSize * completed j g .joins
-    pub all : sumTo degrees (rowSum (jdmOf j)) ≡ 2 * edgeTotal j (completed j g .adjacency)
-    pub simple : Simple (vertexCount j) (edge (completed j g .adjacency))
-    pub table : (k l : ℕ) → ownJdm (vertexCount j) (edge (completed j g .adjacency)) k l ≡ jdmOf j k l
-    pub no-edge : isolated (vertexCount j) (edge (completed j g .adjacency)) ≡ isolatedOf j
-    pub degrees-exact : (v : ℕ) → v < vertexCount j → degree (vertexCount j) (edge (completed j g .adjacency)) v ≡ degreeAt j v
+  -- after it, in r
+  pub record CompleteWorks (r : Ran) : Type 0 where
+    pub lengths : lengthsOk j (r .adjacency) ≡ true
+    pub sound : valid j (r .adjacency) ≡ true
+    pub more : edgeTotal j (r .adjacency) ≡ edgeTotal j g + r .joins
+    pub made : r .joins ≡ missing j g
+    pub written : length (r .records) ≡ joinRecordSize * r .joins
+    pub all : sumTo degrees (rowSum (jdmOf j)) ≡ 2 * edgeTotal j (r .adjacency)
+    pub simple : Simple (vertexCount j) (edge (r .adjacency))
+    pub table : (k l : ℕ) → ownJdm (vertexCount j) (edge (r .adjacency)) k l ≡ jdmOf j k l
+    pub no-edge : isolated (vertexCount j) (edge (r .adjacency)) ≡ isolatedOf j
+    pub degrees-exact : (v : ℕ) → v < vertexCount j → degree (vertexCount j) (edge (r .adjacency)) v ≡ degreeAt j v
 
-  pub complete-works : CompleteFacts j g → CompleteWorks
-  complete-works f =
+  pub finished-works : CompleteFacts j g → (r : Ran) → Finished (vertexCount j) (degreeAt j) (jdmOf j) g r → Recorded r → CompleteWorks r
+  finished-works f r end recorded =
       record {
-        lengths = lengths-both j g′ (facts .journal-length) (r .filling .sized);
-        sound = laid-valid j g laid g′ (f .phased) (facts .journal-ok) (r .filling .sized) (r .filling .partial) (r .outside);
-        more = omega (arith, r .counted);
-        made = omega (arith, r .counted, r .missing);
-        written = completed-length j g;
-        all = r .missing;
-        simple = r .filling .partial .simple;
-        table = has-table (tableOf j) summed passed (edge g′) (r .filling .partial) (r .full);
-        no-edge = has-isolated (tableOf j) summed passed (edge g′) (r .filling .partial) (r .full);
-        degrees-exact = complete-is-exact (vertexCount j) degrees (degreeAt j) (λ k. k) (jdmOf j) (edge g′) (laid .target) (r .filling .partial) (r .full);
+        lengths = lengths-both j g′ (facts .journal-length) (end .filling .sized);
+        sound = laid-valid j g laid g′ (f .phased) (facts .journal-ok) (end .filling .sized) (end .filling .partial) (end .outside);
+        more = omega (arith, end .counted);
+        made = omega (arith, end .counted, end .missing);
+        written = recorded;
+        all = end .missing;
+        simple = end .filling .partial .simple;
+        table = has-table (tableOf j) summed passed (edge g′) (end .filling .partial) (end .full);
+        no-edge = has-isolated (tableOf j) summed passed (edge g′) (end .filling .partial) (end .full);
+        degrees-exact = complete-is-exact (vertexCount j) degrees (degreeAt j) (λ k. k) (jdmOf j) (edge g′) (laid .target) (end .filling .partial) (end .full);
       }
     where
       facts : StateFacts j g
@@ -147,10 +148,11 @@ module _ (j g : List ℕ) where
       passed = passes-passed (jdmOf j) .0 (laid .passed)
 
       g′ : List ℕ
-      g′ = completed j g .adjacency
+      g′ = r .adjacency
 
-      r : Finished (vertexCount j) (degreeAt j) (jdmOf j) g (completed j g)
-      r = finishes (vertexCount j) (degreeAt j) (jdmOf j) g (good-start f .0) (good-start f .1)
+  pub complete-works : CompleteFacts j g → CompleteWorks (completed j g)
+  complete-works f =
+      finished-works f (completed j g) (finishes (vertexCount j) (degreeAt j) (jdmOf j) g (good-start f .0) (good-start f .1)) (completed-length j g)
 
   -- Where every cell is full, no join is missing: completing makes none, whatever the output, and leaves the matrix as it is.
   module _ (f : CompleteFacts j g)
@@ -160,5 +162,5 @@ module _ (j g : List ℕ) where
 
     pub full-answer : (m : ℕ) → completeAnswer j g m ≡ Completed 0 0 0
     full-answer m =
-        facts-completed m f (omega (arith, complete-works f .made, ap (λ (r : Ran). r .joins) full-completed))
+        facts-completed (completed j g) m f (omega (arith, complete-works f .made, ap (λ (r : Ran). r .joins) full-completed))
         ∙ ap (λ (r : Ran). Completed (r .joins) (r .switches) (length (r .records))) full-completed

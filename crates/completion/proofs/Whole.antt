@@ -28,13 +28,13 @@ use Rattle.finite.specs.Range.{sumTo}
 use Rattle.classes.specs.Inner.Block.{startsOf, classFrom}
 use Rattle.classes.proofs.Blocks.{table-numbered, table-classes}
 use Rattle.join_records.specs.Record.{joinRecordSize}
-use Rattle.completion.specs.Complete.{Ran, fresh, run, mostEdges, completed, missing, completeLaid, completeAdjacency, completeOutput}
+use Rattle.completion.specs.Complete.{Ran, fresh, run, mostEdges, completed, missing, finishLaid, finishAdjacency, finishOutput}
 use Rattle.completion.specs.Inner.Cellwise.{Filling, fillAll}
 use Rattle.completion.specs.Inner.Work.{WroteRecords, Working}
 use Rattle.completion.proofs.Cellwise.{edges-within, fill-all}
 use Rattle.completion.proofs.Output.{wrote-all}
 use Rattle.completion.proofs.Works.{few-edges, finishes}
-use Rattle.completion.proofs.Entry.{laid-roomy, phase-complete, missing-most, complete-works}
+use Rattle.completion.proofs.Entry.{CompleteFacts, CompleteWorks, laid-roomy, missing-most}
 
 module _ (j g cells counts : List ℕ) (passed : phaseVerdict 1 j g ≡ Go) (ed : Counts cells counts)
     (said : tableIn cells (countIn counts 0) ≡ tableOf j) where
@@ -119,23 +119,23 @@ module _ (j g cells counts : List ℕ) (passed : phaseVerdict 1 j g ≡ Go) (ed 
         ∙ ap₂ (λ (m : ℕ) (cls : ℕ → ℕ). run mostEdges m cls (matrixOf cells) (fresh g)) en (table-classes cells ed es)
         ∙ ap (λ (u : DegreeTable). run mostEdges (vertices u) (vertexDegree u) (u .cells) (fresh g)) said
 
--- the work done, in the state r
-module _ (j g : List ℕ) (passed : phaseVerdict 1 j g ≡ Go) {r : Ran} (e : r ≡ completed j g) where
+-- the work done, in the state r; q is what it was to end in
+module _ (j g : List ℕ) {q : Ran} (works : CompleteWorks j g q) {r : Ran} (e : r ≡ q) where
   made : r .joins ≡ missing j g
-  made = ap (λ (s : Ran). s .joins) e ∙ complete-works j g (phase-complete j g passed) .made
+  made = ap (λ (s : Ran). s .joins) e ∙ works .made
 
-  pub joins-few : r .joins ≤ mostEdges
-  joins-few = omega (arith, made, missing-most j g (phase-complete j g passed))
+  pub joins-few : CompleteFacts j g → r .joins ≤ mostEdges
+  joins-few facts = omega (arith, made, missing-most j g facts)
 
   -- its records stand at the start of the output out′
   pub work-done : (out out′ : List ℕ) → joinRecordSize * missing j g ≤ length out → WroteRecords 0 (r .joins) out out′
       → take (joinRecordSize * r .joins) out′ ≡ r .records
-      → (Completed (r .joins) (r .switches) (joinRecordSize * r .joins) ≡ completeLaid j g (length out))
-      × ((r .adjacency ≡ completeAdjacency (completeLaid j g (length out)) j g)
-      × (out′ ≡ completeOutput (completeLaid j g (length out)) j g out))
+      → (Completed (r .joins) (r .switches) (joinRecordSize * r .joins) ≡ finishLaid q j g (length out))
+      × ((r .adjacency ≡ finishAdjacency (finishLaid q j g (length out)) q g)
+      × (out′ ≡ finishOutput (finishLaid q j g (length out)) q out))
   work-done out out′ fits recorded records =
       let whole = wrote-all (r .joins) out out′ (r .records) recorded (omega (arith, made, fits)) records in
-      rw (laid-roomy j g (length out) fits) (
+      rw (laid-roomy j g q (length out) fits) (
         ap (Completed (r .joins) (r .switches)) (whole .1) ∙ ap (λ (s : Ran). Completed (s .joins) (s .switches) (length (s .records))) e,
         (
           ap (λ (s : Ran). s .adjacency) e,

@@ -1,8 +1,8 @@
 -- Completing a partial graph makes exactly as many joins as edges are missing, and ends with every cell at the table: the law for any rule
 -- (crates/graph/proofs/Completion.antt) at the rule of the lowest open pair.
 -- Assumes nothing.
-use mathlib.Core.Path.{_≡_, refl, sym, _∙_}
-use mathlib.Core.Bool.{true, false}
+use mathlib.Core.Path.{_≡_, refl, sym, ap, _∙_}
+use mathlib.Core.Bool.{Bool, true, false}
 use mathlib.Core.List.{List}
 use Prim.Native.Nat.{ℕ, _+_, _*_, _≤_, _<_}
 use native.Mathlib.Nat.{zero-mul, mul-one, mul-le-mul-right}
@@ -10,13 +10,12 @@ use native.Mathlib.Decide.{decLt}
 use native.Mathlib.Omega.{arith}
 use lib.Dec.{ltb}
 use borrow.Author.Tests.{ltb-true, ltb-false}
-use Rattle.finite.specs.Range.{δ, sumTo}
+use Rattle.finite.specs.Range.{δ, sumTo, iterate}
 use Rattle.finite.proofs.Delta.{δ-sym}
 use Rattle.finite.proofs.Sum.{sumTo-term, sumTo-mono, sumTo-cong, sumTo-scale, sumTo-swap, sumTo-const, sumTo-at}
 use Rattle.finite.proofs.Lowest.{lowest-ge, lowest-before, lowest-holds}
 use Rattle.graph.specs.Graph.{jdm, edges, size}
 use Rattle.graph.specs.Target.{Target, Open}
-use Rattle.graph.specs.Switch.{Joined}
 use Rattle.graph.specs.Tests.{leastDegree, mostDegree, degrees}
 use Rattle.graph.proofs.Necessary.{necessary-always}
 use Rattle.graph.specs.Theorems.{Rule, allCells, Ended}
@@ -24,12 +23,12 @@ use Rattle.graph.proofs.Completion.{completes-by-any-rule}
 use Rattle.layout.specs.Layout.{mostVertices}
 use Rattle.adjacency.specs.Adjacency.{edge}
 use Rattle.adjacency.proofs.Facts.{ZeroOutside}
-use Rattle.joining.specs.Join.{own, joinBytes}
+use Rattle.joining.specs.Join.{own}
 use Rattle.joining.proofs.Bytes.{join-bytes, join-outside}
 use Rattle.completion.specs.Choice.{shortCell, shortL, shortK, openW, openV}
-use Rattle.completion.specs.Complete.{Ran, fresh, next, isIncomplete, run, mostEdges}
+use Rattle.completion.specs.Complete.{Ran, fresh, joined, next, isIncomplete, run, mostEdges}
 use Rattle.completion.specs.Inner.Cellwise.{Filling}
-use Rattle.completion.proofs.Chosen.{chosen, stepped}
+use Rattle.completion.proofs.Chosen.{chosen, opened}
 
 module _ (n : ℕ) (cls : ℕ → ℕ) (T : ℕ → ℕ → ℕ) where
   -- every vertex has one class
@@ -144,49 +143,23 @@ module _ (n : ℕ) (cls : ℕ → ℕ) (T : ℕ → ℕ → ℕ) where
       go v w k l ev ew above kl (yes p) = p
       go v w k l ev ew above kl (no p) = above (omega (arith, ev, ew, rises w v (omega arith)))
 
-  -- and joining it keeps what holds
-  pub picks : (s : Ran) → Good s → isIncomplete n cls T s ≡ true
-      → (v w : ℕ) × Open n cls T (edge (s .adjacency)) v w
-      × Joined n cls own (edge (s .adjacency)) v w (edge (next n cls T s .adjacency))
-      × Good (next n cls T s)
-  picks s good e =
-      let g = s .adjacency in
-      let h = short-cell g e in
-      pick g (good .0) (good .1) (shortK n cls T g) (shortL n cls T g (shortK n cls T g)) (h .0) (h .1) (h .2)
-    where
-      pick : (g : List ℕ) → Filling n cls T g → ZeroOutside n g → (k l : ℕ) → k < degrees → l < degrees → jdm n cls (edge g) k l < T k l
-          → (v w : ℕ) × Open n cls T (edge g) v w
-          × Joined n cls own (edge g) v w (edge (joinBytes n cls g (openV n cls g k l) (openW n cls g k l (openV n cls g k l))))
-          × (Filling n cls T (joinBytes n cls g (openV n cls g k l) (openW n cls g k l (openV n cls g k l)))
-          × ZeroOutside n (joinBytes n cls g (openV n cls g k l) (openW n cls g k l (openV n cls g k l))))
-      pick g f out k l kC lC h =
-          let v = openV n cls g k l in
-          let w = openW n cls g k l v in
-          let c = chosen n cls T g f k l kC lC h in (
-            v,
-            w,
-            c .pair,
-            join-bytes n cls T g v w (f .sized) (f .few) (f .target) (f .partial) (c .pair),
-            (
-              stepped n cls T g f k l v w c .filling,
-              λ x y xs ys o. join-outside n cls T g v w (f .sized) (f .few) (f .target) (f .partial) (c .pair) x y xs ys o ∙ out x y xs ys o,
-            ),
-          )
+  -- joining an open pair keeps what holds
+  pub joined-good : (s : Ran) → Good s → (v w : ℕ) → Open n cls T (edge (s .adjacency)) v w → Good (joined n cls s v w)
+  joined-good s good v w pair = (
+    opened n cls T (s .adjacency) (good .0) v w pair .filling,
+    λ x y xs ys o. join-outside n cls T (s .adjacency) v w
+        (good .0 .sized) (good .0 .few) (good .0 .target) (good .0 .partial) pair x y xs ys o
+        ∙ good .1 x y xs ys o,
+  )
 
-  -- the lowest open pair is one rule
-  abbrev lowest-pair : Rule n degrees cls own T Ran
-  lowest-pair =
-      record {
-        graph = λ s. edge (s .adjacency);
-        joins = λ s. s .joins;
-        short = isIncomplete n cls T;
-        next = next n cls T;
-        Good = Good;
-        partial = λ s p. p .0 .partial;
-        stops = stops;
-        picks = picks;
-        counts = λ s. refl;
-      }
+  -- A way to choose the next pair. It works on states of its own, each with a run so far; where a cell is short it joins an open pair v – w.
+  pub record Chooser (S : Type 0) : Type 0 where
+    pub ran : S → Ran
+    pub next : S → S
+    pub v : S → ℕ
+    pub w : S → ℕ
+    pub joins : (s : S) → ran (next s) ≡ joined n cls (ran s) (v s) (w s)
+    pub pair : (s : S) → Good (ran s) → isIncomplete n cls T (ran s) ≡ true → Open n cls T (edge (ran s .adjacency)) (v s) (w s)
 
   -- what completing ends in
   pub record Finished (g : List ℕ) (r : Ran) : Type 0 where
@@ -196,17 +169,60 @@ module _ (n : ℕ) (cls : ℕ → ℕ) (T : ℕ → ℕ → ℕ) where
     pub counted : r .joins + edges n (edge g) ≡ edges n (edge (r .adjacency))
     pub missing : allCells degrees T ≡ 2 * edges n (edge (r .adjacency))
 
+  -- each is one rule
+  module _ {S : Type 0} (c : Chooser S) where
+    -- while a cell is short
+    abbrev pub short : S → Bool
+    short s = isIncomplete n cls T (c .ran s)
+
+    pub next-good : (s : S) → Good (c .ran s) → short s ≡ true → Good (c .ran (c .next s))
+    next-good s good e = rw (c .joins s) (joined-good (c .ran s) good (c .v s) (c .w s) (c .pair s good e))
+
+    abbrev rule : Rule n degrees cls own T S
+    rule =
+        record {
+          graph = λ s. edge (c .ran s .adjacency);
+          joins = λ s. c .ran s .joins;
+          short = short;
+          next = c .next;
+          Good = λ s. Good (c .ran s);
+          partial = λ s p. p .0 .partial;
+          stops = λ s. stops (c .ran s);
+          picks = λ s good e. (
+            c .v s,
+            c .w s,
+            c .pair s good e,
+            rw (c .joins s)
+                (join-bytes n cls T (c .ran s .adjacency) (c .v s) (c .w s)
+                (good .0 .sized) (good .0 .few) (good .0 .target) (good .0 .partial)
+                (c .pair s good e)),
+            next-good s good e,
+          );
+          counts = λ s. ap (λ (r : Ran). r .joins) (c .joins s);
+        }
+
+    pub finishes-by : (s : S) (g : List ℕ) → c .ran s ≡ fresh g → Filling n cls T g → ZeroOutside n g
+        → Finished g (c .ran (iterate mostEdges short (c .next) s))
+    finishes-by s g start f out =
+        record {
+          filling = r .good .0;
+          outside = r .good .1;
+          full = r .full;
+          counted = omega (arith, r .counted, ap (λ (x : Ran). x .joins) start, ap (λ (x : Ran). edges n (edge (x .adjacency))) start);
+          missing = r .missing;
+        }
+      where
+        good : Good (c .ran s)
+        good = rw start (f, out)
+
+        r : Ended n degrees cls own T rule s (iterate mostEdges short (c .next) s)
+        r =
+            completes-by-any-rule n degrees cls own T (f .target) S rule mostEdges s good
+            (omega (arith, few-edges (f .target) (f .few)))
+
+  -- the lowest open pair is one choice
+  abbrev pub lowest-pair : Chooser Ran
+  lowest-pair = record { ran = λ s. s; next = next n cls T; v = nextV; w = nextW; joins = λ s. refl; pair = next-open }
+
   pub finishes : (g : List ℕ) → Filling n cls T g → ZeroOutside n g → Finished g (run mostEdges n cls T (fresh g))
-  finishes g f out =
-      record {
-        filling = r .good .0;
-        outside = r .good .1;
-        full = r .full;
-        counted = omega (arith, r .counted);
-        missing = r .missing;
-      }
-    where
-      r : Ended n degrees cls own T lowest-pair (fresh g) (run mostEdges n cls T (fresh g))
-      r =
-          completes-by-any-rule n degrees cls own T (f .target) Ran lowest-pair mostEdges (fresh g) (f, out)
-          (omega (arith, few-edges (f .target) (f .few)))
+  finishes g f out = finishes-by lowest-pair (fresh g) g refl f out

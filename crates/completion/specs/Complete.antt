@@ -73,23 +73,33 @@ completed j g = run mostEdges (vertexCount j) (degreeAt j) (jdmOf j) (fresh g)
 abbrev pub missing : List ℕ → List ℕ → ℕ
 missing j g = wanted (jdmOf j) - edges (vertexCount j) (edge g)
 
--- on a valid laid state, for an output of m bytes: the check 18, before anything is joined
-abbrev pub completeLaid : List ℕ → List ℕ → ℕ → CompleteAnswer
-completeLaid j g m =
-    let r = completed j g in
+-- What is answered where the work ends in r, whichever pairs it joins: on a valid laid state, for an output of m bytes, the check 18 before
+-- anything is joined
+abbrev pub finishLaid : Ran → List ℕ → List ℕ → ℕ → CompleteAnswer
+finishLaid r j g m =
     unless (leb (joinRecordSize * missing j g) m) (Refused (refusal OutputLength 0 0))
     (Completed (r .joins) (r .switches) (length (r .records)))
 
 -- the checks 1, 2, 3, then 18
-abbrev pub completeAnswer : List ℕ → List ℕ → ℕ → CompleteAnswer
-completeAnswer j g m = unlessStopped (phaseVerdict 1 j g) Refused (completeLaid j g m)
+abbrev pub finishAnswer : Ran → List ℕ → List ℕ → ℕ → CompleteAnswer
+finishAnswer r j g m = unlessStopped (phaseVerdict 1 j g) Refused (finishLaid r j g m)
 
 -- the matrix afterwards
-abbrev pub completeAdjacency : CompleteAnswer → List ℕ → List ℕ → List ℕ
-completeAdjacency (Completed joins switches n) j g = completed j g .adjacency
-completeAdjacency (Refused r) j g = g
+abbrev pub finishAdjacency : CompleteAnswer → Ran → List ℕ → List ℕ
+finishAdjacency (Completed joins switches n) r g = r .adjacency
+finishAdjacency (Refused x) r g = g
 
 -- the output afterwards: the records, and behind them what was there
+abbrev pub finishOutput : CompleteAnswer → Ran → List ℕ → List ℕ
+finishOutput (Completed joins switches n) r out = sets out 0 (r .records)
+finishOutput (Refused x) r out = out
+
+-- completing
+abbrev pub completeAnswer : List ℕ → List ℕ → ℕ → CompleteAnswer
+completeAnswer j g m = finishAnswer (completed j g) j g m
+
+abbrev pub completeAdjacency : CompleteAnswer → List ℕ → List ℕ → List ℕ
+completeAdjacency a j g = finishAdjacency a (completed j g) g
+
 abbrev pub completeOutput : CompleteAnswer → List ℕ → List ℕ → List ℕ → List ℕ
-completeOutput (Completed joins switches n) j g out = sets out 0 (completed j g .records)
-completeOutput (Refused r) j g out = out
+completeOutput a j g out = finishOutput a (completed j g) out

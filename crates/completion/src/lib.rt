@@ -1,51 +1,47 @@
 // Completing (document 01: finish): the checks 1, 2, 3 and 18, then cell by cell each cell gets the joins that it misses; for each join a record
 // is written.
 ghost use mathlib.Core.Path.{_≡_};
-ghost use Prim.Native.Nat.{_*_};
 ghost use lib.ListN.{length};
 ghost use Rattle.answer.specs.declared.Verdict.the-variants.{Go};
 ghost use Rattle.state.specs.Checks.{phaseVerdict};
-ghost use Rattle.completion.specs.Complete.{missing, completeLaid, completeAnswer, completeAdjacency, completeOutput};
+ghost use Rattle.completion.specs.Complete.{completed, finishLaid, finishAdjacency, finishOutput, completeAnswer, completeAdjacency, completeOutput};
 
 mod cell;
 mod fill;
 mod pair;
+pub mod start;
 
 use crate::cell::Totals;
 use crate::fill::complete_rows;
+use crate::start::begin;
 use answer::Cause;
 use answer::CompleteAnswer;
 use answer::Verdict;
 use answer::refuse;
 use join_records::JOIN_RECORD_SIZE;
-use joining::edges_held;
-use layout::edges_wanted;
-use layout::vertex_count;
 use state::phase_check;
-use state::sum_table;
 use table::cells::CELLS;
 
 // On a valid laid state: the check 18, then the joins that are missing.
 fn complete_laid(journal: &[u8], adjacency: &mut [u8], output: &mut [u8]) -> CompleteAnswer
     requires { ⌜ phaseVerdict 1 (now journal) (now adjacency) ≡ Go ⌝ }
-    ensures { λ r. ⌜ r ≡ completeLaid (now (journal .entry)) (now (adjacency .entry)) (length (now (output .entry))) ⌝ }
-    ensures { λ _. ⌜ now (adjacency .exit) ≡ completeAdjacency (completeLaid (now (journal .entry)) (now (adjacency .entry)) (length (now (output .entry)))) (now (journal .entry)) (now (adjacency .entry)) ⌝ }
-    ensures { λ _. ⌜ now (output .exit) ≡ completeOutput (completeLaid (now (journal .entry)) (now (adjacency .entry)) (length (now (output .entry)))) (now (journal .entry)) (now (adjacency .entry)) (now (output .entry)) ⌝ }
+    ensures { λ r. ⌜ r ≡ finishLaid (completed (now (journal .entry)) (now (adjacency .entry))) (now (journal .entry)) (now (adjacency .entry)) (length (now (output .entry))) ⌝ }
+    ensures { λ _. ⌜ now (adjacency .exit) ≡ finishAdjacency (finishLaid (completed (now (journal .entry)) (now (adjacency .entry))) (now (journal .entry)) (now (adjacency .entry)) (length (now (output .entry)))) (completed (now (journal .entry)) (now (adjacency .entry))) (now (adjacency .entry)) ⌝ }
+    ensures { λ _. ⌜ now (output .exit) ≡ finishOutput (finishLaid (completed (now (journal .entry)) (now (adjacency .entry))) (now (journal .entry)) (now (adjacency .entry)) (length (now (output .entry)))) (completed (now (journal .entry)) (now (adjacency .entry))) (now (output .entry)) ⌝ }
 {
     let mut cells = [0u32; CELLS];
-    let d = sum_table(journal, &mut cells);
-    let n = vertex_count(&cells, &d);
-    let mut held = joining::degrees(adjacency, n);
-    let missing = edges_wanted(&cells) - edges_held(&held, n);
-    if output.len() < JOIN_RECORD_SIZE * missing {
+    let begun = begin(journal, adjacency, &mut cells);
+    if output.len() < JOIN_RECORD_SIZE * begun.missing {
         return CompleteAnswer::Refused(refuse(Cause::OutputLength, 0, 0));
     }
-    let s = classes::starts(&d);
+    let counts = begun.counts;
+    let s = classes::starts(&counts);
+    let mut held = begun.held;
     let none = Totals {
         joins: 0,
         switches: 0,
     };
-    let done = complete_rows(adjacency, output, &mut held, &cells, &s, n, none);
+    let done = complete_rows(adjacency, output, &mut held, &cells, &s, begun.n, none);
     CompleteAnswer::Completed(done.joins, done.switches, JOIN_RECORD_SIZE * done.joins)
 }
 

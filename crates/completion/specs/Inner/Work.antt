@@ -7,22 +7,25 @@ use Prim.Native.Nat.{ℕ, _+_, _*_, _≤_, _<_}
 use lib.ListN.{length, getD, take, drop}
 use Rattle.graph.specs.Graph.{jdm, edges}
 use Rattle.graph.specs.Switch.{unsaturated}
-use Rattle.graph.specs.Tests.{degrees}
+use Rattle.graph.specs.Tests.{degrees, vertices}
 use Rattle.graph.specs.Theorems.{allCells}
 use Rattle.adjacency.specs.Adjacency.{edge}
-use Rattle.table.specs.Inner.Cells.{matrixOf}
+use Rattle.table.specs.Inner.Cells.{matrixOf, AtMost, cellSumMost}
 use Rattle.layout.specs.Layout.{mostVertices}
+use Rattle.layout.specs.Inner.Arrays.{countIn, tableIn, Counts}
+use Rattle.journal.specs.Journal.{tableOf}
 use Rattle.joining.specs.Join.{own}
 use Rattle.joining.specs.Inner.Work.{degreesOf}
 use Rattle.classes.specs.Inner.Block.{Numbered, classFrom, blockSum, BlockOf}
 use Rattle.join_records.specs.Record.{joinRecordSize}
-use Rattle.completion.specs.Complete.{Ran}
+use Rattle.completion.specs.Complete.{Ran, mostEdges, missing as missingEdges}
 use Rattle.completion.specs.Inner.Cellwise.{cellMissing, Filling}
 use Rattle.completion.specs.Inner.Cursor.{RowsDone, ColumnsDone}
 use Rattle.completion.specs.Inner.Search.{Ranged}
 use Rattle.completion.specs.declared.pair.Cell.{Cell}
 use Rattle.completion.specs.declared.cell.Cursor.{Cursor}
 use Rattle.completion.specs.declared.cell.Totals.{Totals}
+use Rattle.completion.specs.declared.start.Start.{Start}
 
 -- the matrix with the totals and the output beside it: as many records as joins stand at the output's start
 abbrev pub ran : List ℕ → List ℕ → Totals → Ran
@@ -107,3 +110,13 @@ pub record Countable (g cells : List ℕ) (c : Cell) : Type 0 where
   pub second : c .l < degrees
   pub block : BlockOf g (c .rows .from) (c .rows .to) (c .columns .from) (c .columns .to)
   pub within : blockSum (edge g) (c .rows .from) (c .rows .to) (c .columns .from) (c .columns .to) ≤ matrixOf cells (c .k) (c .l)
+
+-- what the work on a valid laid state begins with: the cells are those of the journal's table, and the rest is what they and the matrix say
+pub record Started (j g cells : List ℕ) (s : Start) : Type 0 where
+  pub said : tableIn cells (countIn (s .counts) 0) ≡ tableOf j
+  pub most : AtMost cellSumMost cells
+  pub counted : Counts cells (s .counts)
+  pub total : s .n ≡ vertices (tableIn cells (countIn (s .counts) 0))
+  pub degrees-held : s .held ≡ degreesOf (s .n) g
+  pub lacks : s .missing ≡ missingEdges j g
+  pub few : s .missing ≤ mostEdges
