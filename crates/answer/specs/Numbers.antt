@@ -21,6 +21,8 @@ use Rattle.answer.specs.declared.RemoveAnswer.{RemoveAnswer}
 use Rattle.answer.specs.declared.RemoveAnswer.the-variants as Remove
 use Rattle.answer.specs.declared.CompleteAnswer.{CompleteAnswer}
 use Rattle.answer.specs.declared.CompleteAnswer.the-variants as Complete
+use Rattle.answer.specs.declared.ShuffleAnswer.{ShuffleAnswer}
+use Rattle.answer.specs.declared.ShuffleAnswer.the-variants as Shuffle
 use Rattle.answer.specs.declared.WrittenAnswer.{WrittenAnswer}
 use Rattle.answer.specs.declared.WrittenAnswer.the-variants as Write
 use Rattle.answer.specs.declared.ReadAnswer.{ReadAnswer}
@@ -130,6 +132,12 @@ abbrev pub completeNumbers : CompleteAnswer → Numbers
 completeNumbers (Complete.Completed joins switches length) =
     record { number = 0; first = joins; second = switches; third = length; fourth = 0; fifth = 0 }
 completeNumbers (Complete.Refused r) = refused r
+
+-- the same, and fourth: the last x
+abbrev pub shuffleNumbers : ShuffleAnswer → Numbers
+shuffleNumbers (Shuffle.Completed joins switches length x) =
+    record { number = 0; first = joins; second = switches; third = length; fourth = x; fifth = 0 }
+shuffleNumbers (Shuffle.Refused r) = refused r
 
 abbrev pub writtenNumbers : WrittenAnswer → Numbers
 writtenNumbers (Write.Written n) = done n 0

@@ -100,6 +100,12 @@ pub enum CompleteAnswer {
     Refused(Refusal),
 }
 
+// Completing by shuffled choice: the same, and the last x.
+pub enum ShuffleAnswer {
+    Completed(usize, usize, usize, u32),
+    Refused(Refusal),
+}
+
 // Writing to an output: the written length.
 pub enum WrittenAnswer {
     Written(usize),

@@ -9,7 +9,19 @@ use Rattle.taking.specs.Take.{takeAnswer, takeJournal}
 use Rattle.laying_out.specs.LayOut.{layOutAnswer, layOutJournal}
 use Rattle.adding.specs.Add.{addAnswer, addAdjacency}
 use Rattle.removing.specs.Remove.{removeAnswer, removeAdjacency}
-use Rattle.completion.specs.Complete.{completeAnswer, completeAdjacency}
+use Rattle.completion.specs.Complete.{Ran, completed, finishAnswer, finishAdjacency}
+use Rattle.shuffling.specs.Shuffle.{shuffled}
+
+-- Which open pair a finish joins next: the lowest one of the lowest short cell (the entry complete), or the one that x picks (document 02, P7: the
+-- entry complete_shuffled).
+pub data Finish : Type 0 where
+  lowestPairs : Finish
+  pickedFrom : ℕ → Finish
+
+-- what a finish ends in; the checks before it, its answer, its matrix and its records are the same for each
+abbrev pub outcome : Finish → List ℕ → List ℕ → Ran
+outcome lowestPairs j g = completed j g
+outcome (pickedFrom x) j g = shuffled j g x .ran
 
 -- the calls that demand 3 lists: those that may change the state, with any arguments, and the reading ones between them; a survey, and
 -- writing or reading graph6, which are lent no state, may stand there too. A list of bytes is a block, or an output as it is lent, with room or without.
@@ -18,7 +30,7 @@ pub data Call : Type 0 where
   layOut : Call
   add : ℕ → ℕ → Call
   remove : ℕ → ℕ → Call
-  complete : List ℕ → Call
+  complete : Finish → List ℕ → Call
   readBack : ℕ → Call
   list : List ℕ → Call
   figures : Call
@@ -57,10 +69,11 @@ after s (remove v w) =
       journal = s .journal;
       adjacency = removeAdjacency (removeAnswer (s .journal) (s .adjacency) v w) (s .adjacency) v w;
     }
-after s (complete out) =
+after s (complete f out) =
+    let r = outcome f (s .journal) (s .adjacency) in
     record {
       journal = s .journal;
-      adjacency = completeAdjacency (completeAnswer (s .journal) (s .adjacency) (length out)) (s .journal) (s .adjacency);
+      adjacency = finishAdjacency (finishAnswer r (s .journal) (s .adjacency) (length out)) r (s .adjacency);
     }
 after s (readBack number) = s
 after s (list out) = s

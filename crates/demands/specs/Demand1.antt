@@ -17,6 +17,7 @@ use Rattle.answer.specs.declared.FiguresAnswer.the-variants as Figs
 use Rattle.answer.specs.declared.AddAnswer.the-variants as Add
 use Rattle.answer.specs.declared.RemoveAnswer.the-variants as Remove
 use Rattle.answer.specs.declared.CompleteAnswer.the-variants as Complete
+use Rattle.answer.specs.declared.ShuffleAnswer.the-variants as Shuffle
 use Rattle.answer.specs.declared.WrittenAnswer.the-variants as Write
 use Rattle.answer.specs.declared.ReadAnswer.the-variants as Read
 use Rattle.clearing.specs.Clear.{clearAnswer, clearBytes}
@@ -32,6 +33,7 @@ use Rattle.graph6_writing.specs.Write.{writeAnswer, writeOutput}
 use Rattle.graph6_reading.specs.Read.{readAnswer, readOutput}
 use Rattle.join_records.specs.Record.{joinRecordSize}
 use Rattle.completion.specs.Complete.{completeAnswer, completeAdjacency, completeOutput}
+use Rattle.shuffling.specs.Shuffle.{shuffleAnswer, shuffleAdjacency, shuffleOutput}
 
 -- n is one of the numbers
 abbrev pub oneOf : ℕ → List ℕ → Bool
@@ -64,6 +66,10 @@ pub record Demand1 : Type 0 where
       × (completeOutput (completeAnswer j g (length out)) j g out ≡ out)
   pub complete-written : (j g out : List ℕ) (joins switches n : ℕ) → completeAnswer j g (length out) ≡ Complete.Completed joins switches n →
       (n ≡ joinRecordSize * joins) × SamePast n out (completeOutput (completeAnswer j g (length out)) j g out)
+  pub shuffle : (j g out : List ℕ) (x : ℕ) (r : Refusal) → shuffleAnswer j g x (length out) ≡ Shuffle.Refused r →
+      Numbered r (1 ∷ 2 ∷ 3 ∷ 18 ∷ []) × (shuffleAdjacency j g x (length out) ≡ g) × (shuffleOutput j g x out ≡ out)
+  pub shuffle-written : (j g out : List ℕ) (x joins switches n y : ℕ) → shuffleAnswer j g x (length out) ≡ Shuffle.Completed joins switches n y →
+      (n ≡ joinRecordSize * joins) × SamePast n out (shuffleOutput j g x out)
   pub list : (j g out : List ℕ) (r : Refusal) → listAnswer j g (length out) ≡ Write.Refused r →
       Numbered r (1 ∷ 2 ∷ 3 ∷ 18 ∷ []) × (listOutput (listAnswer j g (length out)) j g out ≡ out)
   pub list-written : (j g out : List ℕ) (n : ℕ) → listAnswer j g (length out) ≡ Write.Written n →

@@ -19,8 +19,8 @@ use Rattle.journal.specs.Journal.{phase}
 use Rattle.taking.specs.Take.{takeAnswer}
 use Rattle.adding.specs.Add.{addAnswer}
 use Rattle.removing.specs.Remove.{removeAnswer}
-use Rattle.completion.specs.Complete.{completeAnswer}
-use Rattle.demands.specs.Calls.{Call, take, layOut, add, remove, complete, readBack, list, figures, survey, writeGraph6, readGraph6, State, cleared, after, afterAll}
+use Rattle.completion.specs.Complete.{finishAnswer}
+use Rattle.demands.specs.Calls.{Call, take, layOut, add, remove, complete, readBack, list, figures, survey, writeGraph6, readGraph6, Finish, outcome, State, cleared, after, afterAll}
 use Rattle.demands.specs.Matrix.{Short, HasTable}
 use Rattle.demands.specs.Accepted.{accepted, AcceptedIn}
 
@@ -39,7 +39,7 @@ answered adds seen s (take number b ∷ cs) =
 answered adds seen s (layOut ∷ cs) = answered adds seen (after s layOut) cs
 answered adds seen s (add v w ∷ cs) = answered adds seen (after s (add v w)) cs
 answered adds seen s (remove v w ∷ cs) = answered adds seen (after s (remove v w)) cs
-answered adds seen s (complete out ∷ cs) = answered adds seen (after s (complete out)) cs
+answered adds seen s (complete f out ∷ cs) = answered adds seen (after s (complete f out)) cs
 answered adds seen s (readBack number ∷ cs) = answered adds seen s cs
 answered adds seen s (list out ∷ cs) = answered adds seen s cs
 answered adds seen s (figures ∷ cs) = answered adds seen s cs
@@ -67,7 +67,7 @@ quiet s (take number b ∷ cs) = quiet (after s (take number b)) cs
 quiet s (layOut ∷ cs) = quiet (after s layOut) cs
 quiet s (add v w ∷ cs) = addRefused (addAnswer (s .journal) (s .adjacency) v w) && quiet (after s (add v w)) cs
 quiet s (remove v w ∷ cs) = removeRefused (removeAnswer (s .journal) (s .adjacency) v w) && quiet (after s (remove v w)) cs
-quiet s (complete out ∷ cs) = quiet (after s (complete out)) cs
+quiet s (complete f out ∷ cs) = quiet (after s (complete f out)) cs
 quiet s (readBack number ∷ cs) = quiet s cs
 quiet s (list out ∷ cs) = quiet s cs
 quiet s (figures ∷ cs) = quiet s cs
@@ -77,11 +77,11 @@ quiet s (readGraph6 text out ∷ cs) = quiet s cs
 
 pub record Demand2 : Type 0 where
   -- completed: calls since the clear, a completing that was not refused, and calls after it that added and removed nothing
-  pub completed : (before rest : List Call) (out : List ℕ) (joins switches n : ℕ) →
+  pub completed : (before rest : List Call) (f : Finish) (out : List ℕ) (joins switches n : ℕ) →
       let s = afterAll cleared before in
-      completeAnswer (s .journal) (s .adjacency) (length out) ≡ Completed joins switches n →
-      quiet (after s (complete out)) rest ≡ true →
-      HasTable (answeredSum (before ++ complete out ∷ rest)) (afterAll (after s (complete out)) rest)
+      finishAnswer (outcome f (s .journal) (s .adjacency)) (s .journal) (s .adjacency) (length out) ≡ Completed joins switches n →
+      quiet (after s (complete f out)) rest ≡ true →
+      HasTable (answeredSum (before ++ complete f out ∷ rest)) (afterAll (after s (complete f out)) rest)
   -- finished in any way, "touched by these entries alone since its last clear": laid, and no cell is short
   pub finished : (calls : List Call) →
       let s = afterAll cleared calls in

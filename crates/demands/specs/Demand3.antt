@@ -21,8 +21,8 @@ use Rattle.state.specs.Valid.{valid}
 use Rattle.laying_out.specs.LayOut.{layOutAnswer}
 use Rattle.adding.specs.Add.{addAnswer}
 use Rattle.join_records.specs.Record.{joinRecordSize}
-use Rattle.completion.specs.Complete.{completeAnswer}
-use Rattle.demands.specs.Calls.{Call, add, complete, State, cleared, after, afterAll}
+use Rattle.completion.specs.Complete.{finishAnswer}
+use Rattle.demands.specs.Calls.{Call, add, complete, Finish, outcome, State, cleared, after, afterAll}
 use Rattle.demands.specs.Matrix.{Short, HasTable}
 use Rattle.demands.specs.Tally.{Tally, noTally, missingEdges, tallyAll}
 
@@ -54,22 +54,22 @@ pub record CanBeJoined (t : DegreeTable) (s : State) (v w : ℕ) : Type 0 where
 
 -- Completing into the output is not refused; its joins and the tally's edges together are half the sum of all cells of T; the matrix then holds
 -- exactly that many edges more and, as a simple graph, has T in every cell and as many vertices without an edge as the tally's isolated ones.
-pub record Completes (t : Tally) (s : State) (out : List ℕ) : Type 0 where
+pub record Completes (t : Tally) (s : State) (f : Finish) (out : List ℕ) : Type 0 where
   pub joins : ℕ
   pub switches : ℕ
-  pub answer : completeAnswer (s .journal) (s .adjacency) (length out) ≡ Completed joins switches (joinRecordSize * joins)
+  pub answer : finishAnswer (outcome f (s .journal) (s .adjacency)) (s .journal) (s .adjacency) (length out) ≡ Completed joins switches (joinRecordSize * joins)
   pub missing : 2 * (t .edges + joins) ≡ sumTo degrees (rowSum (t .table .cells))
-  pub more : edgesLaid (t .table) (after s (complete out)) ≡ edgesLaid (t .table) s + joins
-  pub has-table : HasTable (t .table) (after s (complete out))
+  pub more : edgesLaid (t .table) (after s (complete f out)) ≡ edgesLaid (t .table) s + joins
+  pub has-table : HasTable (t .table) (after s (complete f out))
 
 -- the output has room for a record of each missing edge (document 02, P2: "the mission's finishing is one with that much room")
 abbrev pub HasRoom : Tally → List ℕ → Type 0
 HasRoom t out = joinRecordSize * missingEdges t ≤ length out
 
 -- completing into a shorter output is refused with 18, and nothing changes
-pub record RefusedShort (s : State) (out : List ℕ) : Type 0 where
-  pub answer : completeAnswer (s .journal) (s .adjacency) (length out) ≡ Refused (refusal OutputLength 0 0)
-  pub unchanged : after s (complete out) ≡ s
+pub record RefusedShort (s : State) (f : Finish) (out : List ℕ) : Type 0 where
+  pub answer : finishAnswer (outcome f (s .journal) (s .adjacency)) (s .journal) (s .adjacency) (length out) ≡ Refused (refusal OutputLength 0 0)
+  pub unchanged : after s (complete f out) ≡ s
 
 -- not laid: refused with 9, 10 or 11 if and only if no simple graph of any size has T (isolated vertices hinder no graph)
 pub record NotLaid (t : Tally) (s : State) : Type 0 where
@@ -79,8 +79,8 @@ pub record NotLaid (t : Tally) (s : State) : Type 0 where
 pub record Laid (t : Tally) (s : State) : Type 0 where
   pub joinable : (v w : ℕ) → OpenPair (t .table) s v w → CanBeJoined (t .table) s v w × CanBeJoined (t .table) s w v
   pub pair : (k l : ℕ) → Short (t .table) s k l → (v w : ℕ) × OpenPair (t .table) s v w
-  pub completes : (out : List ℕ) → HasRoom t out → Completes t s out
-  pub refuses : (out : List ℕ) → (HasRoom t out → ⊥) → RefusedShort s out
+  pub completes : (f : Finish) (out : List ℕ) → HasRoom t out → Completes t s f out
+  pub refuses : (f : Finish) (out : List ℕ) → (HasRoom t out → ⊥) → RefusedShort s f out
 
 -- after every list of calls from a cleared state
 abbrev pub Demand3 : Type 0

@@ -12,3 +12,4 @@ pub mod Graph6
 pub mod Playback
 pub mod Isolated
 pub mod WithinReach
+pub mod Shuffled

@@ -17,7 +17,8 @@ use Rattle.adjacency.specs.Adjacency.{edge, setEdge}
 use Rattle.state.specs.Valid.{lengthsOk, valid}
 use Rattle.state.specs.Laid.{vertexCount}
 use Rattle.adding.specs.Add.{addAnswer, addAdjacency}
-use Rattle.completion.specs.Complete.{missing, completeAnswer, completeAdjacency, completeOutput}
+use Rattle.completion.specs.Complete.{missing, finishAnswer, finishAdjacency, finishOutput}
+use Rattle.demands.specs.Calls.{Finish, outcome}
 
 -- a matrix in play, and whether everything so far fitted it: an edge that was removed was there, one that was added was not
 pub record Played : Type 0 where
@@ -46,15 +47,15 @@ play records g = foldTo (length records / 8) (playRecord records) (record { adja
 
 -- Completing a valid laid state into an output with room: it makes the missing joins, and its records, played onto the matrix of before, fit and give
 -- the matrix of after. Each names two vertices, the lower one first.
-pub record CompletingPlays (j g out : List ℕ) : Type 0 where
+pub record CompletingPlays (f : Finish) (j g out : List ℕ) : Type 0 where
   pub joins : ℕ
   pub switches : ℕ
-  pub answer : completeAnswer j g (length out) ≡ Completed joins switches (8 * joins)
+  pub answer : finishAnswer (outcome f j g) j g (length out) ≡ Completed joins switches (8 * joins)
   pub made : joins ≡ missing j g
-  pub played : play (take (8 * joins) (completeOutput (completeAnswer j g (length out)) j g out)) g
-      ≡ record { adjacency = completeAdjacency (completeAnswer j g (length out)) j g; fitted = true }
+  pub played : play (take (8 * joins) (finishOutput (finishAnswer (outcome f j g) j g (length out)) (outcome f j g) out)) g
+      ≡ record { adjacency = finishAdjacency (finishAnswer (outcome f j g) j g (length out)) (outcome f j g) g; fitted = true }
   pub rising : (i : ℕ) → i < joins →
-      let r = completeOutput (completeAnswer j g (length out)) j g out in
+      let r = finishOutput (finishAnswer (outcome f j g) j g (length out)) (outcome f j g) out in
       (getD r (8 * i) 0 < getD r (8 * i + 1) 0) × (getD r (8 * i + 1) 0 < vertexCount j)
 
 -- an added edge as a record: its ends, and the triples that its answer hands back
@@ -64,7 +65,7 @@ addedRecord v w s =
     v ∷ w ∷ n .a1 ∷ n .b1 ∷ n .t1 ∷ n .a2 ∷ n .b2 ∷ n .t2 ∷ []
 
 pub record Playback : Type 0 where
-  pub completing : (j g out : List ℕ) → lengthsOk j g ≡ true → valid j g ≡ true → phase j ≡ 1 → 8 * missing j g ≤ length out →
-      CompletingPlays j g out
+  pub completing : (f : Finish) (j g out : List ℕ) → lengthsOk j g ≡ true → valid j g ≡ true → phase j ≡ 1 → 8 * missing j g ≤ length out →
+      CompletingPlays f j g out
   pub adding : (j g : List ℕ) (v w : ℕ) (s : Switches) → addAnswer j g v w ≡ Added s →
       play (addedRecord v w s) g ≡ record { adjacency = addAdjacency (addAnswer j g v w) j g v w; fitted = true }

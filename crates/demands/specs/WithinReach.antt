@@ -24,8 +24,8 @@ use Rattle.state.specs.Laid.{vertexCount}
 use Rattle.edgelist.specs.EdgeList.{listOf}
 use Rattle.adding.specs.Add.{addAnswer}
 use Rattle.removing.specs.Remove.{removeAnswer}
-use Rattle.completion.specs.Complete.{completeAnswer}
-use Rattle.demands.specs.Calls.{Call, add, remove, complete, State, emptyMatrix, cleared, after, afterAll}
+use Rattle.completion.specs.Complete.{finishAnswer}
+use Rattle.demands.specs.Calls.{Call, add, remove, complete, Finish, outcome, State, emptyMatrix, cleared, after, afterAll}
 use Rattle.demands.specs.Tally.{noTally, missingEdges, tallyAll}
 
 -- "every simple graph on the laid boards with the table and the boards' degrees": on the N vertices of the table t, each with the degree laid out
@@ -98,8 +98,8 @@ pub record ValidLaid (s : State) : Type 0 where
 
 -- completing makes no join and changes nothing
 pub record NothingToComplete (s : State) : Type 0 where
-  pub no-joins : (out : List ℕ) → completeAnswer (s .journal) (s .adjacency) (length out) ≡ Completed 0 0 0
-  pub unchanged : (out : List ℕ) → after s (complete out) ≡ s
+  pub no-joins : (f : Finish) (out : List ℕ) → finishAnswer (outcome f (s .journal) (s .adjacency)) (s .journal) (s .adjacency) (length out) ≡ Completed 0 0 0
+  pub unchanged : (f : Finish) (out : List ℕ) → after s (complete f out) ≡ s
 
 -- adding the pairs is never refused, makes no switch and ends in H
 pub record Drawn (s : State) (H : Graph) (ps : List Pair) : Type 0 where
@@ -124,8 +124,9 @@ lacking H E v w = E v w - H v w
 
 pub record EveryReplicaWithinReach : Type 0 where
   -- There always is such a graph: what completing ends in is one.
-  pub some : (s : State) (out : List ℕ) (joins switches m : ℕ) → completeAnswer (s .journal) (s .adjacency) (length out) ≡ Completed joins switches m →
-      Replica (tableOf (s .journal)) (edge (after s (complete out) .adjacency))
+  pub some : (s : State) (f : Finish) (out : List ℕ) (joins switches m : ℕ) →
+      finishAnswer (outcome f (s .journal) (s .adjacency)) (s .journal) (s .adjacency) (length out) ≡ Completed joins switches m →
+      Replica (tableOf (s .journal)) (edge (after s (complete f out) .adjacency))
   -- An order is as long as the graph has edges.
   pub order-length : (n : ℕ) (H : Graph) → Simple n H → (ps : List Pair) → Order n H ps → length ps ≡ edges n H
   -- 1. from the empty matrix ("an empty grid"), in any order

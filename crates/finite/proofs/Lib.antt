@@ -4,3 +4,4 @@ pub mod All
 pub mod Lowest
 pub mod Fold
 pub mod Blocks
+pub mod Seek

@@ -1,0 +1,38 @@
+-- Shuffled finishing (document 02, P7): "For each starting x the table is met in as many joins as were missing." The entry's answer is that of the
+-- finish that x picks, and x besides: x after as many steps as joins.
+-- Assumes nothing.
+use mathlib.Core.Path.{_≡_}
+use mathlib.Core.Bool.{true}
+use mathlib.Core.List.{List}
+use Prim.Native.Nat.{ℕ, _*_, _≤_}
+use lib.ListN.{length}
+use Rattle.answer.specs.declared.Refusal.{Refusal}
+use Rattle.answer.specs.declared.CompleteAnswer.the-variants as Complete
+use Rattle.answer.specs.declared.ShuffleAnswer.the-variants.{Completed, Refused}
+use Rattle.graph.specs.Graph.{Simple, ownTable}
+use Rattle.journal.specs.Journal.{phase, tableOf}
+use Rattle.adjacency.specs.Adjacency.{edge}
+use Rattle.state.specs.Valid.{lengthsOk, valid}
+use Rattle.state.specs.Laid.{vertexCount}
+use Rattle.completion.specs.Complete.{missing, finishAnswer}
+use Rattle.shuffling.specs.Choice.{stepsX}
+use Rattle.shuffling.specs.Shuffle.{shuffleAnswer, shuffleAdjacency}
+use Rattle.demands.specs.Calls.{complete, pickedFrom, outcome, State, after}
+use Rattle.demands.specs.Matrix.{HasTable}
+
+-- a valid laid state, from x on, into an output with room
+pub record Shuffles (s : State) (x : ℕ) (out : List ℕ) : Type 0 where
+  pub joins : ℕ
+  pub switches : ℕ
+  pub answer : shuffleAnswer (s .journal) (s .adjacency) x (length out) ≡ Completed joins switches (8 * joins) (stepsX joins x)
+  pub made : joins ≡ missing (s .journal) (s .adjacency)
+  pub has-table : HasTable (tableOf (s .journal)) (after s (complete (pickedFrom x) out))
+
+pub record ShuffledFinishing : Type 0 where
+  pub shuffles : (s : State) (x : ℕ) (out : List ℕ) → lengthsOk (s .journal) (s .adjacency) ≡ true → valid (s .journal) (s .adjacency) ≡ true →
+      phase (s .journal) ≡ 1 → 8 * missing (s .journal) (s .adjacency) ≤ length out → Shuffles s x out
+  -- the entry is the finish of the list of calls that x picks: it is refused where that is, and leaves the matrix that that leaves
+  pub refused : (s : State) (x : ℕ) (out : List ℕ) (r : Refusal) →
+      shuffleAnswer (s .journal) (s .adjacency) x (length out) ≡ Refused r →
+      finishAnswer (outcome (pickedFrom x) (s .journal) (s .adjacency)) (s .journal) (s .adjacency) (length out) ≡ Complete.Refused r
+  pub same-matrix : (s : State) (x : ℕ) (out : List ℕ) → shuffleAdjacency (s .journal) (s .adjacency) x (length out) ≡ after s (complete (pickedFrom x) out) .adjacency

@@ -1,0 +1,1 @@
+// Completing by shuffled choice (document 02, P7).
