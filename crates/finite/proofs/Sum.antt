@@ -1,7 +1,7 @@
 -- Laws of `sumTo`.
 -- Assumes nothing.
 use mathlib.Core.Path.{_≡_, refl, sym, ap, _∙_}
-use mathlib.Core.Logic.{⊎-elim}
+use mathlib.Core.Logic.{_≢_, ⊎-elim}
 use Prim.Native.Nat.{ℕ, zero, suc, _+_, _*_, _-_, _≤_, _<_}
 use native.Mathlib.Nat.{not-suc-le-zero, eq-or-lt-of-le, le-of-suc-le-suc, add-zero, add-suc, add-assoc, zero-mul, one-mul, mul-zero, mul-add, mul-comm, mul-left-comm, suc-mul}
 use native.Mathlib.Numerals.{add-one}
@@ -172,6 +172,16 @@ pub sumTo-split : (n k : ℕ) (f : ℕ → ℕ) → sumTo (n + k) f ≡ sumTo n 
 unfolding sumTo
 sumTo-split n zero f = rw (add-zero, add-zero)
 sumTo-split n (suc k) f = rw (add-suc, sumTo-split n k f) (add-assoc (sumTo n f) (sumTo k (λ i. f (n + i))) (f (n + k)))
+
+-- two sums that differ at one index only
+pub sumTo-change : (n j : ℕ) (f g : ℕ → ℕ) → j < n → ((i : ℕ) → i ≢ j → f i ≡ g i) → sumTo n f + g j ≡ sumTo n g + f j
+unfolding sumTo
+sumTo-change zero j f g h same = absurd (not-suc-le-zero h)
+sumTo-change (suc n) j f g h same =
+    ⊎-elim
+    (λ e. rw e (omega (arith, sumTo-cong n f g (λ i l. same i (omega arith)))))
+    (λ l. omega (arith, sumTo-change n j f g l same, same n (omega arith)))
+    (eq-or-lt-of-le (le-of-suc-le-suc h))
 
 -- a sum of which only the d terms from s on count
 pub sumTo-part : (n s d : ℕ) (f : ℕ → ℕ) → s + d ≤ n → ((i : ℕ) → i < s → f i ≡ 0) → ((i : ℕ) → s + d ≤ i → i < n → f i ≡ 0)

@@ -1,0 +1,67 @@
+-- The free columns of a row: counted from one column to another, and by the bytes of a part of the matrix and of the flags.
+-- Assumes nothing.
+use mathlib.Core.Path.{_≡_, ap, ap₂, _∙_}
+use mathlib.Core.Bool.{_&&_}
+use mathlib.Core.List.{List}
+use Prim.Native.Nat.{ℕ, _+_, _-_, _*_, _≤_, _<_, max}
+use native.Mathlib.Nat.{add-assoc}
+use native.Mathlib.Decide.{ℕ-discrete}
+use native.Mathlib.Omega.{arith}
+use lib.Dec.{eqb}
+use lib.ListN.{length, getD, take, drop}
+use borrow.Author.Tests.{eq-eqb, ne-eqb}
+use Rattle.finite.specs.Range.{bit, sumTo}
+use Rattle.finite.proofs.Sum.{sumTo-none, sumTo-more, sumTo-cong, sumTo-split}
+use Rattle.adjacency.specs.Adjacency.{side, edge}
+use Rattle.slices.proofs.PartSum.{part-length, part-at}
+use Rattle.open_pairs.specs.Inner.Rows.{isFree, freeTo}
+
+-- of two bytes that are 0 or 1 one is 1, or both are 0
+pub taken-or-free : (x y : ℕ) → x ≤ 1 → y ≤ 1 → max x y + bit (eqb x 0 && eqb y 0) ≡ 1
+taken-or-free x y p q = go (ℕ-discrete x 0) (ℕ-discrete y 0)
+  where
+    go : Dec (x ≡ 0) → Dec (y ≡ 0) → max x y + bit (eqb x 0 && eqb y 0) ≡ 1
+    go (yes e) (yes f) = rw (eq-eqb x 0 e, eq-eqb y 0 f) (omega arith)
+    go (yes e) (no f) = rw (eq-eqb x 0 e, ne-eqb y 0 f) (omega arith)
+    go (no e) f = rw (ne-eqb x 0 e) (omega arith)
+
+module _ (g full : List ℕ) (k v : ℕ) where
+  -- none before the first column of the row
+  pub free-none : freeTo g full k v (v + 1) ≡ 0
+  free-none = let e : v + 1 - (v + 1) ≡ 0 = omega arith in rw (e, sumTo-none)
+
+  -- up to a later column there are those before the earlier one, and those between the two
+  pub free-further : (from to : ℕ) → v < from → from ≤ to
+      → freeTo g full k v to ≡ freeTo g full k v from + sumTo (to - from) (λ i. bit (isFree g full k v (from + i)))
+  free-further from to h l =
+      let d = from - (v + 1) in
+      let f : ℕ → ℕ = λ i. bit (isFree g full k v (v + 1 + i)) in
+      let e : to - (v + 1) ≡ d + (to - from) = omega arith in
+      ap (λ (m : ℕ). sumTo m f) e
+      ∙ sumTo-split d (to - from) f
+      ∙ ap (λ (m : ℕ). sumTo d f + m) (sumTo-cong (to - from) (λ i. f (d + i)) (λ i. bit (isFree g full k v (from + i)))
+      (λ i j. ap (λ (w : ℕ). bit (isFree g full k v w)) (omega arith)))
+
+  pub free-next : (w : ℕ) → v < w → freeTo g full k v (w + 1) ≡ freeTo g full k v w + bit (isFree g full k v w)
+  free-next w h =
+      let e : w + 1 - (v + 1) ≡ w - (v + 1) + 1 = omega arith in
+      let f : v + 1 + (w - (v + 1)) ≡ w = omega arith in
+      rw (e, sumTo-more, f)
+
+  -- the places where neither of the two parts has a 1 are the free columns
+  module _ (from n : ℕ) (a : v * side + from + n ≤ length g) (b : k * side + from + n ≤ length full) where
+    pub parts-free : sumTo (length (take n (drop (v * side + from) g)))
+        (λ i. bit (eqb (getD (take n (drop (v * side + from) g)) i 0) 0 && eqb (getD (take n (drop (k * side + from) full)) i 0) 0))
+        ≡ sumTo n (λ i. bit (isFree g full k v (from + i)))
+    parts-free =
+        rw (part-length g (v * side + from) n a)
+        (sumTo-cong n
+        (λ i. bit (eqb (getD (take n (drop (v * side + from) g)) i 0) 0 && eqb (getD (take n (drop (k * side + from) full)) i 0) 0))
+        (λ i. bit (isFree g full k v (from + i)))
+        (λ i l.
+        rw (
+          part-at g (v * side + from) n a i l,
+          part-at full (k * side + from) n b i l,
+          add-assoc (v * side) from i,
+          add-assoc (k * side) from i,
+        )))
