@@ -1,6 +1,6 @@
 -- The free columns of a row: counted from one column to another, and by the bytes of a part of the matrix and of the flags.
 -- Assumes nothing.
-use mathlib.Core.Path.{_≡_, ap, ap₂, _∙_}
+use mathlib.Core.Path.{_≡_, refl, ap, _∙_}
 use mathlib.Core.Bool.{_&&_}
 use mathlib.Core.List.{List}
 use Prim.Native.Nat.{ℕ, _+_, _-_, _*_, _≤_, _<_, max}
@@ -11,10 +11,12 @@ use lib.Dec.{eqb}
 use lib.ListN.{length, getD, take, drop}
 use borrow.Author.Tests.{eq-eqb, ne-eqb}
 use Rattle.finite.specs.Range.{bit, sumTo}
-use Rattle.finite.proofs.Sum.{sumTo-none, sumTo-more, sumTo-cong, sumTo-split}
+use Rattle.finite.proofs.Delta.{bit-le}
+use Rattle.finite.proofs.Sum.{sumTo-none, sumTo-more, sumTo-cong, sumTo-mono, sumTo-const, sumTo-split}
+use Rattle.graph.specs.Tests.{degrees}
 use Rattle.adjacency.specs.Adjacency.{side, edge}
 use Rattle.slices.proofs.PartSum.{part-length, part-at}
-use Rattle.open_pairs.specs.Inner.Rows.{isFree, freeTo}
+use Rattle.open_pairs.specs.Inner.Rows.{isFree, freeTo, Scannable}
 
 -- of two bytes that are 0 or 1 one is 1, or both are 0
 pub taken-or-free : (x y : ℕ) → x ≤ 1 → y ≤ 1 → max x y + bit (eqb x 0 && eqb y 0) ≡ 1
@@ -48,20 +50,49 @@ module _ (g full : List ℕ) (k v : ℕ) where
       let f : v + 1 + (w - (v + 1)) ≡ w = omega arith in
       rw (e, sumTo-more, f)
 
-  -- the places where neither of the two parts has a 1 are the free columns
-  module _ (from n : ℕ) (a : v * side + from + n ≤ length g) (b : k * side + from + n ≤ length full) where
-    pub parts-free : sumTo (length (take n (drop (v * side + from) g)))
-        (λ i. bit (eqb (getD (take n (drop (v * side + from) g)) i 0) 0 && eqb (getD (take n (drop (k * side + from) full)) i 0) 0))
-        ≡ sumTo n (λ i. bit (isFree g full k v (from + i)))
+  pub free-most : (w : ℕ) → freeTo g full k v w ≤ w
+  free-most w =
+      let f : ℕ → ℕ = λ i. bit (isFree g full k v (v + 1 + i)) in
+      let n = w - (v + 1) in
+      omega (arith, sumTo-mono n f (λ i. 1) (λ i l. bit-le (isFree g full k v (v + 1 + i))), sumTo-const 1 n)
+
+  -- the bytes of the columns from, .., from + n - 1: those of row v, and the flags of class k
+  module _ {m : ℕ} (s : Scannable m g full) (kd : k < degrees) (vm : v < m) (from n : ℕ) (h : from + n ≤ m) where
+    abbrev bytes : List ℕ
+    bytes = take n (drop (v * side + from) g)
+
+    abbrev flags : List ℕ
+    flags = take n (drop (k * side + from) full)
+
+    inside : v * side + from + n ≤ length g
+    inside = omega (arith, s .sized, s .few)
+
+    flags-inside : k * side + from + n ≤ length full
+    flags-inside = omega (arith, s .flags, s .few)
+
+    byte-at : (i : ℕ) → i < n → getD bytes i 0 ≡ edge g v (from + i)
+    byte-at i l = part-at g (v * side + from) n inside i l ∙ ap (λ (p : ℕ). getD g p 0) (add-assoc (v * side) from i)
+
+    flag-at : (i : ℕ) → i < n → getD flags i 0 ≡ getD full (k * side + (from + i)) 0
+    flag-at i l = part-at full (k * side + from) n flags-inside i l ∙ ap (λ (p : ℕ). getD full p 0) (add-assoc (k * side) from i)
+
+    pub parts-scannable : (length bytes ≡ length flags) × (length bytes ≤ side)
+        × ((i : ℕ) → i < length bytes → (getD bytes i 0 ≤ 1) × (getD flags i 0 ≤ 1))
+    parts-scannable =
+        rw (part-length g (v * side + from) n inside, part-length full (k * side + from) n flags-inside) (
+          refl,
+          omega (arith, s .few),
+          λ i l. (rw (byte-at i l) (s .binary v (from + i) vm (omega arith)), rw (flag-at i l) (s .flag (k * side + (from + i)))),
+        )
+
+    -- the places where neither has a 1 are the free columns
+    pub parts-free : sumTo (length bytes) (λ i. bit (eqb (getD bytes i 0) 0 && eqb (getD flags i 0) 0)) ≡ sumTo n (λ i. bit (isFree g full k v (from + i)))
     parts-free =
-        rw (part-length g (v * side + from) n a)
-        (sumTo-cong n
-        (λ i. bit (eqb (getD (take n (drop (v * side + from) g)) i 0) 0 && eqb (getD (take n (drop (k * side + from) full)) i 0) 0))
-        (λ i. bit (isFree g full k v (from + i)))
-        (λ i l.
-        rw (
-          part-at g (v * side + from) n a i l,
-          part-at full (k * side + from) n b i l,
-          add-assoc (v * side) from i,
-          add-assoc (k * side) from i,
-        )))
+        rw (part-length g (v * side + from) n inside)
+        (sumTo-cong n (λ i. bit (eqb (getD bytes i 0) 0 && eqb (getD flags i 0) 0)) (λ i. bit (isFree g full k v (from + i)))
+        (λ i l. rw (byte-at i l, flag-at i l)))
+
+    -- of n columns those are free that are not taken
+    pub parts-taken : (r : ℕ) → r + sumTo (length bytes) (λ i. bit (eqb (getD bytes i 0) 0 && eqb (getD flags i 0) 0)) ≡ length bytes
+        → r + sumTo n (λ i. bit (isFree g full k v (from + i))) ≡ n
+    parts-taken r e = omega (arith, part-length g (v * side + from) n inside, parts-free)

@@ -29,9 +29,13 @@ module _ {counts sums : List ℕ} (s : Summed counts sums) where
       rw (e, s .summed b h) (sumTo-split (rowsInSum * b) rowsInSum (λ i. getD counts i 0))
 
   -- the sums before the m-th, together
-  pub open-blocks : (m : ℕ) → m ≤ sumCount → sumTo m (λ i. getD sums i 0) ≡ openTo counts (rowsInSum * m)
-  open-blocks zero h = sumTo-none (λ i. getD sums i 0) ∙ sym (sumTo-none (λ i. getD counts i 0))
-  open-blocks (suc m) h = rw (← (add-one m), sumTo-more, open-blocks m (omega arith)) (sym (open-block m h))
+  blocks : (m : ℕ) → m ≤ sumCount → sumTo m (λ i. getD sums i 0) ≡ openTo counts (rowsInSum * m)
+  blocks zero h = sumTo-none (λ i. getD sums i 0) ∙ sym (sumTo-none (λ i. getD counts i 0))
+  blocks (suc m) h = rw (← (add-one m), sumTo-more, blocks m (omega arith)) (sym (open-block m h))
+
+  -- as a search from sum 0 on has them
+  pub open-blocks : (m : ℕ) → m ≤ sumCount → sumTo (m - 0) (λ i. getD sums (0 + i) 0) ≡ openTo counts (rowsInSum * m)
+  open-blocks m h = let e : m - 0 ≡ m = omega arith in rw e (simp zero-add (blocks m h))
 
   -- the rows up to row w of the b-th sum
   pub open-inside : (b w : ℕ) → rowsInSum * b ≤ w
