@@ -9,16 +9,14 @@ use lib.Dec.{eqb, ltb}
 use lib.ListN.{length, getD, set}
 use Rattle.finite.specs.Range.{bit}
 use Rattle.answer.specs.declared.switches.Switches.{Switches}
-use Rattle.graph.specs.Graph.{jdm}
+use Rattle.graph.specs.Graph.{Simple, jdm}
 use Rattle.graph.specs.Tests.{degrees}
 use Rattle.table.specs.Inner.Cells.{cellsSize, matrixOf}
-use Rattle.adjacency.specs.Adjacency.{side, edge}
+use Rattle.adjacency.specs.Adjacency.{adjacencySize, side, edge}
 use Rattle.classes.specs.Inner.Block.{classFrom}
-use Rattle.joining.specs.Inner.Work.{degreesOf}
 use Rattle.open_pairs.specs.Inner.Rows.{freeTo, Scannable, Summed}
 use Rattle.open_pairs.specs.Inner.Refresh.{refreshRow, refreshRange, refreshSwitches, markFull}
-use Rattle.completion.specs.Complete.{Ran}
-use Rattle.completion.specs.Inner.Work.{Arranged, Saturated, Sound}
+use Rattle.completion.specs.Inner.Work.{Arranged, Saturated}
 
 -- where cell (k, l), k ≤ l, stands in an array
 abbrev pub cellPlace : ℕ → ℕ → ℕ
@@ -27,6 +25,13 @@ cellPlace k l = k * degrees + l
 -- what cell (k, l) has
 abbrev pub cellHas : ℕ → List ℕ → List ℕ → ℕ → ℕ → ℕ
 cellHas n starts g k l = jdm n (classFrom starts) (edge g) k l
+
+-- the cells can be counted: their blocks are blocks of a simple graph of n vertices, and none has more than the table
+pub record Countable (n : ℕ) (cells starts g : List ℕ) : Type 0 where
+  pub sized : length g ≡ adjacencySize
+  pub arranged : Arranged n starts
+  pub simple : Simple n (edge g)
+  pub within : (k l : ℕ) → k < degrees → l < degrees → cellHas n starts g k l ≤ matrixOf cells k l
 
 -- The cells at the places before p are counted, and flagged where they are full; no other is flagged.
 pub record Counted (p n : ℕ) (cells starts g have full : List ℕ) : Type 0 where
