@@ -1,7 +1,7 @@
 -- The free columns of a row: counted from one column to another, and by the bytes of a part of the matrix and of the flags.
 -- Assumes nothing.
 use mathlib.Core.Path.{_≡_, refl, ap, _∙_}
-use mathlib.Core.Bool.{_&&_}
+use mathlib.Core.Bool.{Bool, _&&_}
 use mathlib.Core.List.{List}
 use Prim.Native.Nat.{ℕ, _+_, _-_, _*_, _≤_, _<_, max}
 use native.Mathlib.Nat.{add-assoc}
@@ -44,11 +44,12 @@ module _ (g full : List ℕ) (k v : ℕ) where
       ∙ ap (λ (m : ℕ). sumTo d f + m) (sumTo-cong (to - from) (λ i. f (d + i)) (λ i. bit (isFree g full k v (from + i)))
       (λ i j. ap (λ (w : ℕ). bit (isFree g full k v w)) (omega arith)))
 
-  pub free-next : (w : ℕ) → v < w → freeTo g full k v (w + 1) ≡ freeTo g full k v w + bit (isFree g full k v w)
-  free-next w h =
+  -- one column more, which is free or not
+  pub free-next : (w : ℕ) → v < w → (t : Bool) → t ≡ isFree g full k v w → freeTo g full k v (w + 1) ≡ freeTo g full k v w + bit t
+  free-next w h t is =
       let e : w + 1 - (v + 1) ≡ w - (v + 1) + 1 = omega arith in
       let f : v + 1 + (w - (v + 1)) ≡ w = omega arith in
-      rw (e, sumTo-more, f)
+      rw (e, sumTo-more, f, is)
 
   pub free-most : (w : ℕ) → freeTo g full k v w ≤ w
   free-most w =

@@ -1,10 +1,9 @@
 -- `open_pairs::column::column_at` meets its contract: what is left of the position is what the free columns passed leave of it.
 -- Assumes nothing.
-use mathlib.Core.Path.{_≡_, sym, ap, _∙_}
+use mathlib.Core.Path.{_≡_}
 use mathlib.Core.Logic.{⊎-elim}
 use Prim.Native.Nat.{_+_, _-_, _≤_, _<_}
 use native.Mathlib.Omega.{arith}
-use Rattle.finite.specs.Range.{bit}
 use Rattle.open_pairs.specs.Inner.Rows.{freeTo}
 use Rattle.open_pairs.proofs.Columns.{free-next}
 use Rattle.open_pairs.proofs.column.column_at.Statement.{statement}
@@ -29,7 +28,7 @@ column-at-spec =
     (λ c.
     let f = c .before .before in
     let l = f .before .before in
-    (l .loop .inv .0, omega arith, sym (f .is-free .ensures) ∙ c .before .if1 .taken, omega arith))  -- returns
+    (l .loop .inv .0, omega arith, rw (← (f .is-free .ensures)) (c .before .if1 .taken), omega arith))  -- returns
     (λ c. omega arith)  -- sub-rest
     (λ c. omega arith)  -- add-w
     (λ c. omega arith)  -- loop-less
@@ -37,12 +36,12 @@ column-at-spec =
     let f = c .before in
     let l = f .before .before in
     let x = l .before .before .before .before .args in
-    let next = free-next (x .adjacency .now) (x .full .now) (x .k) (x .v) (l .loop .w) (l .loop .inv .0) in (
+    let next = free-next (x .adjacency .now) (x .full .now) (x .k) (x .v) (l .loop .w) (l .loop .inv .0) (f .is-free .result) (f .is-free .ensures) in (
       omega arith,
       omega arith,
       ⊎-elim
-          (λ t. omega (arith, ap bit (sym (f .is-free .ensures) ∙ t .0 .taken)))
-          (λ t. omega (arith, ap bit (sym (f .is-free .ensures) ∙ t .0 .left)))
+          (λ t. omega (arith, rw (t .0 .taken) at next))
+          (λ t. omega (arith, rw (t .0 .left) at next))
           (c .if1 .came),
     ))  -- loop-again
     (λ c.
