@@ -51,6 +51,7 @@ module _ (g full : List ℕ) (k v : ℕ) where
       let f : v + 1 + (w - (v + 1)) ≡ w = omega arith in
       rw (e, sumTo-more, f, is)
 
+  -- no more than there are columns
   pub free-most : (w : ℕ) → freeTo g full k v w ≤ w
   free-most w =
       let f : ℕ → ℕ = λ i. bit (isFree g full k v (v + 1 + i)) in
@@ -87,7 +88,7 @@ module _ (g full : List ℕ) (k v : ℕ) where
         )
 
     -- the places where neither has a 1 are the free columns
-    pub parts-free : sumTo (length bytes) (λ i. bit (eqb (getD bytes i 0) 0 && eqb (getD flags i 0) 0)) ≡ sumTo n (λ i. bit (isFree g full k v (from + i)))
+    parts-free : sumTo (length bytes) (λ i. bit (eqb (getD bytes i 0) 0 && eqb (getD flags i 0) 0)) ≡ sumTo n (λ i. bit (isFree g full k v (from + i)))
     parts-free =
         rw (part-length g (v * side + from) n inside)
         (sumTo-cong n (λ i. bit (eqb (getD bytes i 0) 0 && eqb (getD flags i 0) 0)) (λ i. bit (isFree g full k v (from + i)))

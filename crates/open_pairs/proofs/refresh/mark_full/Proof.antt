@@ -1,11 +1,10 @@
 -- `open_pairs::refresh::mark_full` meets its contract: the flags of the vertices passed are set.
 -- Assumes nothing.
-use mathlib.Core.Path.{_≡_, refl, sym}
-use Prim.Native.Nat.{_+_, _-_, _*_, _≤_}
+use mathlib.Core.Path.{_≡_, refl}
+use Prim.Native.Nat.{_+_, _-_, _≤_}
 use native.Mathlib.Omega.{arith}
 use lib.ListN.{length, length-set}
 use Rattle.finite.proofs.Fold.{foldTo-none, foldTo-more}
-use Rattle.adjacency.specs.Adjacency.{side}
 use Rattle.open_pairs.specs.Inner.Rows.{flagsSize}
 use Rattle.open_pairs.specs.Inner.Refresh.{markFull}
 use Rattle.open_pairs.proofs.refresh.mark_full.Statement.{statement}
