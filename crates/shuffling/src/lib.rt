@@ -1,2 +1,3 @@
 // Completing by shuffled choice (document 02, P7).
+mod picker;
 mod track;
