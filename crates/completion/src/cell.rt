@@ -38,7 +38,7 @@ pub struct Step {
 }
 
 // The lowest vertex of from, .., to - 1 with fewer than k edges; to where there is none.
-fn advance(held: &[usize; MOST_VERTICES], from: usize, to: usize, k: usize) -> usize
+pub fn advance(held: &[usize; MOST_VERTICES], from: usize, to: usize, k: usize) -> usize
     requires { ⌜ to ≤ side ⌝ }
     ensures { λ r. ⌜ r ≡ lowest from to (λ i. ltb (getD (now (held .entry)) i 0) k) ⌝ }
 {

@@ -42,7 +42,7 @@ fn cell_at(starts: &[usize; STARTS], k: usize, l: usize) -> Cell
 }
 
 // What a join adds to cell (k, l).
-fn unit(k: usize, l: usize) -> usize
+pub fn unit(k: usize, l: usize) -> usize
     ensures { λ r. ⌜ (r ≡ cond (eqb k l) 2 1) × (0 < r) ⌝ }
 {
     if k == l {

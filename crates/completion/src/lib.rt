@@ -6,8 +6,8 @@ ghost use Rattle.answer.specs.declared.Verdict.the-variants.{Go};
 ghost use Rattle.state.specs.Checks.{phaseVerdict};
 ghost use Rattle.completion.specs.Complete.{completed, finishLaid, finishAdjacency, finishOutput, completeAnswer, completeAdjacency, completeOutput};
 
-mod cell;
-mod fill;
+pub mod cell;
+pub mod fill;
 mod pair;
 pub mod start;
 

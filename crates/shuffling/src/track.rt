@@ -1,10 +1,8 @@
 // What is kept beside the matrix so that the open pairs need not be counted again for each join: how much each cell has, flags of the full ones,
 // the open pairs of each row, and sums of these.
 ghost use mathlib.Core.Path.{_≡_};
-ghost use mathlib.Core.Bool.{cond};
 ghost use Prim.Native.Nat.{_+_, _≤_, _<_};
-ghost use lib.Dec.{eqb};
-ghost use lib.ListN.{length, replicate};
+ghost use lib.ListN.{replicate};
 ghost use Rattle.graph.specs.Tests.{degrees};
 ghost use Rattle.table.specs.Inner.Cells.{cellsSize, matrixOf};
 ghost use Rattle.open_pairs.specs.Inner.Rows.{flagsSize, Scannable, Summed};
@@ -14,6 +12,7 @@ ghost use Rattle.shuffling.specs.Inner.Track.{cellPlace, Countable, Coun
 use answer::switches::Switches;
 use classes::STARTS;
 use classes::block_sum;
+use completion::fill::unit;
 use layout::MOST_VERTICES;
 use open_pairs::refresh::mark_full;
 use open_pairs::refresh::refresh_range;
@@ -88,16 +87,6 @@ pub fn count_cells(
     for k in 0..DEGREES {
         count_row(adjacency, cells, starts, have, full, n, k);
     }
-}
-
-// What a join adds to cell (k, l).
-fn unit(k: usize, l: usize) -> usize
-    ensures { λ r. ⌜ r ≡ cond (eqb k l) 2 1 ⌝ }
-{
-    if k == l {
-        return 2;
-    }
-    1
 }
 
 // One more edge in cell (k, l), k ≤ l. Whether it is full now.
