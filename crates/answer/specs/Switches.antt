@@ -1,6 +1,6 @@
 -- The switches of a join (document 02, P2): how many there are, and their two places where each has one.
 -- Assumes nothing.
-use Prim.Native.Nat.{ℕ}
+use Prim.Native.Nat.{ℕ, _<_}
 use Rattle.answer.specs.declared.switches.Switch.{Switch}
 use Rattle.answer.specs.declared.switches.Switches.{Switches}
 use Rattle.answer.specs.declared.switches.Switches.the-variants.{None, One, Two}
@@ -10,6 +10,12 @@ abbrev pub switchCount : Switches → ℕ
 switchCount None = 0
 switchCount (One x) = 1
 switchCount (Two x y) = 2
+
+-- P holds of each of them
+abbrev pub Each : (Switch → Type 0) → Switches → Type 0
+Each P None = 0 < 1
+Each P (One x) = P x
+Each P (Two x y) = P x × P y
 
 -- what stands for a vertex of a switch that was not needed: no vertex has this number
 abbrev pub unused : ℕ

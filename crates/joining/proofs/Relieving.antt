@@ -61,7 +61,7 @@ module _ {n : ℕ} {cls : ℕ → ℕ} {g : List ℕ} {a o : ℕ} (j : Joinable 
 
   -- a is saturated, so it is switched
   module _ (full : unsaturated n cls own (edge g) a ≡ false) where
-    chosen : Choices n degrees cls own (j .table) (edge g) a o b t
+    pub chosen : Choices n degrees cls own (j .table) (edge g) a o b t
     chosen = switch-works n degrees cls own (j .table) (edge g) a o (j .target) (j .partial) (j .pair) full .0
 
   ready : Ready n degrees cls own (j .table) (edge g) a o (edge (relieveBytes n cls g a o))

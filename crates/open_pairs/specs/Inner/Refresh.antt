@@ -5,6 +5,7 @@ use mathlib.Core.List.{List}
 use Prim.Native.Nat.{ℕ, _+_, _-_, _*_, _<_, min}
 use lib.ListN.{getD, set}
 use Rattle.finite.specs.Range.{foldTo}
+use Rattle.answer.specs.Switches.{Each}
 use Rattle.answer.specs.declared.switches.Switch.{Switch}
 use Rattle.answer.specs.declared.switches.Switches.{Switches}
 use Rattle.answer.specs.declared.switches.Switches.the-variants.{None, One, Two}
@@ -43,6 +44,4 @@ abbrev pub SwitchWithin : ℕ → Switch → Type 0
 SwitchWithin n s = (s .a < n) × (s .b < n) × (s .t < n)
 
 abbrev pub Within : ℕ → Switches → Type 0
-Within n None = 0 < 1
-Within n (One x) = SwitchWithin n x
-Within n (Two x y) = SwitchWithin n x × SwitchWithin n y
+Within n s = Each (SwitchWithin n) s
