@@ -1,12 +1,12 @@
 -- What a join leaves alone: each edge that it moves stands in the row of its lower end, and the other rows keep their columns above them.
 -- Assumes nothing.
-use mathlib.Core.Path.{_≡_, refl, _∙_}
-use mathlib.Core.Bool.{Bool, true, false, cond}
+use mathlib.Core.Path.{_≡_, refl, sym, _∙_}
+use mathlib.Core.Bool.{Bool, true, false, false≢true, cond}
 use mathlib.Core.List.{List}
 use mathlib.Core.Logic.{_≢_}
-use Prim.Native.Nat.{ℕ, _<_, min}
+use Prim.Native.Nat.{ℕ, _<_}
 use native.Mathlib.Omega.{arith}
-use Rattle.answer.specs.Switches.{Each}
+use Rattle.answer.specs.Switches.{SwitchBelow, RowApart, Each}
 use Rattle.answer.specs.declared.switches.Switch.{Switch}
 use Rattle.graph.specs.Switch.{unsaturated}
 use Rattle.adjacency.specs.Adjacency.{edge, setEdge}
@@ -15,14 +15,6 @@ use Rattle.joining.specs.Join.{own, transferAt, switchAt, neighborSwitch
 use Rattle.joining.specs.Inner.Work.{Joinable}
 use Rattle.joining.proofs.Relieving.{chosen, joinable-next, joinable-last}
 
--- the vertices of a switch are below n
-abbrev pub SwitchBelow : ℕ → Switch → Type 0
-SwitchBelow n s = (s .a < n) × (s .b < n) × (s .t < n)
-
--- u is not the row of an edge that the switch moved
-abbrev pub ApartFrom : ℕ → Switch → Type 0
-ApartFrom u s = (u ≢ min (s .a) (s .t)) × (u ≢ min (s .b) (s .t))
-
 -- of the switches of both ends, those that were made
 each-made : (P : Switch → Type 0) (p q : Bool) (x y : Switch) → (p ≡ false → P x) → (q ≡ false → P y) → Each P (inOrder p q x y)
 each-made P true true x y f h = omega arith
@@ -30,13 +22,10 @@ each-made P true false x y f h = h refl
 each-made P false true x y f h = f refl
 each-made P false false x y f h = (f refl, h refl)
 
-never : true ≡ false → ⊥
-never h = let z : _≡_ {A = ℕ} 0 1 = cc in omega arith
-
 made-each : (P : Switch → Type 0) (p q : Bool) (x y : Switch) → Each P (inOrder p q x y) → (p ≡ false → P x) × (q ≡ false → P y)
-made-each P true true x y e = ((λ h. absurd (never h)), (λ h. absurd (never h)))
-made-each P true false x y e = ((λ h. absurd (never h)), (λ h. e))
-made-each P false true x y e = ((λ h. e), (λ h. absurd (never h)))
+made-each P true true x y e = ((λ h. absurd (false≢true (sym h))), (λ h. absurd (false≢true (sym h))))
+made-each P true false x y e = ((λ h. absurd (false≢true (sym h))), (λ h. e))
+made-each P false true x y e = ((λ h. e), (λ h. absurd (false≢true (sym h))))
 made-each P false false x y e = ((λ h. e .0), (λ h. e .1))
 
 module _ {n : ℕ} {cls : ℕ → ℕ} {g : List ℕ} {a o : ℕ} (j : Joinable n cls g a o) where
@@ -44,7 +33,7 @@ module _ {n : ℕ} {cls : ℕ → ℕ} {g : List ℕ} {a o : ℕ} (j : Joinable 
   switch-below full = (j .pair .first, chosen j full .b-vertex, chosen j full .t-vertex)
 
   -- room made at a
-  relieve-apart : (u z : ℕ) → u < z → z < n → (unsaturated n cls own (edge g) a ≡ false → ApartFrom u (switchAt n cls g a o))
+  relieve-apart : (u z : ℕ) → u < z → z < n → (unsaturated n cls own (edge g) a ≡ false → RowApart u (switchAt n cls g a o))
       → edge (relieveBytes n cls g a o) u z ≡ edge g u z
   relieve-apart u z uz zn apart = go (unsaturated n cls own (edge g) a) refl
     where
@@ -66,10 +55,10 @@ module _ {n : ℕ} {cls : ℕ → ℕ} {g : List ℕ} {v w : ℕ} (j : Joinable 
       (switchAt n cls (relieveBytes n cls g v w) w v) (switch-below j) (switch-below (joinable-next j))
 
   -- the join of v and w above it
-  pub join-apart : v < w → (u z : ℕ) → u < z → z < n → u ≢ v → Each (ApartFrom u) (joinSwitches n cls g v w)
+  pub join-apart : v < w → (u z : ℕ) → u < z → z < n → u ≢ v → Each (RowApart u) (joinSwitches n cls g v w)
       → edge (joinBytes n cls g v w) u z ≡ edge g u z
   join-apart vw u z uz zn uv apart =
-      let parts = made-each (ApartFrom u) (unsaturated n cls own (edge g) v) (unsaturated n cls own (edge (relieveBytes n cls g v w)) w)
+      let parts = made-each (RowApart u) (unsaturated n cls own (edge g) v) (unsaturated n cls own (edge (relieveBytes n cls g v w)) w)
       (switchAt n cls g v w) (switchAt n cls (relieveBytes n cls g v w) w v) apart in
       let last = joinable-last j in
       set-other (relieveBytes n cls (relieveBytes n cls g v w) w v) v w 1 (last .sized)

@@ -2,10 +2,11 @@
 ghost use mathlib.Core.Path.{_≡_};
 ghost use Prim.Native.Nat.{_≤_, _<_};
 ghost use lib.ListN.{length};
+ghost use Rattle.answer.specs.Switches.{SwitchBelow};
 ghost use Rattle.graph.specs.Tests.{degrees};
 ghost use Rattle.adjacency.specs.Adjacency.{side};
 ghost use Rattle.open_pairs.specs.Inner.Rows.{flagsSize, Scannable, Summed};
-ghost use Rattle.open_pairs.specs.Inner.Refresh.{refreshRow, refreshRange, refreshSwitch, refreshSwitches, markFull, Classed, SwitchWithin, Within};
+ghost use Rattle.open_pairs.specs.Inner.Refresh.{refreshRow, refreshRange, refreshSwitch, refreshSwitches, markFull, Classed, Within};
 use crate::column::row_open;
 use crate::row::SUMS;
 use crate::row::set_row;
@@ -64,7 +65,7 @@ fn refresh_switch(
     n: usize,
     s: Switch,
 )
-    requires { ⌜ Scannable n (now adjacency) (now full) × Classed n (now classes) × Summed (now counts) (now sums) × SwitchWithin n s ⌝ }
+    requires { ⌜ Scannable n (now adjacency) (now full) × Classed n (now classes) × Summed (now counts) (now sums) × SwitchBelow n s ⌝ }
     ensures { λ _. ⌜ now (counts .exit) ≡ refreshSwitch n (now (classes .entry)) (now (adjacency .entry)) (now (full .entry)) s (now (counts .entry)) ⌝ }
     ensures { λ _. ⌜ Summed (now (counts .exit)) (now (sums .exit)) ⌝ }
 {

@@ -5,7 +5,7 @@ use mathlib.Core.List.{List}
 use Prim.Native.Nat.{ℕ, _+_, _-_, _*_, _<_, min}
 use lib.ListN.{getD, set}
 use Rattle.finite.specs.Range.{foldTo}
-use Rattle.answer.specs.Switches.{Each}
+use Rattle.answer.specs.Switches.{SwitchBelow, Each}
 use Rattle.answer.specs.declared.switches.Switch.{Switch}
 use Rattle.answer.specs.declared.switches.Switches.{Switches}
 use Rattle.answer.specs.declared.switches.Switches.the-variants.{None, One, Two}
@@ -39,9 +39,6 @@ markFull k from to full = foldTo (to - from) (λ i f. set f (k * side + (from + 
 abbrev pub Classed : ℕ → List ℕ → Type 0
 Classed n classes = (v : ℕ) → v < n → getD classes v 0 < degrees
 
--- the vertices of a switch, or of all, are below n
-abbrev pub SwitchWithin : ℕ → Switch → Type 0
-SwitchWithin n s = (s .a < n) × (s .b < n) × (s .t < n)
-
+-- the vertices of all switches are below n
 abbrev pub Within : ℕ → Switches → Type 0
-Within n s = Each (SwitchWithin n) s
+Within n s = Each (SwitchBelow n) s
