@@ -1,9 +1,10 @@
 -- Where the classes start, that the ones of a block between two starts are a cell of the joint degree matrix, and that those of a
 -- block on the diagonal are twice the ones below it.
 -- Assumes nothing.
-use mathlib.Core.Path.{_≡_, sym, ap, ap₂, fun-ext, _∙_}
+use mathlib.Core.Path.{_≡_, refl, sym, ap, ap₂, fun-ext, _∙_}
 use mathlib.Core.List.{List}
 use Prim.Native.Nat.{ℕ, _+_, _-_, _*_, _≤_, _<_}
+use native.Mathlib.Decide.{decLt}
 use native.Mathlib.Omega.{arith}
 use lib.Dec.{ltb}
 use lib.ListN.{getD, replicate, length-replicate}
@@ -73,6 +74,17 @@ module _ {n : ℕ} {starts : List ℕ} (m : Numbered n starts) where
       rw (m .started, start-at (m .counts) k (omega arith), start-at (m .counts) (k + 1) (omega arith))
       (classOf-range degrees (countIn (m .counts)) v k (omega (arith, m .all)) .0
       (sym (ap (λ (cls : ℕ → ℕ). cls v) (class-counted (m .counts))) ∙ sym (ap (λ (s : List ℕ). classFrom s v) (m .started)) ∙ e))
+
+  -- classes rise with the vertices
+  pub class-rises : (v w : ℕ) → v ≤ w → w < n → classFrom starts v < degrees → classFrom starts w < degrees → classFrom starts v ≤ classFrom starts w
+  class-rises v w vw wn vd wd = go (decLt (classFrom starts w) (classFrom starts v))
+    where
+      go : Dec (classFrom starts w < classFrom starts v) → classFrom starts v ≤ classFrom starts w
+      go (yes h) =
+          let lower = class-only (classFrom starts v) v vd (omega arith) refl in
+          let higher = class-only (classFrom starts w) w wd wn refl in
+          absurd (omega (arith, lower .0, higher .1, start-rises (classFrom starts w + 1) (classFrom starts v) (omega arith) (omega (arith, vd))))
+      go (no h) = omega arith
 
   -- the ones between the starts of two classes are a cell
   pub block-cell : (E : Graph) (k l : ℕ) → k < degrees → l < degrees

@@ -16,7 +16,7 @@ use Rattle.finite.proofs.Fold.{iterate-next}
 use Rattle.finite.proofs.Delta.{δ-self}
 use Rattle.graph.specs.Graph.{jdm, edges, atEdge}
 use Rattle.graph.specs.Tests.{leastDegree, mostDegree, degrees}
-use Rattle.graph.proofs.Edge.{atEdge-here}
+use Rattle.graph.proofs.Edge.{atEdge-cell}
 use Rattle.graph.proofs.Necessary.{necessary-always}
 use Rattle.graph.specs.Theorems.{allCells}
 use Rattle.graph.proofs.Completion.{cells-twice}
@@ -54,13 +54,6 @@ module _ (n : ℕ) (cls : ℕ → ℕ) (T : ℕ → ℕ → ℕ) where
   -- a join adds 1 to its cell, or 2 on the diagonal
   abbrev unit : ℕ → ℕ → ℕ
   unit k l = cond (eqb k l) 2 1
-
-  unit-step : (k l : ℕ) → atEdge k l k l ≡ unit k l
-  unit-step k l = go (ℕ-discrete k l)
-    where
-      go : Dec (k ≡ l) → atEdge k l k l ≡ unit k l
-      go (yes e) = rw (e, eq-eqb l l refl, δ-self l)
-      go (no e) = rw (ne-eqb k l e) (atEdge-here k l e)
 
   -- what a cell misses is a whole number of joins
   whole : (g : List ℕ) → Filling n cls T g → (k l : ℕ) → k < degrees → l < degrees
@@ -119,7 +112,7 @@ module _ (n : ℕ) (cls : ℕ → ℕ) (T : ℕ → ℕ → ℕ) where
         more q =
             let st = stepped n cls T g (q .0) k l (openV n cls g k l) (openW n cls g k l (openV n cls g k l))
             (chosen n cls T g (q .0) k l kC lC (count-short i h (q .1))) in
-            (st .filling, st .cells k l ∙ rw (unit-step k l, q .1, suc-mul) (omega arith))
+            (st .filling, st .cells k l ∙ rw (atEdge-cell k l, q .1, suc-mul) (omega arith))
 
     -- while some are missing, the cell is short
     pub part-short : (i : ℕ) → i < cellMissing n cls T (s .adjacency) k l

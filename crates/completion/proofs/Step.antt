@@ -15,7 +15,8 @@ use Rattle.finite.proofs.Lowest.{lowest-le, lowest-ge, lowest-before}
 use Rattle.answer.specs.Switches.{switchCount}
 use Rattle.answer.specs.declared.switches.Switches.{Switches}
 use Rattle.graph.specs.Graph.{degree}
-use Rattle.graph.specs.Switch.{unsaturated, Joined}
+use Rattle.graph.specs.Switch.{unsaturated}
+use Rattle.graph.specs.Target.{Open}
 use Rattle.graph.specs.Tests.{degrees}
 use Rattle.graph.proofs.Resume.{join-degree}
 use Rattle.layout.specs.Layout.{mostVertices}
@@ -41,7 +42,7 @@ use Rattle.completion.proofs.Cursor.{rows-after, columns-after}
 use Rattle.completion.proofs.Search.{Found, found, searchable}
 
 -- the search in the array of degrees passes over saturated vertices only
-low-saturated : (n : ℕ) (cls : ℕ → ℕ) (g held : List ℕ) (k from to low r : ℕ) → n ≤ mostVertices → ClassRange n cls k from to
+pub low-saturated : (n : ℕ) (cls : ℕ → ℕ) (g held : List ℕ) (k from to low r : ℕ) → n ≤ mostVertices → ClassRange n cls k from to
     → held ≡ degreesOf n g → low ≤ to → Saturated n cls g k low → r ≡ lowest low to (λ i. ltb (getD held i 0) k) → Saturated n cls g k r
 low-saturated n cls g held k from to low r few range eh lt sat er i ir ik = go (decLt i low)
   where
@@ -51,6 +52,20 @@ low-saturated n cls g held k from to low r few range eh lt sat er i ir ik = go (
         let passed = lowest-before low to (λ i. ltb (getD held i 0) k) lt i (omega arith) (omega arith) in
         let i-to : i < to = omega (arith, lowest-le low to (λ i. ltb (getD held i 0) k) lt) in
         rw ik (rw (held-is n few g eh i (omega (arith, range .within))) at passed)
+
+-- over a join no vertex loses edges, so saturated vertices stay so
+pub saturated-stays : (n : ℕ) (cls : ℕ → ℕ) (T : ℕ → ℕ → ℕ) (g : List ℕ) → Filling n cls T g → (v w : ℕ) → Open n cls T (edge g) v w
+    → (k low : ℕ) → low ≤ n → Saturated n cls g k low → Saturated n cls (joinBytes n cls g v w) k low
+saturated-stays n cls T g f v w pair k low ln sat i h e =
+    le-ltb (degree n (edge (joinBytes n cls g v w)) i) (cls i)
+    (omega (
+      arith,
+      ltb-false (degree n (edge g) i) (cls i) (sat i h e),
+      join-degree n degrees cls own T (f .target) (edge g) v w (f .partial) pair (edge (joinBytes n cls g v w))
+          (join-bytes n cls T g v w (f .sized) (f .few) (f .target) (f .partial) pair)
+          i
+          (omega arith),
+    ))
 
 module _ {n : ℕ} {cls : ℕ → ℕ} {c : Cell} {u : Cursor} {room : ℕ} {s : Ran} {held : List ℕ} (p : Steppable n cls c u room s held) where
   abbrev g : List ℕ
@@ -76,25 +91,11 @@ module _ {n : ℕ} {cls : ℕ → ℕ} {c : Cell} {u : Cursor} {room : ℕ} {s :
       searchable n cls g c (p .ranged) (filling .few) (u .at .v) (u .at .w) (p .resumes .row) (omega (arith, find .row-from, find .row-below))
       (p .resumes .column) (p .resumes .columns)
 
-  -- over the join no vertex loses edges, so saturated vertices stay so
   abbrev g′ : List ℕ
   g′ = joinBytes n cls g (openV n cls g k l) (openW n cls g k l (openV n cls g k l))
 
-  joined : Joined n cls own (edge g) (openV n cls g k l) (openW n cls g k l (openV n cls g k l)) (edge g′)
-  joined =
-      join-bytes n cls (p .table) g (openV n cls g k l) (openW n cls g k l (openV n cls g k l))
-      (filling .sized) (filling .few) (filling .target) (filling .partial)
-      (chose .pair)
-
   stays : (j low : ℕ) → low ≤ n → Saturated n cls g j low → Saturated n cls g′ j low
-  stays j low ln sat i h e =
-      le-ltb (degree n (edge g′) i) (cls i)
-      (omega (
-        arith,
-        ltb-false (degree n (edge g) i) (cls i) (sat i h e),
-        join-degree n degrees cls own (p .table) (filling .target) (edge g) (openV n cls g k l) (openW n cls g k l (openV n cls g k l))
-            (filling .partial) (chose .pair) (edge g′) joined i (omega arith),
-      ))
+  stays = saturated-stays n cls (p .table) g filling (openV n cls g k l) (openW n cls g k l (openV n cls g k l)) (chose .pair)
 
   -- there is an edge to add, so its record fits
   pub step-room : joinRecordSize * s .joins + joinRecordSize ≤ room

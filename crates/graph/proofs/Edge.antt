@@ -2,11 +2,14 @@
 -- its vertices alone.
 -- Assumes nothing.
 use mathlib.Core.Path.{_≡_, refl, sym, ap, ap₂, _∙_}
+use mathlib.Core.Bool.{cond}
 use mathlib.Core.Logic.{_≢_}
 use Prim.Native.Nat.{ℕ, _+_, _-_, _*_, _≤_, _<_}
 use native.Mathlib.Nat.{mul-comm, mul-assoc, mul-add, zero-mul, mul-zero}
 use native.Mathlib.Decide.{ℕ-discrete}
 use native.Mathlib.Omega.{arith}
+use lib.Dec.{eqb}
+use borrow.Author.Tests.{eq-eqb, ne-eqb}
 use Rattle.finite.specs.Range.{δ, sumTo}
 use Rattle.finite.proofs.Delta.{δ-self, δ-other, δ-sym}
 use Rattle.finite.proofs.Sum.{sumTo-cong, sumTo-add, sumTo-at}
@@ -53,6 +56,22 @@ atEdge-here x y h = rw (δ-self x, δ-self y, δ-other x y h, zero-mul (δ y x))
 
 pub atEdge-back : (x y : ℕ) → x ≢ y → atEdge x y y x ≡ 1
 atEdge-back x y h = atEdge-sym x y y x ∙ atEdge-here x y h
+
+-- as cells: an edge adds 1 to the cell of its ends' classes, or 2 on the diagonal, and of the cells from the diagonal on it changes no other
+pub atEdge-cell : (k l : ℕ) → atEdge k l k l ≡ cond (eqb k l) 2 1
+atEdge-cell k l = go (ℕ-discrete k l)
+  where
+    go : Dec (k ≡ l) → atEdge k l k l ≡ cond (eqb k l) 2 1
+    go (yes e) = rw (e, eq-eqb l l refl, δ-self l)
+    go (no e) = rw (ne-eqb k l e) (atEdge-here k l e)
+
+pub atEdge-upper : (k l i j : ℕ) → k ≤ l → i ≤ j → (i ≡ k → j ≡ l → ⊥) → atEdge k l i j ≡ 0
+atEdge-upper k l i j kl ij h = go (place k l i j)
+  where
+    go : Place k l i j → atEdge k l i j ≡ 0
+    go (forth p q) = absurd (h p q)
+    go (back p q) = absurd (h (omega arith) (omega arith))
+    go (elsewhere e) = e
 
 pub atEdge-loop : (x y v : ℕ) → x ≢ y → atEdge x y v v ≡ 0
 atEdge-loop x y v h = go (place x y v v)

@@ -1,2 +1,4 @@
 pub mod Picked
 pub mod Works
+pub mod Following
+pub mod Seeking
