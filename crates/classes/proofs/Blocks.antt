@@ -15,7 +15,7 @@ use Rattle.finite.proofs.Sum.{sumTo-more, sumTo-le, sumTo-triangle}
 use Rattle.graph.specs.Graph.{Graph, jdm}
 use Rattle.graph.specs.Numbering.{total, classOf}
 use Rattle.graph.specs.Tests.{degrees, vertices, vertexDegree}
-use Rattle.graph.proofs.Numbering.{classOf-range}
+use Rattle.graph.proofs.Numbering.{classOf-below, classOf-range}
 use Rattle.graph.proofs.Ranges.{jdm-block}
 use Rattle.layout.specs.Inner.Arrays.{countIn, tableIn, Counts}
 use Rattle.layout.proofs.Counted.{counted, counted-total}
@@ -58,6 +58,12 @@ module _ {n : ℕ} {starts : List ℕ} (m : Numbered n starts) where
 
   pub start-most : (k : ℕ) → k ≤ degrees → getD starts k 0 ≤ n
   start-most k h = rw (m .started, start-at (m .counts) k h, ← (m .all)) (sumTo-le k degrees (countIn (m .counts)) h)
+
+  -- each vertex has a class
+  pub class-below : (v : ℕ) → v < n → classFrom starts v < degrees
+  class-below v h =
+      rw (m .started, ap (λ (cls : ℕ → ℕ). cls v) (class-counted (m .counts)))
+      (classOf-below degrees (countIn (m .counts)) v (omega (arith, m .all)))
 
   -- the vertices of class k are those between its start and the next
   pub class-inside : (k v : ℕ) → k < degrees → getD starts k 0 ≤ v → v < getD starts (k + 1) 0 → classFrom starts v ≡ k

@@ -1,3 +1,4 @@
 pub mod Columns
+pub mod Marked
 pub mod Sums
 pub mod Refreshed

@@ -1,3 +1,4 @@
+pub mod Cells
 pub mod Picked
 pub mod Works
 pub mod Following
