@@ -24,6 +24,11 @@ use Rattle.open_pairs.proofs.Marked.{marked-length, marked-inside, marked-outsi
 use Rattle.completion.specs.Inner.Work.{Arranged}
 use Rattle.shuffling.specs.Inner.Track.{cellPlace, cellHas, Countable, Counted}
 
+-- a cell on or above the diagonal stands at its place
+pub cell-at : (x : List ℕ) (k l : ℕ) → k ≤ l → l < degrees → matrixOf x k l ≡ getD x (cellPlace k l) 0
+cell-at x k l kl ld =
+    rw (lt-ltb k degrees (omega arith), lt-ltb l degrees ld) (ap (λ (p : ℕ). getD x p 0) (omega arith))
+
 -- a place other than p is before the next one where it is before p
 before-next : (q p : ℕ) → q ≢ p → ltb q (p + 1) ≡ ltb q p
 before-next q p h = go (decLt q p)

@@ -95,9 +95,10 @@ fn add_to_cell(cells: &[u32; CELLS], have: &mut [u32; CELLS], k: usize, l: usize
     ensures { λ r. ⌜ r ≡ isFullNow (now (cells .entry)) k l (now (have .entry)) ⌝ }
     ensures { λ _. ⌜ now (have .exit) ≡ haveAfter k l (now (have .entry)) ⌝ }
 {
+    let want = upper_cell(cells, k, l);
     let sum = upper_cell(have, k, l) + unit(k, l);
     have[k * DEGREES + l] = sum as u32;
-    sum == upper_cell(cells, k, l)
+    sum == want
 }
 
 // After v, of class k, was joined to a vertex of class l: where their cell is full now, all rows of class k lose their columns of class l.
