@@ -1,6 +1,6 @@
--- `shuffling::track::count_cell` meets its contract.
+-- `shuffling::track::count_cell` meets its contract: a cell that the table has nothing in has nothing, and no other has more than the table.
 -- Assumes nothing.
-use mathlib.Core.Path.{refl, sym, _∙_}
+use mathlib.Core.Path.{sym, _∙_}
 use mathlib.Core.Logic.{⊎-elim}
 use native.Mathlib.Omega.{arith}
 use borrow.Author.Needs.{needs}
