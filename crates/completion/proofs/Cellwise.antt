@@ -27,6 +27,7 @@ use Rattle.completion.specs.Choice.{shortCell, shortL, shortK, openW, op
 use Rattle.completion.specs.Complete.{Ran, next, isIncomplete, run}
 use Rattle.completion.specs.Inner.Cellwise.{cellStep, cellMissing, fillCell, fillRow, fillAll, Filling}
 use Rattle.completion.proofs.Chosen.{Chosen, chosen, Stepped, stepped}
+use Rattle.completion.proofs.Works.{lowest-pair}
 use Rattle.completion.proofs.Full.{full-row, full-run}
 
 module _ (n : ℕ) (cls : ℕ → ℕ) (T : ℕ → ℕ → ℕ) where
@@ -265,7 +266,7 @@ module _ (n : ℕ) (cls : ℕ → ℕ) (T : ℕ → ℕ → ℕ) where
 
     -- Cell by cell is what `run` does.
     pub fill-all : Filling n cls T (s₀ .adjacency) → run fuel n cls T s₀ ≡ fillAll n cls T s₀
-    fill-all f = r .progress .left ∙ full-run n cls T s full (fuel - s .joins)
+    fill-all f = r .progress .left ∙ full-run n cls T (lowest-pair n cls T) s full (fuel - s .joins)
       where
         s : Ran
         s = fillAll n cls T s₀

@@ -2,7 +2,7 @@
 -- exactly the joins that are missing, writes a record of each, leaves the state valid, and the matrix then holds a simple graph with the summed table;
 -- into a shorter output it is refused.
 -- Assumes nothing.
-use mathlib.Core.Path.{_≡_, sym, ap, subst, _∙_}
+use mathlib.Core.Path.{_≡_, sym, subst}
 use mathlib.Core.Bool.{true}
 use mathlib.Core.List.{List}
 use Prim.Native.Nat.{ℕ, _+_, _*_, _≤_, _<_}
@@ -19,7 +19,7 @@ use Rattle.answer.specs.declared.CompleteAnswer.the-variants.{Completed, Refuse
 use Rattle.answer.proofs.Checks.{unless-passed, unless-stopped-passed}
 use Rattle.finite.specs.Range.{sumTo}
 use Rattle.graph.specs.Graph.{Simple, degree, ownJdm, isolated}
-use Rattle.graph.specs.Tests.{leastDegree, degrees, rowSum, Table}
+use Rattle.graph.specs.Tests.{degrees, rowSum, Table}
 use Rattle.graph.proofs.Complete.{complete-is-exact}
 use Rattle.graph.proofs.Passes.{Passed, passes-passed}
 use Rattle.graph.proofs.Realizability.{has-table, has-isolated}
@@ -28,13 +28,12 @@ use Rattle.journal.proofs.Table.{jdm-table}
 use Rattle.adjacency.specs.Adjacency.{edge}
 use Rattle.state.specs.Checks.{phaseVerdict}
 use Rattle.state.specs.Valid.{lengthsOk, valid}
-use Rattle.state.specs.Laid.{vertexCount, degreeAt, cellAt}
+use Rattle.state.specs.Laid.{vertexCount, degreeAt}
 use Rattle.state.proofs.Facts.{edgeTotal, StateFacts, Laid, valid-facts, lengths-both}
 use Rattle.state.proofs.Checks.{phase-passed, phase-go}
 use Rattle.state.proofs.Graph.{laid-valid}
 use Rattle.join_records.specs.Record.{joinRecordSize}
-use Rattle.completion.specs.Complete.{Ran, mostEdges, fresh, completed, missing, finishLaid, finishAnswer, completeAnswer}
-use Rattle.completion.proofs.Full.{full-run}
+use Rattle.completion.specs.Complete.{Ran, mostEdges, fresh, completed, missing, finishLaid, finishAnswer}
 use Rattle.completion.proofs.Works.{few-edges, Good, Finished, finishes}
 use Rattle.completion.proofs.Records.{Recorded, completed-length}
 
@@ -153,14 +152,3 @@ module _ (j g : List ℕ) where
   pub complete-works : CompleteFacts j g → CompleteWorks (completed j g)
   complete-works f =
       finished-works f (completed j g) (finishes (vertexCount j) (degreeAt j) (jdmOf j) g (good-start f .0) (good-start f .1)) (completed-length j g)
-
-  -- Where every cell is full, no join is missing: completing makes none, whatever the output, and leaves the matrix as it is.
-  module _ (f : CompleteFacts j g)
-      (full : (k l : ℕ) → leastDegree ≤ k → k < degrees → k ≤ l → l < degrees → jdmOf j k l ≤ cellAt j g k l) where
-    pub full-completed : completed j g ≡ fresh g
-    full-completed = full-run (vertexCount j) (degreeAt j) (jdmOf j) (fresh g) full mostEdges
-
-    pub full-answer : (m : ℕ) → completeAnswer j g m ≡ Completed 0 0 0
-    full-answer m =
-        facts-completed (completed j g) m f (omega (arith, complete-works f .made, ap (λ (r : Ran). r .joins) full-completed))
-        ∙ ap (λ (r : Ran). Completed (r .joins) (r .switches) (length (r .records))) full-completed

@@ -7,13 +7,14 @@ use Prim.Native.Nat.{ℕ, _≤_, _<_}
 use native.Mathlib.Omega.{arith}
 use lib.Dec.{ltb}
 use borrow.Author.Tests.{le-ltb}
+use Rattle.finite.specs.Range.{iterate}
 use Rattle.finite.proofs.Fold.{iterate-stop}
 use Rattle.finite.proofs.Lowest.{lowest-none}
 use Rattle.graph.specs.Graph.{jdm}
 use Rattle.graph.specs.Tests.{leastDegree, degrees}
 use Rattle.adjacency.specs.Adjacency.{edge}
 use Rattle.completion.specs.Choice.{shortCell, shortL}
-use Rattle.completion.specs.Complete.{Ran, next, isIncomplete, run}
+use Rattle.completion.proofs.Works.{Chooser, short}
 
 -- a row whose cells are full from the diagonal on has no short one
 pub full-row : (n : ℕ) (cls : ℕ → ℕ) (T : ℕ → ℕ → ℕ) (g : List ℕ) (i : ℕ) → i < degrees
@@ -22,13 +23,15 @@ full-row n cls T g i iC full =
     rw (lowest-none i degrees (shortCell n cls T g i) (omega arith) (λ j ij jC. le-ltb (jdm n cls (edge g) i j) (T i j) (full j ij jC)))
     (le-ltb degrees degrees (omega arith))
 
-module _ (n : ℕ) (cls : ℕ → ℕ) (T : ℕ → ℕ → ℕ) (s : Ran)
-    (full : (i j : ℕ) → leastDegree ≤ i → i < degrees → i ≤ j → j < degrees → T i j ≤ jdm n cls (edge (s .adjacency)) i j) where
-  full-complete : isIncomplete n cls T s ≡ false
+-- whichever pairs are chosen
+module _ (n : ℕ) (cls : ℕ → ℕ) (T : ℕ → ℕ → ℕ) {S : Type 0} (c : Chooser n cls T S) (s : S)
+    (full : (i j : ℕ) → leastDegree ≤ i → i < degrees → i ≤ j → j < degrees → T i j ≤ jdm n cls (edge (c .ran s .adjacency)) i j) where
+  full-complete : short n cls T c s ≡ false
   full-complete =
-      rw (lowest-none leastDegree degrees (λ i. ltb (shortL n cls T (s .adjacency) i) degrees) (omega arith)
-      (λ i i1 iC. full-row n cls T (s .adjacency) i iC (λ j ij jC. full i j i1 iC ij jC)))
+      let g = c .ran s .adjacency in
+      rw (lowest-none leastDegree degrees (λ i. ltb (shortL n cls T g i) degrees) (omega arith)
+      (λ i i1 iC. full-row n cls T g i iC (λ j ij jC. full i j i1 iC ij jC)))
       (le-ltb degrees degrees (omega arith))
 
-  pub full-run : (fuel : ℕ) → run fuel n cls T s ≡ s
-  full-run fuel = iterate-stop fuel 0 (isIncomplete n cls T) (next n cls T) s full-complete
+  pub full-run : (fuel : ℕ) → iterate fuel (short n cls T c) (c .next) s ≡ s
+  full-run fuel = iterate-stop fuel 0 (short n cls T c) (c .next) s full-complete
