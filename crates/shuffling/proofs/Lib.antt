@@ -1,5 +1,6 @@
 pub mod Cells
 pub mod Picked
 pub mod Works
+pub mod Answers
 pub mod Following
 pub mod Seeking
