@@ -10,6 +10,7 @@ use lib.ListN.{length}
 use lib.Seq.{sets, length-sets}
 use Rattle.slices.proofs.Part.{drop-sets}
 use borrow.Author.Tests.{leb-true}
+use Rattle.answer.specs.declared.Refusal.{Refusal}
 use Rattle.answer.specs.declared.ClearAnswer.{ClearAnswer}
 use Rattle.answer.specs.declared.TakeAnswer.{TakeAnswer}
 use Rattle.answer.specs.declared.TakeAnswer.the-variants as Take
@@ -49,9 +50,13 @@ use Rattle.graph6.specs.Format.{sizeOf, tooLarge, wellFormed}
 use Rattle.graph6_writing.specs.Write.{writeText, writeListed, writeAnswer, writeOutput}
 use Rattle.graph6_reading.specs.Read.{readList, readAnswer, readOutput}
 use Rattle.join_records.specs.Record.{joinRecordSize}
-use Rattle.completion.specs.Complete.{completed, missing, completeLaid, completeAdjacency, completeOutput}
-use Rattle.completion.proofs.Entry.{completed-facts, complete-works}
-use Rattle.demands.specs.Demand1.{oneOf, SamePast, Demand1}
+use Rattle.completion.specs.Complete.{Ran, completed, missing, finishLaid, finishAnswer, finishAdjacency, finishOutput}
+use Rattle.completion.proofs.Entry.{completed-facts}
+use Rattle.shuffling.specs.Shuffle.{shuffled}
+use Rattle.shuffling.proofs.Answers.{with-x-refused, with-x-completed}
+use Rattle.demands.specs.Calls.{Finish, lowestPairs, pickedFrom, outcome}
+use Rattle.demands.specs.Demand1.{oneOf, Numbered, SamePast, Demand1}
+use Rattle.demands.proofs.Finishes.{outcome-works}
 use Rattle.demands.proofs.Chains.{OfClear, OfTake, OfLength, OfLayOut, OfFigures, OfAdd, OfRemove, OfComplete, OfWritten, OfRead, behind, state-numbers, phase-numbers, layout-numbers, clear-chain, takeLater, later-numbers, take-chain, length-chain, add-chain, remove-chain, complete-chain, fits-chain, list-numbers, survey-chain, read-chain}
 
 -- what was written stands at the start, and nothing behind it changes
@@ -95,6 +100,30 @@ read-numbers t m =
     let n = length (readList t) in
     read-chain (not (tooLarge t)) (wellFormed t) (leb n m) n (sizeOf t) m (leb-true n m)
 
+-- a finish, whichever pairs it joins
+finish-refused : (j g : List ℕ) (r : Ran) (out : List ℕ) (q : Refusal) → finishAnswer r j g (length out) ≡ Complete.Refused q
+    → Numbered q (1 ∷ 2 ∷ 3 ∷ 18 ∷ []) × (finishAdjacency (finishAnswer r j g (length out)) r g ≡ g)
+    × (finishOutput (finishAnswer r j g (length out)) r out ≡ out)
+finish-refused j g r out q e = (
+  subst (OfComplete (1 ∷ 2 ∷ 3 ∷ 18 ∷ [])) e
+      (behind OfComplete _ (phaseVerdict 1 j g) Complete.Refused (finishLaid r j g (length out)) (λ r h. h) (phase-numbers 1 j g _)
+      (complete-chain (leb (joinRecordSize * missing j g) (length out)) (r .joins) (r .switches) (length (r .records)))),
+  ap (λ (a : CompleteAnswer). finishAdjacency a r g) e,
+  ap (λ (a : CompleteAnswer). finishOutput a r out) e,
+)
+
+finish-written : (f : Finish) (j g out : List ℕ) (joins switches n : ℕ)
+    → finishAnswer (outcome f j g) j g (length out) ≡ Complete.Completed joins switches n
+    → (n ≡ joinRecordSize * joins) × SamePast n out (finishOutput (finishAnswer (outcome f j g) j g (length out)) (outcome f j g) out)
+finish-written f j g out joins switches n e =
+    let r = outcome f j g in
+    let c = completed-facts j g r (length out) joins switches n e in
+    let x = outcome-works j g f (c .facts) in (
+      omega (arith, c .length-is, c .joins-are, x .written),
+      subst (SamePast n out) (sym (ap (λ (a : CompleteAnswer). finishOutput a r out) e))
+          (past out (r .records) n (c .length-is) (omega (arith, c .room, x .made, x .written))),
+    )
+
 pub demand-1 : Demand1
 demand-1 =
     record {
@@ -134,20 +163,11 @@ demand-1 =
             (remove-chain (ltb v (vertexCount j)) (ltb w (vertexCount j)) (not (eqb v w)) (eqb (edge g v w) 1))),
         ap (λ (a : RemoveAnswer). removeAdjacency a g v w) e,
       );
-      complete = λ j g out r e. (
-        subst (OfComplete (1 ∷ 2 ∷ 3 ∷ 18 ∷ [])) e
-            (behind OfComplete _ (phaseVerdict 1 j g) Complete.Refused (completeLaid j g (length out)) (λ r h. h) (phase-numbers 1 j g _)
-            (complete-chain (leb (joinRecordSize * missing j g) (length out)) (completed j g .joins) (completed j g .switches) (length (completed j g .records)))),
-        ap (λ (a : CompleteAnswer). completeAdjacency a j g) e,
-        ap (λ (a : CompleteAnswer). completeOutput a j g out) e,
-      );
-      complete-written = λ j g out joins switches n e.
-          let f = completed-facts j g (length out) joins switches n e in
-          let x = complete-works j g (f .facts) in (
-            omega arith,
-            subst (SamePast n out) (sym (ap (λ (a : CompleteAnswer). completeOutput a j g out) e))
-                (past out (completed j g .records) n (f .length-is) (omega arith)),
-          );
+      complete = λ j g. finish-refused j g (completed j g);
+      complete-written = λ j g. finish-written lowestPairs j g;
+      shuffle = λ j g out x q e. finish-refused j g (shuffled j g x .ran) out q (with-x-refused (shuffled j g x .x) _ q e);
+      shuffle-written = λ j g out x joins switches n y e.
+          finish-written (pickedFrom x) j g out joins switches n (with-x-completed (shuffled j g x .x) _ joins switches n y e .0);
       list = λ j g out r e. (
         subst (OfWritten (1 ∷ 2 ∷ 3 ∷ 18 ∷ []) (length (listBytes (vertexCount j) g)) (length out)) e (edges-numbers j g (length out)),
         ap (λ (a : WrittenAnswer). listOutput a j g out) e,

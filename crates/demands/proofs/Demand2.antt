@@ -37,13 +37,14 @@ use Rattle.taking.proofs.Take.{isTaken, taken-facts, held-facts, take-taken}
 use Rattle.laying_out.proofs.LayOut.{lay-out-laid-out}
 use Rattle.adding.specs.Add.{addAnswer, addAdjacency}
 use Rattle.removing.specs.Remove.{removeAnswer, removeAdjacency}
-use Rattle.completion.specs.Complete.{completeAnswer, completeAdjacency}
-use Rattle.completion.proofs.Entry.{CompleteFacts, CompleteWorks, completed-facts, complete-works}
-use Rattle.demands.specs.Calls.{Call, take, layOut, add, remove, complete, readBack, list, figures, survey, writeGraph6, readGraph6, State, cleared, after, afterAll}
+use Rattle.completion.specs.Complete.{Ran, finishAnswer, finishAdjacency}
+use Rattle.completion.proofs.Entry.{completed-facts}
+use Rattle.demands.specs.Calls.{Call, take, layOut, add, remove, complete, readBack, list, figures, survey, writeGraph6, readGraph6, Finish, outcome, State, cleared, after, afterAll}
 use Rattle.demands.specs.Tally.{Tally, noTally, told, toldAdd, toldRemove, toldComplete, counts, withBlock, laysOut, nowLaid, tally, tallyAll}
 use Rattle.demands.specs.Matrix.{Short, HasTable}
 use Rattle.demands.specs.Accepted.{accepted}
 use Rattle.demands.specs.Demand2.{member, answered, answeredSum, addRefused, removeRefused, quiet, Demand2}
+use Rattle.demands.proofs.Finishes.{outcome-works, outcome-has, after-finish}
 use Rattle.demands.proofs.Reach.{Reach, reach, reach-cleared, after-call, same-next, after-append}
 use Rattle.demands.proofs.Kept.{accepted-once}
 
@@ -138,11 +139,11 @@ module _ (adds : List ℕ → ℕ) (read : DegreeTable → ℕ) (more : (u : Deg
       through t (tally t (told s (remove v w))) _ _ (p .0)
       (answered-tally cs (after s (remove v w)) (tally t (told s (remove v w))) seen (after-call s t r (remove v w))
       (seen-still seen t (tally t (told s (remove v w))) (p .1) h))
-  answered-tally (complete out ∷ cs) s t seen r h =
-      let p = complete-still t (completeAnswer (s .journal) (s .adjacency) (length out)) in
-      through t (tally t (told s (complete out))) _ _ (p .0)
-      (answered-tally cs (after s (complete out)) (tally t (told s (complete out))) seen (after-call s t r (complete out))
-      (seen-still seen t (tally t (told s (complete out))) (p .1) h))
+  answered-tally (complete f out ∷ cs) s t seen r h =
+      let p = complete-still t (finishAnswer (outcome f (s .journal) (s .adjacency)) (s .journal) (s .adjacency) (length out)) in
+      through t (tally t (told s (complete f out))) _ _ (p .0)
+      (answered-tally cs (after s (complete f out)) (tally t (told s (complete f out))) seen (after-call s t r (complete f out))
+      (seen-still seen t (tally t (told s (complete f out))) (p .1) h))
   answered-tally (readBack number ∷ cs) s t seen r h = answered-tally cs s t seen r h
   answered-tally (list out ∷ cs) s t seen r h = answered-tally cs s t seen r h
   answered-tally (figures ∷ cs) s t seen r h = answered-tally cs s t seen r h
@@ -169,33 +170,27 @@ record Done (s : State) : Type 0 where
   phased : phase (s .journal) ≡ 1
   has : HasTable (tableOf (s .journal)) s
 
-done-completed : (s : State) (out : List ℕ) (joins switches n : ℕ)
-    → completeAnswer (s .journal) (s .adjacency) (length out) ≡ Completed joins switches n → Done (after s (complete out))
-done-completed s out joins switches n e =
-    subst (λ (h : List ℕ). Done (record { journal = s .journal; adjacency = h }))
-    (sym (ap (λ (a : CompleteAnswer). completeAdjacency a (s .journal) (s .adjacency)) e))
-    (record {
-      lengths = x .lengths;
-      sound = x .sound;
-      phased = f .phased;
-      has = record { simple = x .simple; exact = x .table; exact-isolated = x .no-edge };
-    })
-  where
-    f : CompleteFacts (s .journal) (s .adjacency)
-    f = completed-facts (s .journal) (s .adjacency) (length out) joins switches n e .facts
-
-    x : CompleteWorks (s .journal) (s .adjacency)
-    x = complete-works (s .journal) (s .adjacency) f
+done-completed : (s : State) (f : Finish) (out : List ℕ) (joins switches n : ℕ)
+    → finishAnswer (outcome f (s .journal) (s .adjacency)) (s .journal) (s .adjacency) (length out) ≡ Completed joins switches n
+    → Done (after s (complete f out))
+done-completed s f out joins switches n e =
+    let facts = completed-facts (s .journal) (s .adjacency) (outcome f (s .journal) (s .adjacency)) (length out) joins switches n e .facts in
+    let x = outcome-works (s .journal) (s .adjacency) f facts in
+    subst Done (sym (after-finish s f out joins switches n e))
+    (record { lengths = x .lengths; sound = x .sound; phased = facts .phased; has = outcome-has s f facts })
 
 -- completed again, or refused
-done-complete : (s : State) (out : List ℕ) → Done s → Done (after s (complete out))
-done-complete s out d = go (completeAnswer (s .journal) (s .adjacency) (length out)) refl
+done-complete : (s : State) (f : Finish) (out : List ℕ) → Done s → Done (after s (complete f out))
+done-complete s f out d = go (finishAnswer r (s .journal) (s .adjacency) (length out)) refl
   where
-    go : (a : CompleteAnswer) → completeAnswer (s .journal) (s .adjacency) (length out) ≡ a → Done (after s (complete out))
-    go (Completed joins switches n) e = done-completed s out joins switches n e
-    go (CompleteRefused r) e =
+    r : Ran
+    r = outcome f (s .journal) (s .adjacency)
+
+    go : (a : CompleteAnswer) → finishAnswer r (s .journal) (s .adjacency) (length out) ≡ a → Done (after s (complete f out))
+    go (Completed joins switches n) e = done-completed s f out joins switches n e
+    go (CompleteRefused q) e =
         subst (λ (h : List ℕ). Done (record { journal = s .journal; adjacency = h }))
-        (sym (ap (λ (a : CompleteAnswer). completeAdjacency a (s .journal) (s .adjacency)) e)) d
+        (sym (ap (λ (a : CompleteAnswer). finishAdjacency a r (s .adjacency)) e)) d
 
 -- no block is taken and nothing is laid out in phase 1
 done-take : (s : State) → Done s → (number : ℕ) (b : List ℕ) → after s (take number b) ≡ s
@@ -237,7 +232,7 @@ done-rest (remove v w ∷ cs) s d q =
     let a = and-left (removeRefused (removeAnswer (s .journal) (s .adjacency) v w)) (quiet (after s (remove v w)) cs) q in
     done-rest cs (after s (remove v w)) (subst Done (sym (done-remove s v w a)) d)
     (and-right (removeRefused (removeAnswer (s .journal) (s .adjacency) v w)) (quiet (after s (remove v w)) cs) q)
-done-rest (complete out ∷ cs) s d q = done-rest cs (after s (complete out)) (done-complete s out d) q
+done-rest (complete f out ∷ cs) s d q = done-rest cs (after s (complete f out)) (done-complete s f out d) q
 done-rest (readBack number ∷ cs) s d q = done-rest cs s d q
 done-rest (list out ∷ cs) s d q = done-rest cs s d q
 done-rest (figures ∷ cs) s d q = done-rest cs s d q
@@ -246,20 +241,21 @@ done-rest (writeGraph6 e total out ∷ cs) s d q = done-rest cs s d q
 done-rest (readGraph6 text out ∷ cs) s d q = done-rest cs s d q
 
 -- completed, and nothing moved since
-completed-has : (before rest : List Call) (out : List ℕ) (joins switches n : ℕ)
-    → completeAnswer (afterAll cleared before .journal) (afterAll cleared before .adjacency) (length out) ≡ Completed joins switches n
-    → quiet (after (afterAll cleared before) (complete out)) rest ≡ true
-    → HasTable (answeredSum (before ++ complete out ∷ rest)) (afterAll (after (afterAll cleared before) (complete out)) rest)
-completed-has before rest out joins switches n e q =
-    subst (λ (u : DegreeTable). HasTable u (afterAll (after (afterAll cleared before) (complete out)) rest)) (sym same) (d .has)
+completed-has : (before rest : List Call) (f : Finish) (out : List ℕ) (joins switches n : ℕ)
+    → let s = afterAll cleared before in
+    finishAnswer (outcome f (s .journal) (s .adjacency)) (s .journal) (s .adjacency) (length out) ≡ Completed joins switches n
+    → quiet (after s (complete f out)) rest ≡ true
+    → HasTable (answeredSum (before ++ complete f out ∷ rest)) (afterAll (after s (complete f out)) rest)
+completed-has before rest f out joins switches n e q =
+    subst (λ (u : DegreeTable). HasTable u (afterAll (after (afterAll cleared before) (complete f out)) rest)) (sym same) (d .has)
   where
-    d : Done (afterAll (after (afterAll cleared before) (complete out)) rest)
-    d = done-rest rest (after (afterAll cleared before) (complete out)) (done-completed (afterAll cleared before) out joins switches n e) q
+    d : Done (afterAll (after (afterAll cleared before) (complete f out)) rest)
+    d = done-rest rest (after (afterAll cleared before) (complete f out)) (done-completed (afterAll cleared before) f out joins switches n e) q
 
-    same : answeredSum (before ++ complete out ∷ rest) ≡ tableOf (afterAll (after (afterAll cleared before) (complete out)) rest .journal)
+    same : answeredSum (before ++ complete f out ∷ rest) ≡ tableOf (afterAll (after (afterAll cleared before) (complete f out)) rest .journal)
     same =
-        answered-table (before ++ complete out ∷ rest)
-        ∙ ap (λ (s : State). tableOf (s .journal)) (after-append before (complete out ∷ rest) cleared)
+        answered-table (before ++ complete f out ∷ rest)
+        ∙ ap (λ (s : State). tableOf (s .journal)) (after-append before (complete f out ∷ rest) cleared)
 
 -- laid, and no cell short: no cell is above the table on a valid state, so that every cell is the table's
 finished-has : (s : State) (lengths : lengthsOk (s .journal) (s .adjacency) ≡ true) (sound : valid (s .journal) (s .adjacency) ≡ true)

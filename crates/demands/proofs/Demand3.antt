@@ -29,12 +29,13 @@ use Rattle.adding.specs.Add.{addAnswer, addAdjacency}
 use Rattle.adding.proofs.Add.{AddFacts, facts-added, AddWorks, add-works}
 use Rattle.joining.specs.Join.{joinBytes, joinSwitches}
 use Rattle.join_records.specs.Record.{joinRecordSize}
-use Rattle.completion.specs.Complete.{completed, missing, completeAnswer, completeAdjacency}
-use Rattle.completion.proofs.Entry.{CompleteFacts, facts-completed, short-refused, CompleteWorks, complete-works}
-use Rattle.demands.specs.Calls.{State, cleared, afterAll}
+use Rattle.completion.specs.Complete.{Ran, missing, finishAnswer, finishAdjacency}
+use Rattle.completion.proofs.Entry.{CompleteFacts, short-refused, CompleteWorks}
+use Rattle.demands.specs.Calls.{Finish, outcome, State, cleared, afterAll}
 use Rattle.demands.specs.Tally.{Tally, noTally, missingEdges, tallyAll}
-use Rattle.demands.specs.Matrix.{Short, HasTable}
+use Rattle.demands.specs.Matrix.{Short}
 use Rattle.demands.specs.Demand3 as D
+use Rattle.demands.proofs.Finishes.{outcome-works, outcome-answer, after-finish, finish-has}
 use Rattle.demands.proofs.Reach.{Reach, reach, laid-counted, phase-0, phase-1}
 
 -- Everything is first said of the journal's own table, which is the tally's.
@@ -139,53 +140,43 @@ module _ (s : State) (lengths : Rattle.state.specs.Valid.lengthsOk (s .journal)
           )
 
   -- Completing. The tally t has the journal's table and the matrix's edges, and so the edges missing.
-  module _ (t : Tally) (same : tableOf (s .journal) ≡ t .table) (counted : edgeTotal (s .journal) (s .adjacency) ≡ t .edges) (out : List ℕ) where
-    f : CompleteFacts (s .journal) (s .adjacency)
-    f = record { lengths = lengths; sound = sound; phased = phased }
+  module _ (t : Tally) (same : tableOf (s .journal) ≡ t .table) (counted : edgeTotal (s .journal) (s .adjacency) ≡ t .edges) (f : Finish) (out : List ℕ) where
+    checked : CompleteFacts (s .journal) (s .adjacency)
+    checked = record { lengths = lengths; sound = sound; phased = phased }
+
+    abbrev r : Ran
+    r = outcome f (s .journal) (s .adjacency)
 
     same-missing : missingEdges t ≡ missing (s .journal) (s .adjacency)
     same-missing = rw (← counted) (ap (λ (u : DegreeTable). wanted (u .cells) - edgeTotal (s .journal) (s .adjacency)) (sym same))
 
-    completes : D.HasRoom t out → D.Completes t s out
+    completes : D.HasRoom t out → D.Completes t s f out
     completes room =
-        go (facts-completed (s .journal) (s .adjacency) (length out) f (omega (arith, same-missing, room))) (complete-works (s .journal) (s .adjacency) f)
+        subst (λ (u : DegreeTable). D.Completes (record { blocks = t .blocks; table = u; laid = t .laid; edges = t .edges }) s f out) same
+        (own (outcome-works (s .journal) (s .adjacency) f checked)
+        (outcome-answer (s .journal) (s .adjacency) f checked (length out) (omega (arith, same-missing, room))))
       where
-        joins : ℕ
-        joins = completed (s .journal) (s .adjacency) .joins
-
-        switches : ℕ
-        switches = completed (s .journal) (s .adjacency) .switches
-
-        own : CompleteWorks (s .journal) (s .adjacency)
-            → (e : completeAdjacency (completeAnswer (s .journal) (s .adjacency) (length out)) (s .journal) (s .adjacency)
-            ≡ completed (s .journal) (s .adjacency) .adjacency)
-            → completeAnswer (s .journal) (s .adjacency) (length out) ≡ Completed joins switches (joinRecordSize * joins)
-            → D.Completes (record { blocks = t .blocks; table = tableOf (s .journal); laid = t .laid; edges = t .edges }) s out
-        own x e a =
+        own : CompleteWorks (s .journal) (s .adjacency) r
+            → finishAnswer r (s .journal) (s .adjacency) (length out) ≡ Completed (r .joins) (r .switches) (joinRecordSize * r .joins)
+            → D.Completes (record { blocks = t .blocks; table = tableOf (s .journal); laid = t .laid; edges = t .edges }) s f out
+        own x a =
             record {
-              joins = joins;
-              switches = switches;
+              joins = r .joins;
+              switches = r .switches;
               answer = a;
               missing = omega (arith, x .all, x .more, counted);
-              more = subst (λ (h : List ℕ). edgeTotal (s .journal) h ≡ edgeTotal (s .journal) (s .adjacency) + joins) (sym e) (x .more);
-              has-table =
-                  subst (λ (h : List ℕ). HasTable (tableOf (s .journal)) (record { journal = s .journal; adjacency = h })) (sym e)
-                  (record { simple = x .simple; exact = x .table; exact-isolated = x .no-edge });
+              more =
+                  subst (λ (s′ : State). edgeTotal (s .journal) (s′ .adjacency) ≡ edgeTotal (s .journal) (s .adjacency) + r .joins)
+                  (sym (after-finish s f out (r .joins) (r .switches) (joinRecordSize * r .joins) a)) (x .more);
+              has-table = finish-has s f out (r .joins) (r .switches) (joinRecordSize * r .joins) checked a;
             }
 
-        go : completeAnswer (s .journal) (s .adjacency) (length out) ≡ Completed joins switches (length (completed (s .journal) (s .adjacency) .records))
-            → CompleteWorks (s .journal) (s .adjacency) → D.Completes t s out
-        go a x =
-            subst (λ (u : DegreeTable). D.Completes (record { blocks = t .blocks; table = u; laid = t .laid; edges = t .edges }) s out) same
-            (own x (ap (λ (a : CompleteAnswer). completeAdjacency a (s .journal) (s .adjacency)) a) (a ∙ ap (Completed joins switches) (x .written)))
-
-    refuses : (D.HasRoom t out → ⊥) → D.RefusedShort s out
-    refuses short =
-        let e = short-refused (s .journal) (s .adjacency) (length out) f (omega (arith, same-missing, short)) in
+    refuses : (D.HasRoom t out → ⊥) → D.RefusedShort s f out
+    refuses no-room =
+        let e = short-refused (s .journal) (s .adjacency) r (length out) checked (omega (arith, same-missing, no-room)) in
         record {
           answer = e;
-          unchanged =
-              ap (λ (a : CompleteAnswer). record { journal = s .journal; adjacency = completeAdjacency a (s .journal) (s .adjacency) }) e;
+          unchanged = ap (λ (a : CompleteAnswer). record { journal = s .journal; adjacency = finishAdjacency a r (s .adjacency) }) e;
         }
 
 pub demand-3 : D.Demand3

@@ -11,7 +11,6 @@ use Rattle.answer.specs.declared.AddAnswer.{AddAnswer}
 use Rattle.answer.specs.declared.AddAnswer.the-variants.{Added}
 use Rattle.answer.specs.declared.RemoveAnswer.{RemoveAnswer}
 use Rattle.answer.specs.declared.RemoveAnswer.the-variants.{Removed}
-use Rattle.answer.specs.declared.CompleteAnswer.{CompleteAnswer}
 use Rattle.graph.specs.Graph.{Graph, Simple, degree, jdm, AddsEdge, SameOn}
 use Rattle.graph.specs.Target.{Open}
 use Rattle.graph.specs.Tests.{leastDegree, degrees}
@@ -27,10 +26,11 @@ use Rattle.adding.specs.Add.{addAnswer, addAdjacency}
 use Rattle.adding.proofs.Add.{AddFacts, facts-added, add-works}
 use Rattle.removing.specs.Remove.{removeAnswer, removeAdjacency}
 use Rattle.removing.proofs.Remove.{RemoveFacts, facts-removed, remove-works}
-use Rattle.completion.specs.Complete.{Ran, completeAdjacency}
-use Rattle.completion.proofs.Entry.{CompleteFacts, full-completed, full-answer}
-use Rattle.demands.specs.Calls.{add, remove, complete, State, emptyMatrix, after, afterAll}
+use Rattle.completion.specs.Complete.{Ran}
+use Rattle.completion.proofs.Entry.{CompleteFacts}
+use Rattle.demands.specs.Calls.{add, remove, State, emptyMatrix, after, afterAll}
 use Rattle.demands.specs.WithinReach.{Replica, Pair, named, Order, adds, removes, AddedAlone, AllAdded, AllRemoved, matrixOf, ValidLaid, NothingToComplete, Drawn, Redrawn, Emptied}
+use Rattle.demands.proofs.Finishes.{full-outcome, full-answer, after-finish}
 use Rattle.demands.proofs.Reach.{after-append}
 use Rattle.demands.proofs.Orders.{Within, NoOther, EdgeOf, rest-no-other, first-edge, next-open, room-first, room-second}
 use Rattle.demands.proofs.Bytes.{same-bytes, matrix-length, matrix-outside, matrix-edges, empty-length, empty-edge}
@@ -183,10 +183,10 @@ module _ (j : List ℕ) where
       nothing-left : NothingToComplete (on g)
       nothing-left =
           record {
-            no-joins = λ out. full-answer j g complete-facts full (length out);
-            unchanged = λ out.
-                ap (λ (a : CompleteAnswer). on (completeAdjacency a j g)) (full-answer j g complete-facts full (length out))
-                ∙ ap (λ (r : Ran). on (r .adjacency)) (full-completed j g complete-facts full);
+            no-joins = λ f out. full-answer j g f complete-facts full (length out);
+            unchanged = λ f out.
+                after-finish (on g) f out 0 0 0 (full-answer j g f complete-facts full (length out))
+                ∙ ap (λ (r : Ran). on (r .adjacency)) (full-outcome j g f complete-facts full);
           }
 
     pub drawn : (ps : List Pair) (g : List ℕ) → ValidLaid (on g)

@@ -76,7 +76,7 @@ module _ (s : State) (t : Tally) (r : Reach s t) where
       go (LayOut.Refused q) = h
   has-call (add v w) number b h = record { low = h .low; same = h .same }
   has-call (remove v w) number b h = record { low = h .low; same = h .same }
-  has-call (complete out) number b h = record { low = h .low; same = h .same }
+  has-call (complete f out) number b h = record { low = h .low; same = h .same }
   has-call (readBack n) number b h = h
   has-call (list out) number b h = h
   has-call figures number b h = h
@@ -110,7 +110,7 @@ module _ (s : State) (t : Tally) (r : Reach s t) where
       go (LayOut.Refused q) l = inl l
   came-call (add v w) cs number l = inl l
   came-call (remove v w) cs number l = inl l
-  came-call (complete out) cs number l = inl l
+  came-call (complete f out) cs number l = inl l
   came-call (readBack n) cs number l = inl l
   came-call (list out) cs number l = inl l
   came-call figures cs number l = inl l

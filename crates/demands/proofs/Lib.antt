@@ -1,4 +1,5 @@
 pub mod Chains
+pub mod Finishes
 pub mod Demand1
 pub mod Reach
 pub mod Kept
@@ -10,6 +11,7 @@ pub mod Graph6
 pub mod Isolated
 pub mod Playing
 pub mod Playback
+pub mod Shuffled
 pub mod Orders
 pub mod Ascending
 pub mod Bytes

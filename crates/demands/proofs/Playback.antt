@@ -9,85 +9,93 @@ use native.Mathlib.Omega.{arith}
 use lib.ListN.{length, getD, take}
 use lib.Seq.{sets}
 use Rattle.slices.proofs.Part.{take-sets, getD-sets-in}
+use Rattle.finite.specs.Range.{iterate}
 use Rattle.finite.proofs.Fold.{iterate-keeps}
 use Rattle.answer.specs.declared.switches.Switches.{Switches}
 use Rattle.answer.specs.declared.AddAnswer.{AddAnswer}
 use Rattle.answer.specs.declared.AddAnswer.the-variants.{Added}
 use Rattle.answer.specs.declared.CompleteAnswer.{CompleteAnswer}
 use Rattle.answer.specs.declared.CompleteAnswer.the-variants.{Completed}
-use Rattle.graph.specs.Tests.{degrees, classCount}
-use Rattle.graph.proofs.Numbering.{classOf-rises}
-use Rattle.journal.specs.Journal.{phase, jdmOf, tableOf}
+use Rattle.journal.specs.Journal.{phase, jdmOf}
 use Rattle.state.specs.Valid.{lengthsOk, valid}
 use Rattle.state.specs.Laid.{vertexCount, degreeAt}
 use Rattle.state.proofs.Facts.{StateFacts, Laid, valid-facts}
 use Rattle.joining.specs.Join.{joinSwitches}
 use Rattle.adding.specs.Add.{addAnswer, addAdjacency}
 use Rattle.adding.proofs.Add.{AddFacts, added-facts}
-use Rattle.completion.specs.Complete.{Ran, fresh, next, isIncomplete, run, mostEdges, completed, missing, completeAnswer, completeAdjacency, completeOutput}
-use Rattle.completion.proofs.Works.{Good, nextV, nextW, next-open, picks}
+use Rattle.completion.specs.Complete.{Ran, fresh, mostEdges, missing, finishAnswer, finishAdjacency, finishOutput}
+use Rattle.completion.proofs.Works.{Good, Chooser, short, next-good}
 use Rattle.completion.proofs.Records.{Recorded, next-recorded, Rising, records-rising}
-use Rattle.completion.proofs.Entry.{CompleteFacts, facts-completed, good-start, CompleteWorks, complete-works}
+use Rattle.completion.proofs.Entry.{CompleteFacts, good-start, CompleteWorks}
+use Rattle.demands.specs.Calls.{Finish, outcome}
 use Rattle.demands.specs.Playback.{play, CompletingPlays, addedRecord, Playback}
+use Rattle.demands.proofs.Finishes.{By, by, outcome-works, outcome-answer}
 use Rattle.demands.proofs.Playing.{fits, playJoin, join-plays, play-none, play-more}
 
--- a run's records, played onto the matrix it began with, give the matrix it has come to
-run-plays : (fuel n : ℕ) (cls : ℕ → ℕ) (T : ℕ → ℕ → ℕ) (g : List ℕ) → Good n cls T (fresh g)
-    → play (run fuel n cls T (fresh g) .records) g ≡ fits (run fuel n cls T (fresh g) .adjacency)
-run-plays fuel n cls T g good =
-    iterate-keeps Plays (isIncomplete n cls T) (next n cls T) fuel (fresh g) (good, refl, play-none g) step .2
-  where
-    Plays : Ran → Type 0
-    Plays s = Good n cls T s × Recorded s × (play (s .records) g ≡ fits (s .adjacency))
+-- a run's records, played onto the matrix it began with, give the matrix it has come to, whichever pairs are chosen
+module _ (n : ℕ) (cls : ℕ → ℕ) (T : ℕ → ℕ → ℕ) {S : Type 0} (c : Chooser n cls T S) (g : List ℕ) where
+  run-plays : (fuel : ℕ) (start : S) → c .ran start ≡ fresh g → Good n cls T (fresh g)
+      → let r = c .ran (iterate fuel (short n cls T c) (c .next) start) in
+      play (r .records) g ≡ fits (r .adjacency)
+  run-plays fuel start begins good =
+      iterate-keeps Plays (short n cls T c) (c .next) fuel start (rw begins (good, refl, play-none g)) step .2
+    where
+      Plays : S → Type 0
+      Plays s = Good n cls T (c .ran s) × Recorded (c .ran s) × (play (c .ran s .records) g ≡ fits (c .ran s .adjacency))
 
-    step : (s : Ran) → Plays s → isIncomplete n cls T s ≡ true → Plays (next n cls T s)
-    step s h t =
-        let f = h .0 .0 in
-        let v = nextV n cls T s in
-        let w = nextW n cls T s in
-        let x = joinSwitches n cls (s .adjacency) v w in (
-          picks n cls T s (h .0) t .4,
-          next-recorded n cls T s (h .1),
-          play-more (s .records) (s .joins) v w x g (h .1)
-              ∙ ap (playJoin v w x) (h .2)
-              ∙ join-plays n cls T (s .adjacency) v w (f .sized) (f .few) (f .target) (f .partial) (next-open n cls T s (h .0) t),
-        )
+      step : (s : S) → Plays s → short n cls T c s ≡ true → Plays (c .next s)
+      step s h t =
+          let r = c .ran s in
+          let f = h .0 .0 in
+          let x = joinSwitches n cls (r .adjacency) (c .v s) (c .w s) in (
+            next-good n cls T c s (h .0) t,
+            next-recorded n cls T c s (h .1),
+            rw (c .joins s)
+                (play-more (r .records) (r .joins) (c .v s) (c .w s) x g (h .1)
+                ∙ ap (playJoin (c .v s) (c .w s) x) (h .2)
+                ∙ join-plays n cls T (r .adjacency) (c .v s) (c .w s) (f .sized) (f .few) (f .target) (f .partial) (c .pair s (h .0) t)),
+          )
 
-completing-plays : (j g out : List ℕ) → lengthsOk j g ≡ true → valid j g ≡ true → phase j ≡ 1 → 8 * missing j g ≤ length out → CompletingPlays j g out
-completing-plays j g out lengths sound phased room =
+completing-plays : (f : Finish) (j g out : List ℕ) → lengthsOk j g ≡ true → valid j g ≡ true → phase j ≡ 1 → 8 * missing j g ≤ length out
+    → CompletingPlays f j g out
+completing-plays f j g out lengths sound phased room =
     record {
-      joins = joins;
-      switches = completed j g .switches;
-      answer = e ∙ ap (Completed joins (completed j g .switches)) (x .written);
+      joins = r .joins;
+      switches = r .switches;
+      answer = e;
       made = x .made;
       played =
-          ap (λ (a : CompleteAnswer). play (take (8 * joins) (completeOutput a j g out)) g) e
-          ∙ ap (λ (k : ℕ). play (take k (sets out 0 (completed j g .records))) g) (sym (x .written))
-          ∙ ap (λ (r : List ℕ). play r g) (take-sets out (completed j g .records) (omega (arith, x .written, x .made)))
-          ∙ run-plays mostEdges (vertexCount j) (degreeAt j) (jdmOf j) g (good-start j g f)
-          ∙ sym (ap (λ (a : CompleteAnswer). fits (completeAdjacency a j g)) e);
+          ap (λ (a : CompleteAnswer). play (take (8 * r .joins) (finishOutput a r out)) g) e
+          ∙ ap (λ (k : ℕ). play (take k (sets out 0 (r .records))) g) (sym (x .written))
+          ∙ ap (λ (l : List ℕ). play l g) (take-sets out (r .records) (omega (arith, x .written, x .made)))
+          ∙ rw (b .ends) (run-plays (vertexCount j) (degreeAt j) (jdmOf j) (b .way) g mostEdges (b .start) (b .begins) (good-start j g checked))
+          ∙ sym (ap (λ (a : CompleteAnswer). fits (finishAdjacency a r g)) e);
       rising = λ i l. rw (e, there (8 * i) (omega (arith, x .written)), there (8 * i + 1) (omega (arith, x .written))) (rising i l);
     }
   where
-    f : CompleteFacts j g
-    f = record { lengths = lengths; sound = sound; phased = phased }
+    checked : CompleteFacts j g
+    checked = record { lengths = lengths; sound = sound; phased = phased }
 
-    joins : ℕ
-    joins = completed j g .joins
+    r : Ran
+    r = outcome f j g
 
-    x : CompleteWorks j g
-    x = complete-works j g f
+    b : By j g (outcome f j g)
+    b = by j g f
+
+    x : CompleteWorks j g (outcome f j g)
+    x = outcome-works j g f checked
 
     -- a byte of the records, in the output
-    there : (p : ℕ) → p < length (completed j g .records) → getD (sets out 0 (completed j g .records)) p 0 ≡ getD (completed j g .records) p 0
-    there p h = rw zero-add at (getD-sets-in out 0 (completed j g .records) p (omega (arith, x .written, x .made)) h)
+    there : (p : ℕ) → p < length (r .records) → getD (sets out 0 (r .records)) p 0 ≡ getD (r .records) p 0
+    there p h = rw zero-add at (getD-sets-in out 0 (r .records) p (omega (arith, x .written, x .made)) h)
 
-    rising : Rising (vertexCount j) (completed j g)
+    rising : Rising (vertexCount j) (outcome f j g)
     rising =
-        records-rising (vertexCount j) (degreeAt j) (jdmOf j) (classOf-rises degrees (classCount (tableOf j))) mostEdges g (good-start j g f)
+        rw (b .ends)
+        (records-rising (vertexCount j) (degreeAt j) (jdmOf j) (b .way) (b .rises) mostEdges (b .start) g (b .begins) (good-start j g checked))
 
-    e : completeAnswer j g (length out) ≡ Completed (completed j g .joins) (completed j g .switches) (length (completed j g .records))
-    e = facts-completed j g (length out) f room
+    e : finishAnswer (outcome f j g) j g (length out) ≡ Completed (outcome f j g .joins) (outcome f j g .switches) (8 * outcome f j g .joins)
+    e = outcome-answer j g f checked (length out) room
 
 adding-plays : (j g : List ℕ) (v w : ℕ) (s : Switches) → addAnswer j g v w ≡ Added s
     → play (addedRecord v w s) g ≡ fits (addAdjacency (addAnswer j g v w) j g v w)

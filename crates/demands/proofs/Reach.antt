@@ -37,10 +37,11 @@ use Rattle.adding.specs.Add.{addAnswer, addAdjacency}
 use Rattle.removing.specs.Remove.{removeAnswer, removeAdjacency}
 use Rattle.adding.proofs.Add.{added-facts, add-works}
 use Rattle.removing.proofs.Remove.{removed-facts, remove-works}
-use Rattle.completion.specs.Complete.{completeAnswer, completeAdjacency}
-use Rattle.completion.proofs.Entry.{completed-facts, complete-works}
-use Rattle.demands.specs.Calls.{Call, take, layOut, add, remove, complete, readBack, list, figures, survey, writeGraph6, readGraph6, State, cleared, after, afterAll}
+use Rattle.completion.specs.Complete.{Ran, finishAnswer, finishAdjacency}
+use Rattle.completion.proofs.Entry.{completed-facts}
+use Rattle.demands.specs.Calls.{Call, take, layOut, add, remove, complete, readBack, list, figures, survey, writeGraph6, readGraph6, Finish, outcome, State, cleared, after, afterAll}
 use Rattle.demands.specs.Tally.{Tally, noTally, told, toldAdd, toldRemove, toldComplete, counts, withBlock, laysOut, nowLaid, withEdges, tally, tallyAll}
+use Rattle.demands.proofs.Finishes.{outcome-works}
 
 -- the phase that the tally says
 abbrev phaseOf : Bool → ℕ
@@ -205,17 +206,20 @@ module _ (s : State) (t : Tally) (r : Reach s t) where
           (omega (arith, x .one-less, laid-counted s t r l))
       go (Remove.Refused q) e = r
 
-  after-complete : (out : List ℕ) → Reach (after s (complete out)) (tally t (told s (complete out)))
-  after-complete out = go (completeAnswer (s .journal) (s .adjacency) (length out)) refl
+  after-complete : (f : Finish) (out : List ℕ) → Reach (after s (complete f out)) (tally t (told s (complete f out)))
+  after-complete f out = go (finishAnswer r₀ (s .journal) (s .adjacency) (length out)) refl
     where
-      go : (a : CompleteAnswer) → completeAnswer (s .journal) (s .adjacency) (length out) ≡ a
-          → Reach (record { journal = s .journal; adjacency = completeAdjacency a (s .journal) (s .adjacency) }) (tally t (toldComplete a))
+      r₀ : Ran
+      r₀ = outcome f (s .journal) (s .adjacency)
+
+      go : (a : CompleteAnswer) → finishAnswer r₀ (s .journal) (s .adjacency) (length out) ≡ a
+          → Reach (record { journal = s .journal; adjacency = finishAdjacency a r₀ (s .adjacency) }) (tally t (toldComplete a))
       go (Complete.Completed joins switches n) e =
-          let f = completed-facts (s .journal) (s .adjacency) (length out) joins switches n e in
-          let x = complete-works (s .journal) (s .adjacency) (f .facts) in
-          let l = laid-tally s t r (f .facts .phased) in
-          with-edges s (completeAdjacency (Complete.Completed joins switches n) (s .journal) (s .adjacency)) t (t .edges + joins) r l (x .lengths) (x .sound)
-          (omega (arith, x .more, f .joins-are, laid-counted s t r l))
+          let c = completed-facts (s .journal) (s .adjacency) r₀ (length out) joins switches n e in
+          let x = outcome-works (s .journal) (s .adjacency) f (c .facts) in
+          let l = laid-tally s t r (c .facts .phased) in
+          with-edges s (r₀ .adjacency) t (t .edges + joins) r l (x .lengths) (x .sound)
+          (omega (arith, x .more, c .joins-are, laid-counted s t r l))
       go (Complete.Refused q) e = r
 
   pub after-call : (c : Call) → Reach (after s c) (tally t (told s c))
@@ -223,7 +227,7 @@ module _ (s : State) (t : Tally) (r : Reach s t) where
   after-call layOut = after-layOut
   after-call (add v w) = after-add v w
   after-call (remove v w) = after-remove v w
-  after-call (complete out) = after-complete out
+  after-call (complete f out) = after-complete f out
   after-call (readBack number) = r
   after-call (list out) = r
   after-call figures = r

@@ -27,9 +27,9 @@ use Rattle.joining.proofs.Alone.{none-alone}
 use Rattle.adding.specs.Add.{addAnswer, addAdjacency}
 use Rattle.adding.proofs.Add.{added-facts}
 use Rattle.join_records.specs.Record.{joinRecordSize}
-use Rattle.completion.specs.Complete.{completeAnswer}
+use Rattle.completion.specs.Complete.{finishAnswer}
 use Rattle.completion.proofs.Entry.{refused-not-completed}
-use Rattle.demands.specs.Calls.{Call, take, add, complete, State, emptyMatrix, cleared, after, afterAll}
+use Rattle.demands.specs.Calls.{Call, take, add, complete, Finish, outcome, State, emptyMatrix, cleared, after, afterAll}
 use Rattle.demands.specs.Accepted.{accepted, AcceptedIn}
 use Rattle.demands.specs.Tally.{Tally, noTally, missingEdges, toldTake, counts, withBlock, tally, tallyAll}
 use Rattle.demands.specs.Demand2.{answered, answeredSum}
@@ -55,25 +55,27 @@ module _ (calls : List Call) where
       → CanBeJoined (tallyAll cleared noTally calls .table) (afterAll cleared calls) w v
   every-pair e v w o = demand-3 calls .1 e .joinable v w o .1
 
-  -- an output of as many bytes as the tally's missing edges need is room enough: completing into it is not refused ..
-  pub room-enough : tallyAll cleared noTally calls .laid ≡ true → (out : List ℕ)
+  -- an output of as many bytes as the tally's missing edges need is room enough: completing into it is not refused, whichever pairs are joined ..
+  pub room-enough : tallyAll cleared noTally calls .laid ≡ true → (f : Finish) (out : List ℕ)
       → length out ≡ joinRecordSize * missingEdges (tallyAll cleared noTally calls) → (r : Refusal)
-      → completeAnswer (afterAll cleared calls .journal) (afterAll cleared calls .adjacency) (length out) ≡ Refused r → ⊥
-  room-enough l out h r e =
-      let c = demand-3 calls .1 l .completes out (omega arith) in
+      → let s = afterAll cleared calls in
+      finishAnswer (outcome f (s .journal) (s .adjacency)) (s .journal) (s .adjacency) (length out) ≡ Refused r → ⊥
+  room-enough l f out h r e =
+      let c = demand-3 calls .1 l .completes f out (omega arith) in
       refused-not-completed (c .joins) (c .switches) (joinRecordSize * c .joins) r (sym e ∙ c .answer)
 
   -- .. and with one byte less nothing changes
-  pub short-unchanged : tallyAll cleared noTally calls .laid ≡ true → (out : List ℕ)
-      → length out + 1 ≡ joinRecordSize * missingEdges (tallyAll cleared noTally calls) → after (afterAll cleared calls) (complete out) ≡ afterAll cleared calls
-  short-unchanged l out h = demand-3 calls .1 l .refuses out (λ room. omega arith) .unchanged
+  pub short-unchanged : tallyAll cleared noTally calls .laid ≡ true → (f : Finish) (out : List ℕ)
+      → length out + 1 ≡ joinRecordSize * missingEdges (tallyAll cleared noTally calls) → after (afterAll cleared calls) (complete f out) ≡ afterAll cleared calls
+  short-unchanged l f out h = demand-3 calls .1 l .refuses f out (λ room. omega arith) .unchanged
 
   -- once completed, exactly as many vertices have no edge as the blocks taken or held add up to
-  pub isolated-exact : (out : List ℕ) (joins switches n : ℕ)
-      → completeAnswer (afterAll cleared calls .journal) (afterAll cleared calls .adjacency) (length out) ≡ Completed joins switches n
-      → isolated (vertices (answeredSum (calls ++ complete out ∷ []))) (edge (after (afterAll cleared calls) (complete out) .adjacency))
-      ≡ answered blockIsolated [] cleared (calls ++ complete out ∷ [])
-  isolated-exact out joins switches n e = demand-2 .completed calls [] out joins switches n e refl .exact-isolated
+  pub isolated-exact : (f : Finish) (out : List ℕ) (joins switches n : ℕ)
+      → let s = afterAll cleared calls in
+      finishAnswer (outcome f (s .journal) (s .adjacency)) (s .journal) (s .adjacency) (length out) ≡ Completed joins switches n
+      → isolated (vertices (answeredSum (calls ++ complete f out ∷ []))) (edge (after s (complete f out) .adjacency))
+      ≡ answered blockIsolated [] cleared (calls ++ complete f out ∷ [])
+  isolated-exact f out joins switches n e = demand-2 .completed calls [] f out joins switches n e refl .exact-isolated
 
   -- once a block was taken or held, no other bytes are, under its number
   pub other-bytes-refused : (number : ℕ) (b b′ : List ℕ) → AcceptedIn calls number b

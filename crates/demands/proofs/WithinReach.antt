@@ -9,18 +9,18 @@ use native.Mathlib.Omega.{arith}
 use lib.ListN.{length, replicate, length-replicate}
 use Rattle.graph.specs.Graph.{Graph, DegreeTable}
 use Rattle.graph.specs.Tests.{vertices}
-use Rattle.answer.specs.declared.CompleteAnswer.{CompleteAnswer}
 use Rattle.answer.specs.declared.CompleteAnswer.the-variants.{Completed}
 use Rattle.journal.specs.Journal.{phase, tableOf}
 use Rattle.adjacency.specs.Adjacency.{edge}
 use Rattle.state.specs.Laid.{vertexCount}
 use Rattle.join_records.specs.Record.{joinRecordSize}
-use Rattle.completion.specs.Complete.{completeAnswer, completeAdjacency}
-use Rattle.completion.proofs.Entry.{completed-facts, complete-works}
-use Rattle.demands.specs.Calls.{Call, complete, State, emptyMatrix, cleared, after, afterAll}
+use Rattle.completion.specs.Complete.{finishAnswer}
+use Rattle.completion.proofs.Entry.{completed-facts}
+use Rattle.demands.specs.Calls.{Call, complete, Finish, lowestPairs, outcome, State, emptyMatrix, cleared, after, afterAll}
 use Rattle.demands.specs.Tally.{noTally, missingEdges, tallyAll}
 use Rattle.demands.specs.Demand3.{Completes}
 use Rattle.demands.specs.WithinReach.{Replica, Pair, Order, ascending, adds, removes, ValidLaid, NothingToComplete, Drawn, Redrawn, lacking, EveryReplicaWithinReach}
+use Rattle.demands.proofs.Finishes.{outcome-works, after-finish}
 use Rattle.demands.proofs.Reach.{Reach, reach, laid-tally, phase-1, after-append}
 use Rattle.demands.proofs.Demand3.{demand-3}
 use Rattle.demands.proofs.Orders.{order-length}
@@ -29,13 +29,14 @@ use Rattle.demands.proofs.Bytes.{empty-edge}
 use Rattle.demands.proofs.Drawing.{laid, drawn, redrawn, emptied}
 
 -- what completing ends in
-some : (s : State) (out : List ℕ) (joins switches m : ℕ) → completeAnswer (s .journal) (s .adjacency) (length out) ≡ Completed joins switches m
-    → Replica (tableOf (s .journal)) (edge (after s (complete out) .adjacency))
-some s out joins switches m e =
+some : (s : State) (f : Finish) (out : List ℕ) (joins switches m : ℕ)
+    → finishAnswer (outcome f (s .journal) (s .adjacency)) (s .journal) (s .adjacency) (length out) ≡ Completed joins switches m
+    → Replica (tableOf (s .journal)) (edge (after s (complete f out) .adjacency))
+some s f out joins switches m e =
     let j = s .journal in
     let g = s .adjacency in
-    let x = complete-works j g (completed-facts j g (length out) joins switches m e .facts) in
-    subst (λ (h : List ℕ). Replica (tableOf j) (edge h)) (ap (λ (a : CompleteAnswer). completeAdjacency a j g) (sym e))
+    let x = outcome-works j g f (completed-facts j g (outcome f j g) (length out) joins switches m e .facts) in
+    subst (λ (s′ : State). Replica (tableOf j) (edge (s′ .adjacency))) (sym (after-finish s f out joins switches m e))
     (record { simple = x .simple; degrees = x .degrees-exact; table = x .table })
 
 -- the statement's hypotheses, on any valid laid state
@@ -75,7 +76,7 @@ module _ (s : State) (v : ValidLaid s) (H : Graph) (drawing : Replica (tableOf (
 -- Where completing a laid state has nothing to do, the tally misses nothing: demand 3 says that its joins are those missing.
 none-missing : (calls : List Call) → tallyAll cleared noTally calls .laid ≡ true → NothingToComplete (afterAll cleared calls)
     → missingEdges (tallyAll cleared noTally calls) ≡ 0
-none-missing calls e d = go (demand-3 calls .1 e .completes out (omega (arith, length-replicate {A = ℕ} room 0)))
+none-missing calls e d = go (demand-3 calls .1 e .completes lowestPairs out (omega (arith, length-replicate {A = ℕ} room 0)))
   where
     room : ℕ
     room = joinRecordSize * missingEdges (tallyAll cleared noTally calls)
@@ -83,10 +84,10 @@ none-missing calls e d = go (demand-3 calls .1 e .completes out (omega (arith, l
     out : List ℕ
     out = replicate (joinRecordSize * missingEdges (tallyAll cleared noTally calls)) 0
 
-    go : Completes (tallyAll cleared noTally calls) (afterAll cleared calls) out
+    go : Completes (tallyAll cleared noTally calls) (afterAll cleared calls) lowestPairs out
         → missingEdges (tallyAll cleared noTally calls) ≡ 0
     go c =
-        let none : c .joins ≡ 0 = cc (c .answer, d .no-joins out) in
+        let none : c .joins ≡ 0 = cc (c .answer, d .no-joins lowestPairs out) in
         omega (arith, none, c .missing)
 
 -- after every list of calls

@@ -9,11 +9,8 @@ use lib.ListN.{length}
 use Rattle.answer.specs.declared.Refusal.{Refusal}
 use Rattle.answer.specs.declared.CompleteAnswer.the-variants as Complete
 use Rattle.answer.specs.declared.ShuffleAnswer.the-variants.{Completed, Refused}
-use Rattle.graph.specs.Graph.{Simple, ownTable}
 use Rattle.journal.specs.Journal.{phase, tableOf}
-use Rattle.adjacency.specs.Adjacency.{edge}
 use Rattle.state.specs.Valid.{lengthsOk, valid}
-use Rattle.state.specs.Laid.{vertexCount}
 use Rattle.completion.specs.Complete.{missing, finishAnswer}
 use Rattle.shuffling.specs.Choice.{stepsX}
 use Rattle.shuffling.specs.Shuffle.{shuffleAnswer, shuffleAdjacency}

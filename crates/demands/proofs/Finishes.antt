@@ -1,0 +1,103 @@
+-- What holds of every finish (specs/Calls.antt), whichever pairs it joins: the laws of completing by any choice of open pairs, at the two that there are.
+-- Assumes nothing.
+use mathlib.Core.Path.{_≡_, refl, sym, ap, subst, _∙_}
+use mathlib.Core.Bool.{true}
+use mathlib.Core.List.{List}
+use Prim.Native.Nat.{ℕ, _*_, _≤_, _<_}
+use native.Mathlib.Omega.{arith}
+use lib.ListN.{length}
+use Rattle.finite.specs.Range.{iterate}
+use Rattle.answer.specs.declared.CompleteAnswer.{CompleteAnswer}
+use Rattle.answer.specs.declared.CompleteAnswer.the-variants.{Completed}
+use Rattle.graph.specs.Tests.{leastDegree, degrees, classCount}
+use Rattle.graph.proofs.Numbering.{classOf-rises}
+use Rattle.journal.specs.Journal.{jdmOf, tableOf}
+use Rattle.state.specs.Laid.{vertexCount, degreeAt, cellAt}
+use Rattle.join_records.specs.Record.{joinRecordSize}
+use Rattle.completion.specs.Complete.{Ran, fresh, mostEdges, missing, finishAnswer, finishAdjacency}
+use Rattle.completion.proofs.Works.{Good, Chooser, short, lowest-pair, next-rising}
+use Rattle.completion.proofs.Full.{full-run}
+use Rattle.completion.proofs.Entry.{CompleteFacts, CompleteWorks, facts-completed, complete-works}
+use Rattle.shuffling.specs.Shuffle.{Shuffled}
+use Rattle.shuffling.proofs.Works.{shuffled-pair, shuffled-rises, shuffled-works}
+use Rattle.demands.specs.Calls.{complete, Finish, lowestPairs, pickedFrom, outcome, State, after}
+use Rattle.demands.specs.Matrix.{HasTable}
+
+-- r is what one way to choose pairs, each named lower vertex first, ends in from the matrix g
+pub record By (j g : List ℕ) (r : Ran) : Type 1 where
+  pub S : Type 0
+  pub way : Chooser (vertexCount j) (degreeAt j) (jdmOf j) S
+  pub rises : (s : S) → Good (vertexCount j) (degreeAt j) (jdmOf j) (way .ran s) → short (vertexCount j) (degreeAt j) (jdmOf j) way s ≡ true
+      → way .v s < way .w s
+  pub start : S
+  pub begins : way .ran start ≡ fresh g
+  pub ends : r ≡ way .ran (iterate mostEdges (short (vertexCount j) (degreeAt j) (jdmOf j) way) (way .next) start)
+
+module _ (j g : List ℕ) where
+  pub by : (f : Finish) → By j g (outcome f j g)
+  by lowestPairs =
+      record {
+        S = Ran;
+        way = lowest-pair (vertexCount j) (degreeAt j) (jdmOf j);
+        rises = next-rising (vertexCount j) (degreeAt j) (jdmOf j) (classOf-rises degrees (classCount (tableOf j)));
+        start = fresh g;
+        begins = refl;
+        ends = refl;
+      }
+  by (pickedFrom x) =
+      record {
+        S = Shuffled;
+        way = shuffled-pair (vertexCount j) (degreeAt j) (jdmOf j);
+        rises = shuffled-rises (vertexCount j) (degreeAt j) (jdmOf j);
+        start = record { ran = fresh g; x = x };
+        begins = refl;
+        ends = refl;
+      }
+
+  pub outcome-works : (f : Finish) → CompleteFacts j g → CompleteWorks j g (outcome f j g)
+  outcome-works lowestPairs = complete-works j g
+  outcome-works (pickedFrom x) = shuffled-works j g x
+
+  module _ (f : Finish) (facts : CompleteFacts j g) where
+    -- the answer, for an output of m bytes with room
+    pub outcome-answer : (m : ℕ) → joinRecordSize * missing j g ≤ m
+        → finishAnswer (outcome f j g) j g m ≡ Completed (outcome f j g .joins) (outcome f j g .switches) (joinRecordSize * outcome f j g .joins)
+    outcome-answer m h =
+        facts-completed j g (outcome f j g) m facts h
+        ∙ ap (Completed (outcome f j g .joins) (outcome f j g .switches)) (outcome-works f facts .written)
+
+    -- Where every cell is full, no join is missing: none is made, whatever the output, and the matrix stays as it is.
+    module _ (full : (k l : ℕ) → leastDegree ≤ k → k < degrees → k ≤ l → l < degrees → jdmOf j k l ≤ cellAt j g k l) where
+      pub full-outcome : outcome f j g ≡ fresh g
+      full-outcome =
+          let b = by f in
+          b .ends
+          ∙ ap (b .way .ran) (full-run (vertexCount j) (degreeAt j) (jdmOf j) (b .way) (b .start) (rw (b .begins) full) mostEdges)
+          ∙ b .begins
+
+      pub full-answer : (m : ℕ) → finishAnswer (outcome f j g) j g m ≡ Completed 0 0 0
+      full-answer m =
+          let none = ap (λ (r : Ran). r .joins) full-outcome in
+          outcome-answer m (omega (arith, none, outcome-works f facts .made))
+          ∙ ap (λ (r : Ran). Completed (r .joins) (r .switches) (joinRecordSize * r .joins)) full-outcome
+
+-- the state that a finish which was not refused leaves
+module _ (s : State) (f : Finish) where
+  abbrev pub finishedState : State
+  finishedState = record { journal = s .journal; adjacency = outcome f (s .journal) (s .adjacency) .adjacency }
+
+  pub outcome-has : CompleteFacts (s .journal) (s .adjacency) → HasTable (tableOf (s .journal)) finishedState
+  outcome-has facts =
+      let x = outcome-works (s .journal) (s .adjacency) f facts in
+      record { simple = x .simple; exact = x .table; exact-isolated = x .no-edge }
+
+  pub after-finish : (out : List ℕ) (joins switches n : ℕ)
+      → finishAnswer (outcome f (s .journal) (s .adjacency)) (s .journal) (s .adjacency) (length out) ≡ Completed joins switches n
+      → after s (complete f out) ≡ finishedState
+  after-finish out joins switches n e =
+      ap (λ (a : CompleteAnswer). record { journal = s .journal; adjacency = finishAdjacency a (outcome f (s .journal) (s .adjacency)) (s .adjacency) }) e
+
+  pub finish-has : (out : List ℕ) (joins switches n : ℕ) → CompleteFacts (s .journal) (s .adjacency)
+      → finishAnswer (outcome f (s .journal) (s .adjacency)) (s .journal) (s .adjacency) (length out) ≡ Completed joins switches n
+      → HasTable (tableOf (s .journal)) (after s (complete f out))
+  finish-has out joins switches n facts e = subst (HasTable (tableOf (s .journal))) (sym (after-finish out joins switches n e)) (outcome-has facts)
