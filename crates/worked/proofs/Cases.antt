@@ -8,7 +8,7 @@ use lib.Dec.{eqb, ltb}
 use lib.ListN.{length}
 use borrow.Author.Tests.{eqb-true}
 use Rattle.answer.specs.Refusals.{refusal, stop, unless, unlessStopped}
-use Rattle.answer.specs.Numbers.{takeNumbers, layOutNumbers, addNumbers, removeNumbers, completeNumbers, lengthNumbers, writtenNumbers, readNumbers, figuresNumbers}
+use Rattle.answer.specs.Numbers.{takeNumbers, layOutNumbers, addNumbers, removeNumbers, completeNumbers, shuffleNumbers, lengthNumbers, writtenNumbers, readNumbers, figuresNumbers}
 use Rattle.answer.specs.declared.Cause.the-variants.{Phase, BlockNumber}
 use Rattle.answer.specs.declared.Verdict.{Verdict}
 use Rattle.answer.specs.declared.Verdict.the-variants.{Go}
@@ -45,10 +45,11 @@ use Rattle.listing.proofs.List.{zeros-none}
 use Rattle.survey.specs.Survey.{surveyAnswer, surveyOutput}
 use Rattle.graph6_writing.specs.Write.{writeAnswer, writeOutput}
 use Rattle.graph6_reading.specs.Read.{readAnswer, readOutput}
-use Rattle.completion.specs.Complete.{completeLaid, completeAdjacency, completeOutput}
-use Rattle.demands.specs.Calls.{Call, take, layOut, add, remove, complete, readBack, list, figures, survey, writeGraph6, readGraph6, State, cleared, after}
+use Rattle.completion.specs.Complete.{Ran, completed, finishLaid, finishAdjacency, finishOutput}
+use Rattle.shuffling.specs.Shuffle.{shuffled, withX}
+use Rattle.demands.specs.Calls.{Call, take, layOut, add, remove, complete, readBack, list, figures, survey, writeGraph6, readGraph6, lowestPairs, pickedFrom, outcome, State, cleared, after}
 use Rattle.demands.specs.Tally.{Tally, noTally, told, tally}
-use Rattle.worked.specs.Cases.{six, nine, answerOf, Step, Case, sameList, edgesOf, holdsFrom, allHold, starred, StarredHold, moved, MovedHold}
+use Rattle.worked.specs.Cases.{six, nine, answerOf, Step, Case, sameList, edgesOf, holdsFrom, allHold, starred, StarredHold, moved, MovedHold, picked, PickedHold}
 use Rattle.demands.proofs.Reach.{Reach, reach-cleared, after-call}
 
 -- The answers past the checks 1 and 2.
@@ -64,8 +65,8 @@ addRest j g v w = unlessStopped (phaseRest 1 j) Add.Refused (addLaid j g v w)
 abbrev removeRest : List ℕ → List ℕ → ℕ → ℕ → RemoveAnswer
 removeRest j g v w = unlessStopped (phaseRest 1 j) Remove.Refused (removeLaid j g v w)
 
-abbrev completeRest : List ℕ → List ℕ → ℕ → CompleteAnswer
-completeRest j g m = unlessStopped (phaseRest 1 j) Complete.Refused (completeLaid j g m)
+abbrev finishRest : Ran → List ℕ → List ℕ → ℕ → CompleteAnswer
+finishRest r j g m = unlessStopped (phaseRest 1 j) Complete.Refused (finishLaid r j g m)
 
 abbrev lengthRest : List ℕ → ℕ → LengthAnswer
 lengthRest j number = unless (ltb number (blocks j)) (Len.Refused (refusal BlockNumber 0 0)) (Len.Length (slotLength j number))
@@ -78,9 +79,14 @@ answerRest s (take number b) = six (takeNumbers (takeOnValid (s .journal) number
 answerRest s layOut = six (layOutNumbers (layOutRest (s .journal)))
 answerRest s (add v w) = nine (addNumbers (addRest (s .journal) (s .adjacency) v w))
 answerRest s (remove v w) = six (removeNumbers (removeRest (s .journal) (s .adjacency) v w))
-answerRest s (complete out) =
-    let a = completeRest (s .journal) (s .adjacency) (length out) in
-    six (completeNumbers a) ++ completeOutput a (s .journal) (s .adjacency) out
+answerRest s (complete lowestPairs out) =
+    let r = completed (s .journal) (s .adjacency) in
+    let a = finishRest r (s .journal) (s .adjacency) (length out) in
+    six (completeNumbers a) ++ finishOutput a r out
+answerRest s (complete (pickedFrom x) out) =
+    let r = shuffled (s .journal) (s .adjacency) x in
+    let a = finishRest (r .ran) (s .journal) (s .adjacency) (length out) in
+    six (shuffleNumbers (withX (r .x) a)) ++ finishOutput a (r .ran) out
 answerRest s (readBack number) = let a = lengthRest (s .journal) number in six (lengthNumbers a) ++ heldPart a (s .journal) number
 answerRest s (list out) =
     let a = listRest (s .journal) (s .adjacency) (length out) in
@@ -97,8 +103,9 @@ afterRest s (add v w) =
     record { journal = s .journal; adjacency = addAdjacency (addRest (s .journal) (s .adjacency) v w) (s .journal) (s .adjacency) v w }
 afterRest s (remove v w) =
     record { journal = s .journal; adjacency = removeAdjacency (removeRest (s .journal) (s .adjacency) v w) (s .adjacency) v w }
-afterRest s (complete out) =
-    record { journal = s .journal; adjacency = completeAdjacency (completeRest (s .journal) (s .adjacency) (length out)) (s .journal) (s .adjacency) }
+afterRest s (complete f out) =
+    let r = outcome f (s .journal) (s .adjacency) in
+    record { journal = s .journal; adjacency = finishAdjacency (finishRest r (s .journal) (s .adjacency) (length out)) r (s .adjacency) }
 afterRest s (readBack number) = s
 afterRest s (list out) = s
 afterRest s figures = s
@@ -116,7 +123,8 @@ module _ (s : State) (t : Tally) (r : Reach s t) where
   answer-rest layOut = rw checked
   answer-rest (add v w) = rw checked
   answer-rest (remove v w) = rw checked
-  answer-rest (complete out) = rw checked
+  answer-rest (complete lowestPairs out) = rw checked
+  answer-rest (complete (pickedFrom x) out) = rw checked
   answer-rest (readBack number) = rw checked
   answer-rest (list out) = rw checked
   answer-rest figures = rw checked
@@ -129,7 +137,7 @@ module _ (s : State) (t : Tally) (r : Reach s t) where
   after-rest layOut = rw checked
   after-rest (add v w) = rw checked
   after-rest (remove v w) = rw checked
-  after-rest (complete out) = rw checked
+  after-rest (complete f out) = rw checked
   after-rest (readBack number) = refl
   after-rest (list out) = refl
   after-rest figures = refl
@@ -180,8 +188,15 @@ moved-computed : allRest moved ≡ true
 unfolding δ sumTo allTo lowFrom lowest catTo iterate jdm edges
 moved-computed = refl
 
+picked-computed : allRest picked ≡ true
+unfolding δ sumTo allTo lowFrom lowest catTo iterate jdm edges
+picked-computed = refl
+
 pub starred-hold : StarredHold
 starred-hold = all-rest starred ∙ starred-computed
 
 pub moved-hold : MovedHold
 moved-hold = all-rest moved ∙ moved-computed
+
+pub picked-hold : PickedHold
+picked-hold = all-rest picked ∙ picked-computed

@@ -1,6 +1,6 @@
 -- Worked examples as lists of cases, and one test that runs the entries' definitions on a case: what all its calls from a cleared state hand back,
 -- in document 01's numbers and the bytes of their outputs, and the edges in the end. `starred` are the starred cases of document 01 ("Tables to
--- try"), `moved` those of document 02's switches and records.
+-- try"), `moved` those of document 02's switches and records, `picked` those of its shuffled finishing.
 -- Assumes nothing.
 use mathlib.Core.Path.{_≡_}
 use mathlib.Core.Bool.{Bool, true, false, _&&_}
@@ -8,7 +8,7 @@ use mathlib.Core.List.{List, [], _∷_, _++_}
 use Prim.Native.Nat.{ℕ}
 use lib.Dec.{eqb}
 use lib.ListN.{length, replicate}
-use Rattle.answer.specs.Numbers.{Numbers, JoinNumbers, done, takeNumbers, layOutNumbers, addNumbers, removeNumbers, completeNumbers, lengthNumbers, writtenNumbers, readNumbers, figuresNumbers}
+use Rattle.answer.specs.Numbers.{Numbers, JoinNumbers, done, takeNumbers, layOutNumbers, addNumbers, removeNumbers, completeNumbers, shuffleNumbers, lengthNumbers, writtenNumbers, readNumbers, figuresNumbers}
 use Rattle.state.specs.Laid.{vertexCount}
 use Rattle.taking.specs.Take.{takeAnswer}
 use Rattle.reading_back.specs.Held.{lengthAnswer, heldPart}
@@ -21,7 +21,8 @@ use Rattle.survey.specs.Survey.{surveyAnswer, surveyOutput}
 use Rattle.graph6_writing.specs.Write.{writeAnswer, writeOutput}
 use Rattle.graph6_reading.specs.Read.{readAnswer, readOutput}
 use Rattle.completion.specs.Complete.{completeAnswer, completeOutput}
-use Rattle.demands.specs.Calls.{Call, take, layOut, add, remove, complete, readBack, list, figures, survey, writeGraph6, readGraph6, State, cleared, after}
+use Rattle.shuffling.specs.Shuffle.{shuffleAnswer, shuffleOutput}
+use Rattle.demands.specs.Calls.{Call, take, layOut, add, remove, complete, readBack, list, figures, survey, writeGraph6, readGraph6, lowestPairs, pickedFrom, State, cleared, after}
 
 -- answers as lists of numbers
 abbrev pub six : Numbers → List ℕ
@@ -36,9 +37,11 @@ answerOf s (take number b) = six (takeNumbers (takeAnswer (s .journal) (s .adjac
 answerOf s layOut = six (layOutNumbers (layOutAnswer (s .journal) (s .adjacency)))
 answerOf s (add v w) = nine (addNumbers (addAnswer (s .journal) (s .adjacency) v w))
 answerOf s (remove v w) = six (removeNumbers (removeAnswer (s .journal) (s .adjacency) v w))
-answerOf s (complete out) =
+answerOf s (complete lowestPairs out) =
     let a = completeAnswer (s .journal) (s .adjacency) (length out) in
     six (completeNumbers a) ++ completeOutput a (s .journal) (s .adjacency) out
+answerOf s (complete (pickedFrom x) out) =
+    six (shuffleNumbers (shuffleAnswer (s .journal) (s .adjacency) x (length out))) ++ shuffleOutput (s .journal) (s .adjacency) x out
 answerOf s (readBack number) =
     let a = lengthAnswer (s .journal) (s .adjacency) number in
     six (lengthNumbers a) ++ heldPart a (s .journal) number
@@ -86,7 +89,7 @@ allHold [] = true
 allHold (c ∷ cs) = holds c && allHold cs
 
 -- answers by name: a block taken, with the number of the next; a block held; a block read back, with its length; N laid out; an edge removed; joins,
--- switches and output of a finish; an output with its written length; the figures; a refusal, with the output as it was
+-- switches and output of a finish, and of one by x, with the last x; an output with its written length; the figures; a refusal, with the output as it was
 abbrev pub taken : ℕ → List ℕ
 taken next = six (done 0 next)
 
@@ -104,6 +107,9 @@ removed = six (done 0 0)
 
 abbrev pub finished : ℕ → ℕ → ℕ → List ℕ → List ℕ
 finished joins switches n out = 0 ∷ joins ∷ switches ∷ n ∷ 0 ∷ 0 ∷ out
+
+abbrev pub finishedAt : ℕ → ℕ → ℕ → ℕ → List ℕ → List ℕ
+finishedAt joins switches n x out = 0 ∷ joins ∷ switches ∷ n ∷ x ∷ 0 ∷ out
 
 abbrev pub written : ℕ → List ℕ → List ℕ
 written n out = six (done n 0) ++ out
@@ -151,21 +157,21 @@ rec k l n rest = k ∷ l ∷ n ∷ 0 ∷ rest
 -- the ten starred lines, in document 01's order
 abbrev pub starred : List Case
 starred =
-    record { steps = layOut gives laidOut 0 ∷ complete [] gives finished 0 0 0 [] ∷ []; edges = [] }
+    record { steps = layOut gives laidOut 0 ∷ complete lowestPairs [] gives finished 0 0 0 [] ∷ []; edges = [] }
     ∷ record {
-      steps = take 0 (rec 1 1 2 []) gives taken 1 ∷ layOut gives laidOut 2 ∷ complete (sevens 8) gives finished 1 0 8 (join 0 1 []) ∷ [];
+      steps = take 0 (rec 1 1 2 []) gives taken 1 ∷ layOut gives laidOut 2 ∷ complete lowestPairs (sevens 8) gives finished 1 0 8 (join 0 1 []) ∷ [];
       edges = 0 ∷ 1 ∷ [];
     }
     ∷ record {
       steps =
           take 0 (rec 1 3 1 (rec 2 2 2 (rec 2 3 2 []))) gives taken 1 ∷ layOut gives laidOut 4
-          ∷ complete (sevens 32) gives finished 4 0 32 (join 0 3 (join 1 2 (join 1 3 (join 2 3 [])))) ∷ [];
+          ∷ complete lowestPairs (sevens 32) gives finished 4 0 32 (join 0 3 (join 1 2 (join 1 3 (join 2 3 [])))) ∷ [];
       edges = 0 ∷ 3 ∷ 1 ∷ 2 ∷ 1 ∷ 3 ∷ 2 ∷ 3 ∷ [];
     }
     ∷ record {
       steps =
           take 0 (rec 2 2 8 []) gives taken 1 ∷ layOut gives laidOut 4
-          ∷ complete (sevens 33) gives finished 4 2 32 (join 0 1 (join 0 2 (joinBy 0 3 0 1 2 (joinBy 0 2 0 3 1 (7 ∷ []))))) ∷ [];
+          ∷ complete lowestPairs (sevens 33) gives finished 4 2 32 (join 0 1 (join 0 2 (joinBy 0 3 0 1 2 (joinBy 0 2 0 3 1 (7 ∷ []))))) ∷ [];
       edges = 0 ∷ 2 ∷ 0 ∷ 3 ∷ 1 ∷ 2 ∷ 1 ∷ 3 ∷ [];
     }
     ∷ record {
@@ -180,13 +186,13 @@ starred =
     ∷ record {
       steps =
           take 0 (rec 2 2 6 []) gives taken 1 ∷ layOut gives laidOut 3
-          ∷ complete (sevens 24) gives finished 3 0 24 (join 0 1 (join 0 2 (join 1 2 []))) ∷ [];
+          ∷ complete lowestPairs (sevens 24) gives finished 3 0 24 (join 0 1 (join 0 2 (join 1 2 []))) ∷ [];
       edges = 0 ∷ 1 ∷ 0 ∷ 2 ∷ 1 ∷ 2 ∷ [];
     }
     ∷ record {
       steps =
           take 0 (rec 2 3 6 []) gives taken 1 ∷ layOut gives laidOut 5
-          ∷ complete (sevens 48) gives finished 6 0 48 (join 0 3 (join 0 4 (join 1 3 (join 1 4 (join 2 3 (join 2 4 [])))))) ∷ [];
+          ∷ complete lowestPairs (sevens 48) gives finished 6 0 48 (join 0 3 (join 0 4 (join 1 3 (join 1 4 (join 2 3 (join 2 4 [])))))) ∷ [];
       edges = 0 ∷ 3 ∷ 0 ∷ 4 ∷ 1 ∷ 3 ∷ 1 ∷ 4 ∷ 2 ∷ 3 ∷ 2 ∷ 4 ∷ [];
     }
     ∷ []
@@ -208,17 +214,17 @@ moved =
     -- the same joins by completing: 3 before 18, 18 for a byte too few, with every byte as it was; what is behind the records stays
     ∷ record {
       steps =
-          take 0 (rec 1 1 6 []) gives taken 1 ∷ complete [] gives no 3 0 0 ∷ layOut gives laidOut 6
-          ∷ complete (sevens 23) gives noInto 18 (sevens 23)
-          ∷ complete (sevens 25) gives finished 3 3 24 (join 0 1 (joinBy 0 2 0 3 1 (joinByTwo 0 1 0 4 2 1 5 3 (7 ∷ [])))) ∷ [];
+          take 0 (rec 1 1 6 []) gives taken 1 ∷ complete lowestPairs [] gives no 3 0 0 ∷ layOut gives laidOut 6
+          ∷ complete lowestPairs (sevens 23) gives noInto 18 (sevens 23)
+          ∷ complete lowestPairs (sevens 25) gives finished 3 3 24 (join 0 1 (joinBy 0 2 0 3 1 (joinByTwo 0 1 0 4 2 1 5 3 (7 ∷ [])))) ∷ [];
       edges = 0 ∷ 1 ∷ 2 ∷ 4 ∷ 3 ∷ 5 ∷ [];
     }
     -- room for the missing edges is enough, and none is needed where none is missing
     ∷ record {
       steps =
           take 0 (rec 1 1 4 []) gives taken 1 ∷ layOut gives laidOut 4 ∷ add 0 1 gives joined
-          ∷ complete (sevens 7) gives noInto 18 (sevens 7) ∷ complete (sevens 8) gives finished 1 1 8 (joinBy 0 2 0 3 1 [])
-          ∷ complete [] gives finished 0 0 0 [] ∷ complete (sevens 1) gives finished 0 0 0 (sevens 1) ∷ [];
+          ∷ complete lowestPairs (sevens 7) gives noInto 18 (sevens 7) ∷ complete lowestPairs (sevens 8) gives finished 1 1 8 (joinBy 0 2 0 3 1 [])
+          ∷ complete lowestPairs [] gives finished 0 0 0 [] ∷ complete lowestPairs (sevens 1) gives finished 0 0 0 (sevens 1) ∷ [];
       edges = 0 ∷ 2 ∷ 1 ∷ 3 ∷ [];
     }
     ∷ []
@@ -226,3 +232,19 @@ moved =
 -- one theorem over the list: proofs/Cases.antt `moved-hold`
 abbrev pub MovedHold : Type 0
 MovedHold = allHold moved ≡ true
+
+-- shuffled finishing (document 02, P7): (2,2)=8 from x = 0, where a byte too few is 18 and what is behind the records stays
+abbrev pub picked : List Case
+picked =
+    record {
+      steps =
+          take 0 (rec 2 2 8 []) gives taken 1 ∷ layOut gives laidOut 4
+          ∷ complete (pickedFrom 0) (sevens 31) gives noInto 18 (sevens 31)
+          ∷ complete (pickedFrom 0) (sevens 33) gives finishedAt 4 1 32 2868466484 (join 0 3 (join 0 2 (joinBy 0 1 0 2 3 (join 1 3 (7 ∷ []))))) ∷ [];
+      edges = 0 ∷ 1 ∷ 0 ∷ 2 ∷ 1 ∷ 3 ∷ 2 ∷ 3 ∷ [];
+    }
+    ∷ []
+
+-- one theorem over the list: proofs/Cases.antt `picked-hold`
+abbrev pub PickedHold : Type 0
+PickedHold = allHold picked ≡ true
