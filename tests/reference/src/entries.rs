@@ -1,11 +1,11 @@
-//! The twelve entries. Each runs its checks in the order of document 01's table and writes only when
+//! The thirteen entries. Each runs its checks in the order of document 01's table and writes only when
 //! all of them have passed, so that a refusal leaves every byte as it was.
 
 use crate::graphs::Graph;
-use crate::switching::{self, Switch};
+use crate::switching::{self, Join, Switch};
 use crate::{
-    adjacency, graph6, join_record, journal, refused, refused_at, validity, Matrix, Refused, Table,
-    ADJACENCY_LENGTH, JOURNAL_LENGTH, MOST_BLOCKS, MOST_DEGREE, MOST_VERTICES,
+    adjacency, graph6, join_record, journal, refused, refused_at, shuffling, validity, Matrix,
+    Refused, Table, ADJACENCY_LENGTH, JOURNAL_LENGTH, MOST_BLOCKS, MOST_DEGREE, MOST_VERTICES,
 };
 
 /// What taking a block answers when it is not refused.
@@ -177,26 +177,49 @@ pub fn remove_edge(journal: &[u8], adjacency: &mut [u8], v: u64, w: u64) -> Resu
     Ok(())
 }
 
-/// Joins until no cell is short, and writes a record of each join. The output needs room for a record
-/// of each missing edge: those wanted less those laid.
-pub fn complete(
-    journal: &[u8],
-    adjacency: &mut [u8],
-    output: &mut [u8],
-) -> Result<Completion, Refused> {
+/// Checks 1, 2, 3 and 18: the output needs room for a record of each missing edge, those wanted less
+/// those laid. Returns the table.
+fn check_room(journal: &[u8], adjacency: &[u8], output: &[u8]) -> Result<Table, Refused> {
     check_laid(journal, adjacency)?;
     let wanted = journal::summed_table(journal);
     let missing = wanted.matrix.edge_count() as usize - adjacency::edges(adjacency).len();
     if output.len() < join_record::LENGTH * missing {
         return Err(refused(18));
     }
-    let joins = switching::complete(adjacency, &wanted);
+    Ok(wanted)
+}
+
+/// Writes a record of each join, for which there is room.
+fn write_records(joins: &[Join], output: &mut [u8]) -> Completion {
     let records: Vec<u8> = joins.iter().flat_map(join_record::of).collect();
-    Ok(Completion {
+    Completion {
         joins: joins.len() as u64,
         switches: joins.iter().map(|join| join.switches.len() as u64).sum(),
         written: write(&records, output).expect("no more joins than edges were missing"),
-    })
+    }
+}
+
+/// Joins until no cell is short, and writes a record of each join.
+pub fn complete(
+    journal: &[u8],
+    adjacency: &mut [u8],
+    output: &mut [u8],
+) -> Result<Completion, Refused> {
+    let wanted = check_room(journal, adjacency, output)?;
+    let joins = switching::complete(adjacency, &wanted);
+    Ok(write_records(&joins, output))
+}
+
+/// The same with pairs chosen by numbers from x on. Returns the last number too.
+pub fn complete_shuffled(
+    journal: &[u8],
+    adjacency: &mut [u8],
+    x: u32,
+    output: &mut [u8],
+) -> Result<(Completion, u32), Refused> {
+    let wanted = check_room(journal, adjacency, output)?;
+    let (joins, last) = shuffling::complete(adjacency, &wanted, x);
+    Ok((write_records(&joins, output), last))
 }
 
 /// Writes the edges, 2 bytes each. Returns the written length.

@@ -1,5 +1,5 @@
-//! A second implementation of document 01 and of document 02's P1, P2, P4 and P5, written from the
-//! documents alone.
+//! A second implementation of document 01 and of document 02's P1, P2, P4, P5 and P7, written from
+//! the documents alone.
 //!
 //! It is meant to be read and believed, not to be fast: every call recounts everything from the
 //! bytes it is lent. It shares nothing with the library it is compared with.
@@ -10,11 +10,12 @@
 //! * [`adjacency`]: the adjacency matrix and its counts
 //! * [`validity`]: when journal and adjacency together are a valid state
 //! * [`switching`]: the neighbour switch, adding one edge, completing
+//! * [`shuffling`]: completing by pairs that a number chooses
 //! * [`join_record`]: the record that completing writes of a join
 //! * [`player`]: plays such records onto an adjacency matrix, knowing nothing of switching
 //! * [`graph6`]: graphs as McKay's graph6, and back
-//! * [`entries`]: the twelve entries, in document 01's order of checks
-//! * [`numbers`]: the same twelve entries, answering with the numbers of the C interface
+//! * [`entries`]: the thirteen entries, in document 01's order of checks
+//! * [`numbers`]: the same thirteen entries, answering with the numbers of the C interface
 //! * [`program`]: what the program prints for an input
 //! * [`search`]: a second builder, by exhaustive search instead of switching; all graphs of a small
 //!   table
@@ -32,6 +33,7 @@ pub mod player;
 pub mod program;
 pub mod random;
 pub mod search;
+pub mod shuffling;
 pub mod switching;
 pub mod table;
 pub mod validity;

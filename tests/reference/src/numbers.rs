@@ -1,5 +1,5 @@
-//! The twelve entries answering as the C interface does: in numbers, the first 0 when the call did its
-//! work, else the refusal's number with its places in the second and third. Adding an edge answers
+//! The thirteen entries answering as the C interface does: in numbers, the first 0 when the call did
+//! its work, else the refusal's number with its places in the second and third. Adding an edge answers
 //! with nine, all others with six.
 
 use crate::switching::Switch;
@@ -115,6 +115,15 @@ pub fn remove_edge(journal: &[u8], adjacency: &mut [u8], v: u64, w: u64) -> Six 
 pub fn complete(journal: &[u8], adjacency: &mut [u8], output: &mut [u8]) -> Six {
     six(crate::complete(journal, adjacency, output)
         .map(|done| [done.joins, done.switches, done.written, 0, 0]))
+}
+
+pub fn complete_shuffled(journal: &[u8], adjacency: &mut [u8], x: u32, output: &mut [u8]) -> Six {
+    six(
+        crate::complete_shuffled(journal, adjacency, x, output).map(|(done, last)| {
+            let last = u64::from(last);
+            [done.joins, done.switches, done.written, last, 0]
+        }),
+    )
 }
 
 pub fn edge_list(journal: &[u8], adjacency: &[u8], output: &mut [u8]) -> Six {

@@ -2,19 +2,66 @@
 
 use crate::graphs::Graph;
 use crate::{
-    add_edge, adjacency, complete, graph6, join_record, lay_out, take_block, Refused,
-    ADJACENCY_LENGTH, BLOCK_LENGTH, JOURNAL_LENGTH, MOST_EDGES,
+    add_edge, adjacency, complete, complete_shuffled, graph6, join_record, lay_out, take_block,
+    Refused, ADJACENCY_LENGTH, BLOCK_LENGTH, JOURNAL_LENGTH, MOST_EDGES,
 };
 
-/// The text on standard output, every line ended by one newline.
-pub fn output(input: &[u8]) -> String {
-    lay(input, &[]).map_or_else(refusal_line, |laid| list(&laid))
+/// What the program's arguments ask for.
+#[derive(Clone, Copy, Debug, Default, PartialEq, Eq)]
+pub struct Options {
+    /// --graph6: the graph as one line of graph6 and nothing else.
+    pub graph6: bool,
+    /// --shuffle X: completed by pairs that numbers from X on choose.
+    pub shuffle: Option<u32>,
 }
 
-/// The same with the option --graph6: the graph as one line of graph6 and nothing else, or the same
-/// refusal.
+impl Options {
+    /// The options of some arguments, each at most once and in any order. None where the usage line
+    /// is the answer.
+    pub fn of(arguments: &[&str]) -> Option<Options> {
+        let mut options = Options::default();
+        let mut words = arguments.iter();
+        while let Some(&word) = words.next() {
+            match word {
+                "--graph6" if !options.graph6 => options.graph6 = true,
+                "--shuffle" if options.shuffle.is_none() => {
+                    options.shuffle = Some(decimal(words.next()?)?);
+                }
+                _ => return None,
+            }
+        }
+        Some(options)
+    }
+}
+
+/// One digit or more, none of them a sign, of a number below 2^32.
+fn decimal(word: &str) -> Option<u32> {
+    let digits = word.bytes().all(|byte| byte.is_ascii_digit());
+    digits.then(|| word.parse().ok()).flatten()
+}
+
+/// The text on standard output, every line ended by one newline. A refusal is the same line with all
+/// options.
+pub fn output_with(options: Options, input: &[u8]) -> String {
+    match lay_with(options.shuffle, input, &[]) {
+        Ok(laid) if options.graph6 => graph6_line(&laid),
+        Ok(laid) => list(&laid),
+        Err(refused) => refusal_line(refused),
+    }
+}
+
+/// The text without an option.
+pub fn output(input: &[u8]) -> String {
+    output_with(Options::default(), input)
+}
+
+/// The text with the option --graph6 alone.
 pub fn graph6_output(input: &[u8]) -> String {
-    lay(input, &[]).map_or_else(refusal_line, |laid| graph6_line(&laid))
+    let options = Options {
+        graph6: true,
+        shuffle: None,
+    };
+    output_with(options, input)
 }
 
 fn refusal_line(refused: Refused) -> String {
@@ -59,9 +106,18 @@ pub struct Laid {
     pub records: Vec<u8>,
 }
 
-/// Takes all records, lays out, adds the given edges by hand, and completes. Only records are cut into
-/// blocks: none of them is empty, and without records there is none.
+/// Takes all records, lays out, adds the given edges by hand, and completes.
 pub fn lay(records: &[u8], by_hand: &[(u64, u64)]) -> Result<Laid, Refused> {
+    lay_with(None, records, by_hand)
+}
+
+/// The same, completed by pairs that numbers choose from the one given. Only records are cut into
+/// blocks: none of them is empty, and without records there is none.
+pub fn lay_with(
+    shuffle: Option<u32>,
+    records: &[u8],
+    by_hand: &[(u64, u64)],
+) -> Result<Laid, Refused> {
     let mut journal = vec![0; JOURNAL_LENGTH];
     let mut adjacency = vec![0; ADJACENCY_LENGTH];
     for (number, block) in records.chunks(BLOCK_LENGTH).enumerate() {
@@ -73,7 +129,10 @@ pub fn lay(records: &[u8], by_hand: &[(u64, u64)]) -> Result<Laid, Refused> {
     }
     // Room for any completion.
     let mut records = vec![0; join_record::LENGTH * MOST_EDGES];
-    let done = complete(&journal, &mut adjacency, &mut records)?;
+    let done = match shuffle {
+        None => complete(&journal, &mut adjacency, &mut records)?,
+        Some(x) => complete_shuffled(&journal, &mut adjacency, x, &mut records)?.0,
+    };
     records.truncate(done.written as usize);
     Ok(Laid {
         journal,

@@ -80,19 +80,31 @@ fn lowest_open_pair(
     None
 }
 
+/// Joins the pair chosen on what the matrix counts, until none is chosen. Returns the joins in the
+/// order made.
+pub fn join_chosen(
+    adjacency: &mut [u8],
+    degrees: &[usize],
+    mut choose: impl FnMut(&[u8], &Matrix) -> Option<(usize, usize)>,
+) -> Vec<Join> {
+    let mut joins = Vec::new();
+    loop {
+        // Recounted before every join: a switch must not change any cell, so it is not trusted to.
+        let counted = adjacency::counted_at(adjacency, degrees);
+        let Some((v, w)) = choose(adjacency, &counted) else {
+            return joins;
+        };
+        joins.push(join(adjacency, degrees, v, w));
+    }
+}
+
 /// Joins the lowest open pair of the lowest short cell until no cell is short. Returns the joins in
 /// the order made.
 pub fn complete(adjacency: &mut [u8], wanted: &Table) -> Vec<Join> {
     let degrees = wanted.degrees();
-    let mut joins = Vec::new();
-    loop {
-        // Recounted before every join: a switch must not change any cell, so it is not trusted to.
-        let counted = adjacency::counted_at(adjacency, &degrees);
-        let Some((k, l)) = lowest_short_cell(&counted, &wanted.matrix) else {
-            return joins;
-        };
-        let (v, w) = lowest_open_pair(adjacency, &degrees, k, l)
-            .expect("a short cell of a realizable matrix has a pair that is not joined");
-        joins.push(join(adjacency, &degrees, v, w));
-    }
+    join_chosen(adjacency, &degrees, |adjacency, counted| {
+        let (k, l) = lowest_short_cell(counted, &wanted.matrix)?;
+        let lowest = lowest_open_pair(adjacency, &degrees, k, l);
+        Some(lowest.expect("a short cell of a realizable matrix has a pair that is not joined"))
+    })
 }
