@@ -26,7 +26,8 @@
  *   2. replica_take_block  the matrix, block by block, numbered 0, 1, 2, ...
  *   3. replica_lay_out     tests that a graph exists and fixes the vertices
  *   4. replica_add_edge, replica_remove_edge   by hand, as often as you like
- *   5. replica_complete    adds all edges still missing, and writes down which edges moved
+ *   5. replica_complete    adds all edges still missing, and writes down which edges moved; or
+ *      replica_complete_shuffled, for replicas that differ, each repeatable from its number x
  *   6. replica_edge_list   the graph as a list of edges
  *
  * A block that is sent again under its old number is recognised and not added twice. Vertices are
@@ -137,7 +138,8 @@ extern "C" {
 #define REPLICA_MOST_GRAPH6_EDGE_LIST 39800
 /* Bytes of a join record. */
 #define REPLICA_JOIN_RECORD_LENGTH 8
-/* An output of this many bytes is never too short for replica_complete: 4,000 join records. */
+/* An output of this many bytes is never too short for replica_complete and
+ * replica_complete_shuffled: 4,000 join records. */
 #define REPLICA_MOST_JOIN_RECORDS 32000
 /* Stands for a, b and t of a switch that was not needed. No vertex has this number. */
 #define REPLICA_UNUSED 255
@@ -321,6 +323,32 @@ struct ReplicaAnswer replica_remove_edge(const uint8_t *journal, size_t journal_
 struct ReplicaAnswer replica_complete(const uint8_t *journal, size_t journal_length,
                                       uint8_t *adjacency, size_t adjacency_length,
                                       uint8_t *output, size_t output_length);
+
+/*
+ * Does the same, but x, any number of 32 bits, chooses which edge is added next: another x mostly
+ * gives another graph of the same matrix. The same start and the same x always give the same graph
+ * and the same records.
+ *
+ * While a cell is short, x becomes the low 32 bits of x * 1664525 + 1013904223, and then one edge
+ * is added. Let m be the number of pairs v < w that are not joined and whose cell is short, over
+ * all cells together, in the graph with the edges added so far. Of these pairs, ascending by v and
+ * then w, counted from 0, the one at position (x / 65536) mod m, both of whole numbers, is joined:
+ * v to w, exactly as replica_add_edge does it.
+ *
+ * It adds as many edges as replica_complete would, needs as much output, and writes its join records
+ * in the same way. On a complete state it does nothing, and x is returned as it came.
+ *
+ *   first   edges added
+ *   second  switches made for them
+ *   third   bytes written, 8 for each edge added
+ *   fourth  the last x, which can be the x of the next replica
+ *
+ * Refused: 1, 2, 3 (not laid out yet), 18 (before anything changes).
+ */
+struct ReplicaAnswer replica_complete_shuffled(const uint8_t *journal, size_t journal_length,
+                                               uint8_t *adjacency, size_t adjacency_length,
+                                               uint32_t x,
+                                               uint8_t *output, size_t output_length);
 
 /*
  * Writes the edges laid so far as an edge list. Output bytes after the written part are untouched.
