@@ -1,13 +1,14 @@
 //! Loads a table from a file of records, drags some edges by hand, completes and prints what moved
 //! and what came out.
 //!
-//!     cargo run -p replica --example lay_out -- RECORDS [V-W ...]
+//!     cargo run -p replica --example lay_out -- RECORDS [V-W ...] [--shuffle X]
 //!
 //! RECORDS is a file of 4-byte records (k, l, 16-bit count, low byte first; 0, 0, count for isolated
 //! vertices). Each V-W joins two vertices before the rest is completed; -V-W removes an edge again.
-//! Without a file, the table of document 004 is laid.
+//! With --shuffle, the number X chooses the edges that complete it. Without a file, the table of
+//! document 004 is laid.
 
-use replica::{State, Switch, Switches, BLOCK_LENGTH};
+use replica::{Completion, Refusal, State, Switch, Switches, BLOCK_LENGTH};
 use std::error::Error;
 
 const DOCUMENT_004: [u8; 12] = [1, 3, 1, 0, 2, 2, 2, 0, 2, 3, 2, 0];
@@ -21,10 +22,14 @@ fn main() -> Result<(), Box<dyn Error>> {
     let mut state = State::new();
     take_all(&mut state, &records)?;
     println!("{} vertices", state.lay_out()?);
-    for drag in arguments {
-        by_hand(&mut state, &drag)?;
+    let mut shuffle = None;
+    while let Some(word) = arguments.next() {
+        match word.as_str() {
+            "--shuffle" => shuffle = Some(arguments.next().ok_or("--shuffle X")?.parse()?),
+            drag => by_hand(&mut state, drag)?,
+        }
     }
-    let done = state.complete()?;
+    let done = completed(&mut state, shuffle)?;
     println!("{} joins, {} switches", done.joins, done.switches);
     for join in done.records() {
         println!("{}-{}{}", join.v, join.w, moved(join.switches));
@@ -71,6 +76,15 @@ fn by_hand(state: &mut State, drag: &str) -> Result<(), Box<dyn Error>> {
         Err(refusal) => println!("{drag}: refused, {refusal}"),
     }
     Ok(())
+}
+
+fn completed(state: &mut State, shuffle: Option<u32>) -> Result<Completion, Refusal> {
+    let Some(x) = shuffle else {
+        return state.complete();
+    };
+    let (done, last) = state.complete_shuffled(x)?;
+    println!("shuffled from {x}, to {last}");
+    Ok(done)
 }
 
 /// The edges that a join moved.

@@ -35,6 +35,9 @@
 //! edge hands its switches back, and completing gives a record of each join, so that a copy of the
 //! graph can follow by playing them ([`Completion`]).
 //!
+//! Where one graph of the table is not enough, [`State::complete_shuffled`] gives others, each of which
+//! its number gives again.
+//!
 //! Whoever has a graph of the table already, a drawing, brings a laid state to it: [`State::draw`].
 //!
 //! Single graphs go out and come in as McKay's graph6 ([`State::graph6`], [`graph6_write`],
@@ -43,6 +46,7 @@
 //! [`raw`] has the same entries over slices of any length, answering with the plain numbers of the
 //! C interface.
 
+mod completion;
 mod drawing;
 mod graph6;
 mod iterators;
@@ -51,12 +55,13 @@ pub mod raw;
 mod refusal;
 mod state;
 
+pub use completion::Completion;
 pub use drawing::{Drawn, NotDrawn};
 pub use graph6::{graph6_read, graph6_write};
 pub use iterators::{block, Cell, Cells, Edges, Record, Records};
 pub use joins::{Join, Joins, Switch, Switches};
 pub use refusal::{Cause, Refusal};
-pub use state::{jdm_of_edges, Completion, Figures, Phase, State, Take};
+pub use state::{jdm_of_edges, Figures, Phase, State, Take};
 
 /// Bytes of a journal.
 pub const JOURNAL_LENGTH: usize = 4162;

@@ -1,4 +1,4 @@
-//! The twelve exports of the C interface, over slices of any length.
+//! The thirteen exports of the C interface, over slices of any length.
 //!
 //! These functions are safe: a slice is passed as its pointer and its length, and the library
 //! checks lengths itself. They answer with the numbers of the C interface as they are.
@@ -135,6 +135,16 @@ mod exports {
             journal_length: usize,
             adjacency: *mut u8,
             adjacency_length: usize,
+            output: *mut u8,
+            output_length: usize,
+        ) -> ReplicaAnswer;
+
+        pub fn replica_complete_shuffled(
+            journal: *const u8,
+            journal_length: usize,
+            adjacency: *mut u8,
+            adjacency_length: usize,
+            x: u32,
             output: *mut u8,
             output_length: usize,
         ) -> ReplicaAnswer;
@@ -281,6 +291,27 @@ pub fn complete(journal: &[u8], adjacency: &mut [u8], output: &mut [u8]) -> Repl
             journal.len(),
             adjacency.as_mut_ptr(),
             adjacency.len(),
+            output.as_mut_ptr(),
+            output.len(),
+        )
+    }
+}
+
+/// The same with edges chosen by numbers from x on: `fourth` is the last of them.
+/// Refused: 1, 2, 3, 18.
+pub fn complete_shuffled(
+    journal: &[u8],
+    adjacency: &mut [u8],
+    x: u32,
+    output: &mut [u8],
+) -> ReplicaAnswer {
+    unsafe {
+        exports::replica_complete_shuffled(
+            journal.as_ptr(),
+            journal.len(),
+            adjacency.as_mut_ptr(),
+            adjacency.len(),
+            x,
             output.as_mut_ptr(),
             output.len(),
         )

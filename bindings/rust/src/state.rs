@@ -2,8 +2,8 @@
 
 use crate::raw::{self, ReplicaAnswer};
 use crate::{
-    Cells, Edges, Joins, Records, Refusal, Switches, ADJACENCY_LENGTH, JOIN_RECORD_LENGTH,
-    JOURNAL_LENGTH, MOST_EDGES, MOST_VERTICES,
+    Cells, Edges, Records, Refusal, Switches, ADJACENCY_LENGTH, JOURNAL_LENGTH, MOST_EDGES,
+    MOST_VERTICES,
 };
 use std::fmt;
 
@@ -14,54 +14,6 @@ pub enum Take {
     Taken(u64),
     /// The same block was taken before; nothing changed.
     Held,
-}
-
-/// What completing did: the edges it added, the switches made for them, and a record of each join.
-/// The bytes of the records are its own, from [`State::complete`], or lent to it, from
-/// [`State::complete_into`].
-///
-/// Played onto the graph of before, the records give the graph of after:
-///
-/// ```
-/// use replica::{State, Switch};
-/// use std::collections::BTreeSet;
-///
-/// let mut state = State::new();
-/// state.take_block(0, &[2, 2, 8, 0]).unwrap(); // four vertices in a ring
-/// state.lay_out().unwrap();
-/// state.add_edge(0, 1).unwrap();
-///
-/// let mut copy: BTreeSet<(u8, u8)> = state.edges().unwrap().collect();
-/// let pair = |v: u8, w: u8| (v.min(w), v.max(w));
-/// let done = state.complete().unwrap();
-/// assert_eq!((done.joins, done.switches), (3, 2));
-/// for join in done.records() {
-///     for Switch { a, b, t } in join.switches {
-///         assert!(copy.remove(&pair(a, t)));
-///         assert!(copy.insert(pair(b, t)));
-///     }
-///     assert!(copy.insert((join.v, join.w)));
-/// }
-/// assert!(copy.into_iter().eq(state.edges().unwrap()));
-/// ```
-#[derive(Clone, Copy, Debug, PartialEq, Eq)]
-pub struct Completion<Bytes = Vec<u8>> {
-    pub joins: u64,
-    pub switches: u64,
-    bytes: Bytes,
-}
-
-impl<Bytes: AsRef<[u8]>> Completion<Bytes> {
-    /// The joins with their switches, in the order made; v is below w in each.
-    pub fn records(&self) -> Joins<'_> {
-        Joins::new(self.as_bytes())
-    }
-
-    /// The bytes of the records, 8 for each join: v, w, then a, b, t of each switch in the order
-    /// made, unused ones 255.
-    pub fn as_bytes(&self) -> &[u8] {
-        self.bytes.as_ref()
-    }
 }
 
 /// The two phases of a state.
@@ -86,8 +38,9 @@ pub struct Figures {
 /// A journal and an adjacency matrix.
 ///
 /// It starts in the phase of taking blocks. [`lay_out`](State::lay_out) fixes the vertices; then
-/// edges can be added and removed by hand, and [`complete`](State::complete) adds what is missing.
-/// A refused call changes nothing.
+/// edges can be added and removed by hand, and [`complete`](State::complete) or
+/// [`complete_shuffled`](State::complete_shuffled) adds what is missing. A refused call changes
+/// nothing.
 ///
 /// ```
 /// use replica::{Cause, State, Switch, Take};
@@ -108,8 +61,8 @@ pub struct Figures {
 /// ```
 #[derive(Clone, PartialEq, Eq)]
 pub struct State {
-    journal: Vec<u8>,
-    adjacency: Vec<u8>,
+    pub(crate) journal: Vec<u8>,
+    pub(crate) adjacency: Vec<u8>,
 }
 
 impl Default for State {
@@ -316,68 +269,6 @@ impl State {
         let answer = raw::remove_edge(&self.journal, &mut self.adjacency, v, w);
         Refusal::unless_done(answer)?;
         Ok(())
-    }
-
-    /// Adds edges until every cell has its count. From any start it makes exactly as many joins as
-    /// edges are missing. Returns how many, the switches made for them, and a record of each join.
-    ///
-    /// ```
-    /// # use replica::{State, Switch};
-    /// let mut state = State::new();
-    /// state.take_block(0, &[2, 2, 8, 0]).unwrap();
-    /// state.lay_out().unwrap();
-    /// let done = state.complete().unwrap();
-    /// assert_eq!((done.joins, done.switches), (4, 2));
-    /// let pairs: Vec<_> = done.records().map(|join| (join.v, join.w)).collect();
-    /// assert_eq!(pairs, [(0, 1), (0, 2), (0, 3), (0, 2)]); // a switch took 0-2 away in between
-    /// let last = done.records().last().unwrap();
-    /// assert_eq!(*last.switches, [Switch { a: 0, b: 3, t: 1 }]);
-    ///
-    /// assert_eq!(state.complete().unwrap().joins, 0); // nothing is missing any more
-    /// ```
-    pub fn complete(&mut self) -> Result<Completion, Refusal> {
-        let mut bytes = vec![0; JOIN_RECORD_LENGTH * MOST_EDGES];
-        let done = self.complete_into(&mut bytes)?;
-        let (joins, switches, length) = (done.joins, done.switches, done.bytes.len());
-        bytes.truncate(length);
-        Ok(Completion {
-            joins,
-            switches,
-            bytes,
-        })
-    }
-
-    /// The same, writing the records into an output, 8 bytes for each edge that is missing. 32,000
-    /// bytes always do; on a complete state none are needed. Refused when it is shorter, and then
-    /// nothing is added either.
-    ///
-    /// ```
-    /// # use replica::{Cause, State};
-    /// let mut state = State::new();
-    /// state.take_block(0, &[1, 1, 4, 0]).unwrap();
-    /// state.lay_out().unwrap();
-    /// let mut output = [9; 20];
-    /// let refusal = state.complete_into(&mut output[..15]).unwrap_err();
-    /// assert_eq!(refusal.cause, Cause::OutputTooShort);
-    ///
-    /// let done = state.complete_into(&mut output).unwrap();
-    /// assert_eq!((done.joins, done.switches, done.as_bytes().len()), (2, 1, 16));
-    /// assert_eq!(output[..8], [0, 1, 255, 255, 255, 255, 255, 255]);
-    /// assert_eq!(output[8..], [0, 2, 0, 3, 1, 255, 255, 255, 9, 9, 9, 9]);
-    ///
-    /// assert_eq!(state.complete_into(&mut []).unwrap().joins, 0);
-    /// ```
-    pub fn complete_into<'a>(
-        &mut self,
-        output: &'a mut [u8],
-    ) -> Result<Completion<&'a [u8]>, Refusal> {
-        let answer = raw::complete(&self.journal, &mut self.adjacency, output);
-        let answer = Refusal::unless_done(answer)?;
-        Ok(Completion {
-            joins: answer.first,
-            switches: answer.second,
-            bytes: &output[..answer.third as usize],
-        })
     }
 
     /// The edges (v, w), v below w, ascending.
