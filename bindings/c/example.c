@@ -1,8 +1,8 @@
 /*
  * Lays out six vertices of degree 2 and one isolated vertex, adds three edges by hand and completes
  * the rest. A copy of the graph, as a patch frame would keep one, follows by what each join says has
- * moved. Prints what moved and the edges, and counts the table of the graph it got. Last, another
- * graph goes out as graph6 and comes back.
+ * moved. Prints what moved and the edges, and counts the table of the graph it got. Then it makes two
+ * more replicas of the table, which differ. Last, another graph goes out as graph6 and comes back.
  */
 #include <inttypes.h>
 #include <stdio.h>
@@ -92,6 +92,27 @@ static uint64_t lay_out(void)
                                            adjacency, sizeof adjacency)).first;
 }
 
+/*
+ * Makes one more replica of the table, from no edges and the number x, and prints it. The same x gives
+ * the same replica. Returns the last x.
+ */
+static uint32_t another(uint32_t x)
+{
+    struct ReplicaAnswer completed, list;
+
+    memset(adjacency, 0, sizeof adjacency); /* no edges: the state is as it was when laid out */
+    completed = done("complete_shuffled",
+                     replica_complete_shuffled(journal, sizeof journal, adjacency, sizeof adjacency,
+                                               x, joins, sizeof joins));
+    list = done("edge_list", replica_edge_list(journal, sizeof journal, adjacency, sizeof adjacency,
+                                               edges, sizeof edges));
+    printf("from %" PRIu32 ":", x);
+    for (uint64_t i = 0; i < list.first; i += 2)
+        printf(" %d-%d", edges[i], edges[i + 1]);
+    printf("\n");
+    return (uint32_t)completed.fourth;
+}
+
 /* Writes four edges among four vertices as graph6 and reads them back: neither needs a state. */
 static int exchange(void)
 {
@@ -135,6 +156,7 @@ int main(void)
         fprintf(stderr, "the graph has another table\n");
         return 1;
     }
+    another(another(0)); /* the next replica's number is the last one of this */
     if (!exchange()) {
         fprintf(stderr, "the text has other edges\n");
         return 1;

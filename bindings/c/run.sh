@@ -41,9 +41,11 @@ cat >expected <<END
 2 6
 4 5
 5 6
+from 0: 1-2 1-6 2-6 3-4 3-5 4-5
+from 2670642822: 1-2 1-6 2-4 3-5 3-6 4-5
 CN has 4 vertices
 END
 if ! cmp -s printed expected; then
-    echo "FAILED: other moves, edges or text than those worked out by hand" >&2
+    echo "FAILED: other moves, edges or text than expected" >&2
     exit 1
 fi
