@@ -1,6 +1,6 @@
 //! Makes a call on the library and on the reference and compares everything.
 
-use crate::call::{on_library, on_reference, Call, Memory};
+use crate::call::{on_library, on_reference, Call, Completing, Memory};
 use crate::count::Count;
 use crate::lent::Lent;
 use reference::numbers::Numbers;
@@ -63,7 +63,10 @@ impl Both {
             self.compare(&call, "the bytes before the refusal", &after, &before);
         }
         self.compare_inputs(&call, &after);
-        let moves = &mut self.count.moves;
+        let moves = match call {
+            Call::CompleteShuffled { .. } => &mut self.count.shuffled,
+            _ => &mut self.count.moves,
+        };
         let moved = moves.follow(&call, &numbers, &before, &after);
         let texts = &mut self.count.texts;
         let turned = texts.follow(&call, &numbers, &after);
@@ -102,16 +105,19 @@ impl Both {
     /// Completes a laid state in which so many edges are missing: refused for want of one byte, then
     /// with just the room it needs.
     pub fn complete(&mut self, missing: u64) -> Numbers {
+        self.complete_by(Completing::Lowest, missing)
+    }
+
+    /// The same in either way.
+    pub fn complete_by(&mut self, completing: Completing, missing: u64) -> Numbers {
         let needed = join_record::LENGTH * missing as usize;
         let filled = |length| vec![0xee; length];
         if needed > 0 {
-            let output = filled(needed - 1);
-            let numbers = self.call(Call::Complete { output });
+            let numbers = self.call(completing.call(filled(needed - 1)));
             assert_eq!(numbers, refused(18), "{}", self.label);
         }
-        let output = filled(needed);
-        let numbers = self.call(Call::Complete { output });
-        let expected = [0, missing, numbers[2], needed as u64, 0, 0];
+        let numbers = self.call(completing.call(filled(needed)));
+        let expected = completing.answer(missing, numbers[2]);
         assert_eq!(numbers, expected, "{}", self.label);
         numbers
     }
@@ -262,7 +268,11 @@ impl Both {
         let writes_journal = matches!(call, Call::Clear | Call::TakeBlock { .. } | Call::LayOut);
         let writes_adjacency = matches!(
             call,
-            Call::Clear | Call::AddEdge { .. } | Call::RemoveEdge { .. } | Call::Complete { .. }
+            Call::Clear
+                | Call::AddEdge { .. }
+                | Call::RemoveEdge { .. }
+                | Call::Complete { .. }
+                | Call::CompleteShuffled { .. }
         );
         let kept = (writes_journal || same_journal) && (writes_adjacency || same_adjacency);
         assert!(kept, "{}: a byte lent to read changed", self.place(call));

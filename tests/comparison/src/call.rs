@@ -3,9 +3,10 @@
 use reference::join_record;
 use reference::numbers::{self, Numbers};
 use reference::random::Random;
+use reference::shuffling::stepped;
 use std::fmt;
 
-/// The twelve entries.
+/// The thirteen entries.
 #[derive(Clone, Copy, Debug, PartialEq, Eq)]
 pub enum Entry {
     Clear,
@@ -15,6 +16,7 @@ pub enum Entry {
     AddEdge,
     RemoveEdge,
     Complete,
+    CompleteShuffled,
     EdgeList,
     JdmOfEdges,
     Graph6Write,
@@ -23,7 +25,7 @@ pub enum Entry {
 }
 
 impl Entry {
-    pub const ALL: [Entry; 12] = [
+    pub const ALL: [Entry; 13] = [
         Entry::Clear,
         Entry::TakeBlock,
         Entry::HeldBlock,
@@ -31,6 +33,7 @@ impl Entry {
         Entry::AddEdge,
         Entry::RemoveEdge,
         Entry::Complete,
+        Entry::CompleteShuffled,
         Entry::EdgeList,
         Entry::JdmOfEdges,
         Entry::Graph6Write,
@@ -47,6 +50,7 @@ impl Entry {
             Entry::AddEdge => "add_edge",
             Entry::RemoveEdge => "remove_edge",
             Entry::Complete => "complete",
+            Entry::CompleteShuffled => "complete_shuffled",
             Entry::EdgeList => "edge_list",
             Entry::JdmOfEdges => "jdm_of_edges",
             Entry::Graph6Write => "graph6_write",
@@ -64,7 +68,7 @@ impl Entry {
             Entry::LayOut => &[1, 2, 3, 9, 10, 11, 12],
             Entry::AddEdge => &[1, 2, 3, 13, 14, 15, 16],
             Entry::RemoveEdge => &[1, 2, 3, 13, 14, 17],
-            Entry::Complete => &[1, 2, 3, 18],
+            Entry::Complete | Entry::CompleteShuffled => &[1, 2, 3, 18],
             Entry::EdgeList => &[1, 2, 3, 18],
             Entry::JdmOfEdges => &[19, 20, 18],
             Entry::Graph6Write => &[19, 18],
@@ -97,6 +101,10 @@ pub enum Call {
     Complete {
         output: Vec<u8>,
     },
+    CompleteShuffled {
+        x: u32,
+        output: Vec<u8>,
+    },
     EdgeList {
         output: Vec<u8>,
     },
@@ -127,6 +135,7 @@ impl Call {
             Call::AddEdge { .. } => Entry::AddEdge,
             Call::RemoveEdge { .. } => Entry::RemoveEdge,
             Call::Complete { .. } => Entry::Complete,
+            Call::CompleteShuffled { .. } => Entry::CompleteShuffled,
             Call::EdgeList { .. } => Entry::EdgeList,
             Call::JdmOfEdges { .. } => Entry::JdmOfEdges,
             Call::Graph6Write { .. } => Entry::Graph6Write,
@@ -149,6 +158,7 @@ impl Call {
     pub fn output(&self) -> &[u8] {
         match self {
             Call::Complete { output }
+            | Call::CompleteShuffled { output, .. }
             | Call::EdgeList { output }
             | Call::JdmOfEdges { output, .. }
             | Call::Graph6Write { output, .. }
@@ -168,6 +178,7 @@ impl fmt::Debug for Call {
             Call::Complete { output } | Call::EdgeList { output } => {
                 write!(f, "({} bytes)", output.len())
             }
+            Call::CompleteShuffled { x, output } => write!(f, "({x}, {} bytes)", output.len()),
             Call::JdmOfEdges {
                 edges,
                 total,
@@ -183,6 +194,51 @@ impl fmt::Debug for Call {
             }
             _ => Ok(()),
         }
+    }
+}
+
+/// The two ways to complete a state: by the lowest open pair, or by open pairs that numbers choose,
+/// from this one on.
+#[derive(Clone, Copy, Debug, PartialEq, Eq)]
+pub enum Completing {
+    Lowest,
+    Shuffled(u32),
+}
+
+impl Completing {
+    /// Either of them.
+    pub fn any(random: &mut Random) -> Completing {
+        if random.chance(50) {
+            Completing::Lowest
+        } else {
+            Completing::any_shuffled(random)
+        }
+    }
+
+    /// From any number, the least and the most among them.
+    pub fn any_shuffled(random: &mut Random) -> Completing {
+        Completing::Shuffled(match random.below(10) {
+            0 => 0,
+            1 => u32::MAX,
+            _ => random.any() as u32,
+        })
+    }
+
+    pub fn call(self, output: Vec<u8>) -> Call {
+        match self {
+            Completing::Lowest => Call::Complete { output },
+            Completing::Shuffled(x) => Call::CompleteShuffled { x, output },
+        }
+    }
+
+    /// The answer to so many joins with so many switches: of numbers that choose, the last one is in it.
+    pub fn answer(self, joins: u64, switches: u64) -> [u64; 6] {
+        let last = match self {
+            Completing::Lowest => 0,
+            Completing::Shuffled(x) => stepped(x, joins as usize),
+        };
+        let written = join_record::LENGTH as u64 * joins;
+        [0, joins, switches, written, last.into(), 0]
     }
 }
 
@@ -248,6 +304,7 @@ pub fn on_library(
         }
         Call::RemoveEdge { v, w } => raw::remove_edge(journal, adjacency, v, w),
         Call::Complete { .. } => raw::complete(journal, adjacency, output),
+        Call::CompleteShuffled { x, .. } => raw::complete_shuffled(journal, adjacency, x, output),
         Call::EdgeList { .. } => raw::edge_list(journal, adjacency, output),
         Call::JdmOfEdges { total, .. } => raw::jdm_of_edges(input, total, output),
         Call::Graph6Write { total, .. } => raw::graph6_write(input, total, output),
@@ -273,6 +330,9 @@ pub fn on_reference(call: &Call, memory: &mut Memory) -> Numbers {
         }
         Call::RemoveEdge { v, w } => numbers::remove_edge(journal, adjacency, v, w),
         Call::Complete { .. } => numbers::complete(journal, adjacency, output),
+        Call::CompleteShuffled { x, .. } => {
+            numbers::complete_shuffled(journal, adjacency, x, output)
+        }
         Call::EdgeList { .. } => numbers::edge_list(journal, adjacency, output),
         Call::JdmOfEdges { total, .. } => numbers::jdm_of_edges(input, total, output),
         Call::Graph6Write { total, .. } => numbers::graph6_write(input, total, output),

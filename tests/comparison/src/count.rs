@@ -23,7 +23,10 @@ pub struct Count {
     pub read_back: u64,
     pub isolated: Isolated,
     pub empty: Empty,
+    /// What moved in joins by hand and in completing by the lowest pair.
     pub moves: Moves,
+    /// What moved in completing shuffled.
+    pub shuffled: Moves,
     pub texts: Texts,
 }
 
@@ -84,7 +87,7 @@ impl Count {
                 self.joins += 1;
                 self.switches += numbers[1];
             }
-            Entry::Complete if number == 0 => {
+            Entry::Complete | Entry::CompleteShuffled if number == 0 => {
                 self.completions += 1;
                 self.joins += numbers[1];
                 self.switches += numbers[2];
@@ -110,15 +113,17 @@ impl Count {
         self.isolated.add(&other.isolated);
         self.empty.add(&other.empty);
         self.moves.add(&other.moves);
+        self.shuffled.add(&other.shuffled);
         self.texts.add(&other.texts);
     }
 
     /// The counts that have names, and what they are of.
-    fn named(&self) -> [(&'static str, Vec<(&'static str, u64)>); 4] {
+    fn named(&self) -> [(&'static str, Vec<(&'static str, u64)>); 5] {
         [
             ("isolated", self.isolated.named()),
             ("empty blocks", self.empty.named()),
             ("what moved", self.moves.named()),
+            ("shuffled", self.shuffled.named()),
             ("graph6", self.texts.named()),
         ]
     }
@@ -157,17 +162,17 @@ impl Count {
     }
 
     pub fn print(&self) {
-        println!("entry            calls       done  refusals, number:times");
+        println!("entry                calls       done  refusals, number:times");
         for entry in Entry::ALL {
             let answers = &self.answers[entry as usize];
             let calls: u64 = answers.iter().sum();
-            print!("{:<13}{calls:>9}{:>11} ", entry.name(), answers[0]);
+            print!("{:<17}{calls:>9}{:>11} ", entry.name(), answers[0]);
             for &number in entry.refusals() {
                 print!(" {number}:{}", answers[number]);
             }
             println!();
         }
-        println!("all          {:>9}", self.calls());
+        println!("all              {:>9}", self.calls());
         print!("refusals    ");
         for number in 1..=REFUSALS {
             print!(" {number}:{}", self.refusals(number));

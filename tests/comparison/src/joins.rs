@@ -3,7 +3,7 @@
 
 use crate::blocks::{self, Size};
 use crate::both::Both;
-use crate::call::{any_output, Call};
+use crate::call::{any_output, Call, Completing};
 use crate::tables::{simple, sum_of, sum_of_graph, Cells, Sum};
 use reference::numbers::Numbers;
 use reference::random::Random;
@@ -52,7 +52,9 @@ impl Tally {
             Call::LayOut if !self.laid => self.laid = self.table().check().is_ok(),
             Call::AddEdge { .. } if done => self.edges += 1,
             Call::RemoveEdge { .. } if done => self.edges -= 1,
-            Call::Complete { .. } if done => self.edges += numbers[1],
+            Call::Complete { .. } | Call::CompleteShuffled { .. } if done => {
+                self.edges += numbers[1];
+            }
             _ => {}
         }
     }
@@ -81,7 +83,7 @@ pub fn run(seed: u64, both: &mut Both) {
         let numbers = both.call(call.clone());
         tally.fed(&call, &numbers);
         if tally.laid {
-            check_laid(&tally, both);
+            check_laid(&tally, &mut random, both);
         } else {
             check_taking(&tally, both);
         }
@@ -121,9 +123,7 @@ fn next_call(plan: &[Vec<u8>], tally: &Tally, random: &mut Random) -> Call {
         },
         5 if tally.laid && random.chance(30) => {
             let needed = join_record::LENGTH * tally.missing() as usize;
-            Call::Complete {
-                output: any_output(needed, random),
-            }
+            Completing::any(random).call(any_output(needed, random))
         }
         _ if tally.laid => Call::AddEdge {
             v: any(random),
@@ -160,9 +160,9 @@ fn check_taking(tally: &Tally, both: &mut Both) {
 }
 
 /// Once laid: figures agree with the tally, every short pair can be joined, there is one while a
-/// cell is short, and completing makes exactly as many joins as edges are missing, if there is room
-/// for their records.
-fn check_laid(tally: &Tally, both: &mut Both) {
+/// cell is short, and completing in either way makes exactly as many joins as edges are missing, if
+/// there is room for their records.
+fn check_laid(tally: &Tally, random: &mut Random, both: &mut Both) {
     let (table, wanted) = (tally.table(), tally.sum());
     let (vertices, edges) = (table.vertex_count(), wanted.edges());
     let figures = both.call(Call::Figures);
@@ -182,11 +182,13 @@ fn check_laid(tally: &Tally, both: &mut Both) {
     }
     let journal = both.journal.clone();
     let before = both.adjacency.clone();
-    both.complete(missing);
-    assert!(simple(&both.adjacency));
-    assert_eq!(sum_of_graph(&both.adjacency, vertices as usize), wanted);
-    both.journal = journal;
-    both.adjacency = before;
+    for completing in [Completing::Lowest, Completing::any_shuffled(random)] {
+        both.complete_by(completing, missing);
+        assert!(simple(&both.adjacency));
+        assert_eq!(sum_of_graph(&both.adjacency, vertices as usize), wanted);
+        both.journal.clone_from(&journal);
+        both.adjacency.clone_from(&before);
+    }
 }
 
 /// Pairs that are not joined and whose cell, counted at the degrees laid out, is short.

@@ -4,11 +4,12 @@
 
 use crate::blocks::{self, Size};
 use crate::both::Both;
-use crate::call::{any_output, room, Call};
+use crate::call::{any_output, room, Call, Completing};
 use crate::texts::text_length;
 use crate::{edge_lists, exchange};
 use reference::graphs;
 use reference::random::Random;
+use reference::shuffling::open_pairs;
 use reference::{adjacency, journal, validity, Matrix};
 use reference::{ADJACENCY_LENGTH, JOURNAL_LENGTH, MOST_VERTICES};
 use replica::MOST_GRAPH6;
@@ -37,7 +38,8 @@ pub fn run(seed: u64, size: Size, both: &mut Both) {
     // Whatever the list left behind, its end is a full one if it can be.
     list.call(Call::LayOut);
     let output = list.random.bytes(MOST_JOIN_RECORD_BYTES);
-    list.call(Call::Complete { output });
+    let completing = Completing::any(&mut list.random);
+    list.call(completing.call(output));
     list.list_edges();
     list.read_all_back();
     list.both.count.call_lists += 1;
@@ -256,20 +258,14 @@ impl List<'_> {
     /// A pair that is not joined and whose cell is short.
     fn short_pair(&mut self) -> Option<(u64, u64)> {
         let laid = self.laid()?;
-        let mut pairs = Vec::new();
-        for v in 0..laid.degrees.len() {
-            for w in v + 1..laid.degrees.len() {
-                let (k, l) = (laid.degrees[v], laid.degrees[w]);
-                let short = laid.counted.cell(k, l) < laid.wanted.cell(k, l);
-                if short && !adjacency::joined(&self.both.adjacency, v, w) {
-                    pairs.push((v as u64, w as u64));
-                }
-            }
-        }
+        let adjacency = &self.both.adjacency;
+        let pairs = open_pairs(adjacency, &laid.degrees, &laid.counted, &laid.wanted);
+        let pairs: Vec<(usize, usize)> = pairs.collect();
         if pairs.is_empty() {
             return None;
         }
-        Some(*self.random.pick(&pairs))
+        let &(v, w) = self.random.pick(&pairs);
+        Some((v as u64, w as u64))
     }
 
     /// Any two numbers, mostly of vertices.
@@ -294,12 +290,11 @@ impl List<'_> {
         }
     }
 
-    /// With room for its records or without.
+    /// In either way, with room for its records or without.
     fn completion(&mut self) -> Call {
         let needed = room(&self.both.journal, &self.both.adjacency);
-        Call::Complete {
-            output: any_output(needed, &mut self.random),
-        }
+        let output = any_output(needed, &mut self.random);
+        Completing::any(&mut self.random).call(output)
     }
 
     fn edge_list(&mut self) -> Call {

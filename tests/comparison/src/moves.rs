@@ -68,11 +68,11 @@ impl Moves {
     ) -> Result<(), String> {
         let (records, switches) = match (call, numbers[0]) {
             (Call::AddEdge { v, w }, 0) => (record_of(*v, *w, numbers), numbers[1]),
-            (Call::Complete { output }, 0) => {
+            (Call::Complete { output } | Call::CompleteShuffled { output, .. }, 0) => {
                 self.completed(numbers[1], output.len());
                 (after.output[..numbers[3] as usize].to_vec(), numbers[2])
             }
-            (Call::Complete { output }, 18) => {
+            (Call::Complete { output } | Call::CompleteShuffled { output, .. }, 18) => {
                 let needed = room(&before.journal, &before.adjacency);
                 self.a_byte_short += u64::from(output.len() + 1 == needed);
                 return Ok(());

@@ -4,7 +4,7 @@
 //! every call, byte for byte.
 
 use crate::both::Both;
-use crate::call::Call;
+use crate::call::{Call, Completing};
 use crate::tables::{sum_of, take_all};
 use reference::graphs::Graph;
 use reference::numbers::Numbers;
@@ -261,9 +261,10 @@ impl<'a> Laid<'a> {
         adjacency::edges(&self.adjacency)
     }
 
-    /// Completes, which the reference does too. Returns the switches.
+    /// Completes in either way, which the reference does too. Returns the switches.
     fn complete(&mut self) -> u64 {
-        let switches = self.both.complete(self.missing)[2];
+        let completing = Completing::any(self.random);
+        let switches = self.both.complete_by(completing, self.missing)[2];
         self.set(self.both.adjacency.clone());
         assert_eq!(self.missing, 0, "{}", self.place());
         switches

@@ -3,7 +3,7 @@
 
 use crate::blocks;
 use crate::both::Both;
-use crate::call::Call;
+use crate::call::{Call, Completing};
 use crate::texts::text_length;
 use reference::adjacency;
 use reference::graphs::{self, Graph};
@@ -111,7 +111,7 @@ pub fn run(table: &Table, start: Start, random: &mut Random, both: &mut Both) ->
         Start::Empty => 0,
         Start::ByHand => edges_by_hand(vertices, random, both),
     };
-    finish(&sum_of(&blocks), vertices, laid, both);
+    finish(&sum_of(&blocks), vertices, laid, random, both);
     true
 }
 
@@ -136,7 +136,7 @@ pub fn run_from_part_of(graph: &Graph, random: &mut Random, both: &mut Both) {
             adjacency::insert(&mut both.adjacency, v, w);
         }
     }
-    finish(&sum_of(&blocks), vertices, edges.len() as u64, both);
+    finish(&sum_of(&blocks), vertices, edges.len() as u64, random, both);
 }
 
 /// Edges of a large start beyond these are written as bytes, to save time.
@@ -198,16 +198,30 @@ fn edges_by_hand(vertices: usize, random: &mut Random, both: &mut Both) -> u64 {
     laid
 }
 
-/// Completes and checks the graph by its own count, by its list, and by the list's survey and text.
-fn finish(wanted: &Sum, vertices: usize, laid: u64, both: &mut Both) {
-    let edges = wanted.edges();
-    both.complete(edges - laid);
+/// Completes, finds nothing more to complete, and checks the graph by its own count.
+fn complete(completing: Completing, wanted: &Sum, vertices: usize, laid: u64, both: &mut Both) {
+    both.complete_by(completing, wanted.edges() - laid);
     assert!(simple(&both.adjacency));
     assert_eq!(&sum_of_graph(&both.adjacency, vertices), wanted);
     // The isolated vertices are the first ones.
     let rows = &both.adjacency[..200 * wanted.isolated as usize];
     assert!(rows.iter().all(|&byte| byte == 0), "isolated, but joined");
-    assert_eq!(both.complete(0), [0; 6]);
+    both.complete_by(completing, 0);
+}
+
+/// Where more edges are missing, the reference takes its time: some starts are completed shuffled too.
+const MOST_SHUFFLED: u64 = 200;
+
+/// Completes in either way, and checks the graph by its list too, and by the list's survey and text.
+fn finish(wanted: &Sum, vertices: usize, laid: u64, random: &mut Random, both: &mut Both) {
+    let edges = wanted.edges();
+    if edges - laid <= MOST_SHUFFLED || random.chance(20) {
+        let start = both.adjacency.clone();
+        let shuffled = Completing::any_shuffled(random);
+        complete(shuffled, wanted, vertices, laid, both);
+        both.adjacency = start;
+    }
+    complete(Completing::Lowest, wanted, vertices, laid, both);
 
     let output = vec![0xee; 2 * edges as usize];
     let numbers = both.call(Call::EdgeList { output });

@@ -5,7 +5,7 @@ use reference::graphs::{self, Graph};
 use reference::random::Random;
 use reference::Table;
 use replica::{block, graph6_read, graph6_write, jdm_of_edges};
-use replica::{Cause, Drawn, Join, Joins, NotDrawn, Record, Records, Refusal};
+use replica::{Cause, Completion, Drawn, Join, Joins, NotDrawn, Record, Records, Refusal};
 use replica::{State, Switch, Take};
 use replica::{BLOCK_LENGTH, JOIN_RECORD_LENGTH, RECORD_LENGTH};
 use replica::{MOST_EDGES, MOST_GRAPH6, MOST_PAIRS, MOST_RECORDS};
@@ -41,9 +41,16 @@ fn edges(state: &State) -> Vec<(u8, u8)> {
 
 /// Joins and switches of completing. Its records are as many, and played they give the same edges.
 fn complete(state: &mut State) -> (u64, u64) {
-    let mut played: BTreeSet<(u8, u8)> = edges(state).into_iter().collect();
-    let pair = |v: u8, w: u8| (v.min(w), v.max(w));
+    let before = edges(state);
     let done = state.complete().unwrap();
+    play(before, &done, state);
+    (done.joins, done.switches)
+}
+
+/// The records of a completion, played onto the edges of before, give those of the state.
+fn play(before: Vec<(u8, u8)>, done: &Completion, state: &State) {
+    let mut played: BTreeSet<(u8, u8)> = before.into_iter().collect();
+    let pair = |v: u8, w: u8| (v.min(w), v.max(w));
     let mut switches = 0;
     for join in done.records() {
         switches += join.switches.len() as u64;
@@ -56,7 +63,6 @@ fn complete(state: &mut State) -> (u64, u64) {
     assert!(played.into_iter().eq(edges(state)));
     assert_eq!(done.records().len() as u64, done.joins);
     assert_eq!(switches, done.switches);
-    (done.joins, done.switches)
 }
 
 const SQUARE: [(u8, u8, u16); 1] = [(2, 2, 8)];
@@ -122,6 +128,76 @@ fn records_of_a_square() {
     let last = done.records().last().unwrap().switches;
     assert_eq!(format!("{last:?}"), "[Switch { a: 0, b: 3, t: 1 }]");
     assert_eq!(state.complete_into(&mut []).unwrap().joins, 0);
+}
+
+/// The square from 0, owned and lent; the same number gives it again, another one another.
+#[test]
+fn a_shuffled_square() {
+    const U: u8 = 255;
+    let records = [
+        [0, 3, U, U, U, U, U, U],
+        [0, 2, U, U, U, U, U, U],
+        [0, 1, 0, 2, 3, U, U, U],
+        [1, 3, U, U, U, U, U, U],
+    ];
+    let empty = laid(&SQUARE);
+    let mut state = empty.clone();
+    let mut output = [7; 40];
+    for length in 0..4 * JOIN_RECORD_LENGTH {
+        let refusal = state.complete_shuffled_into(0, &mut output[..length]);
+        assert_eq!(refusal.unwrap_err().cause, Cause::OutputTooShort);
+        assert_eq!(state, empty);
+    }
+    let (lent, last) = state.complete_shuffled_into(0, &mut output).unwrap();
+    assert_eq!((lent.joins, lent.switches, last), (4, 1, 2_868_466_484));
+    assert_eq!(lent.as_bytes(), records.concat());
+    assert_eq!(output[32..], [7; 8]);
+    assert_eq!(edges(&state), [(0, 1), (0, 2), (1, 3), (2, 3)]);
+
+    let mut again = empty.clone();
+    let (done, last) = again.complete_shuffled(0).unwrap();
+    assert_eq!((done.as_bytes(), last), (&output[..32], 2_868_466_484));
+    assert_eq!(again, state);
+    play(vec![], &done, &again);
+    let mut other = empty;
+    let (_, last) = other.complete_shuffled(u32::MAX).unwrap();
+    assert_eq!(last, 2_709_482_403);
+    assert_eq!(edges(&other), [(0, 1), (0, 3), (1, 2), (2, 3)]);
+    for x in [0, 1, u32::MAX] {
+        let (done, last) = other.complete_shuffled(x).unwrap();
+        assert_eq!((done.joins, done.switches, last), (0, 0, x));
+    }
+}
+
+#[test]
+fn refusals_of_completing_shuffled() {
+    let refusal = State::new().complete_shuffled(1).unwrap_err();
+    assert_eq!(refusal.cause, Cause::WrongPhase);
+    assert_eq!(refusal.places, (0, 0));
+}
+
+/// As many joins as edges are missing, from a part of any graph; the table comes back.
+#[test]
+fn shuffled_replicas_of_random_graphs() {
+    let mut random = Random::new(13);
+    for most in [6, 30, 200, 200] {
+        let graph = graphs::any(most, &mut random).by_rising_degree();
+        let mut state = laid_for(&graph);
+        for (v, w) in in_any_order(&graph, &mut random) {
+            if random.chance(30) {
+                assert!(state.add_edge(v, w).unwrap().is_empty());
+            }
+        }
+        let before = edges(&state);
+        let (done, _) = state.complete_shuffled(random.any() as u32).unwrap();
+        assert_eq!(done.joins as usize, graph.edges().len() - before.len());
+        play(before, &done, &state);
+        let mut records = [0; RECORD_LENGTH * MOST_RECORDS];
+        let list = state.edges().unwrap();
+        let total = graph.vertices() as u64;
+        let length = jdm_of_edges(list.as_bytes(), total, &mut records).unwrap();
+        assert_eq!(records[..length], graph.table().records());
+    }
 }
 
 /// Two switches, of the first named vertex and then of the second.

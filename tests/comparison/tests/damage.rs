@@ -7,7 +7,7 @@ use reference::journal::{record, slot_start};
 use reference::{refused, validity, ADJACENCY_LENGTH, JOURNAL_LENGTH};
 
 /// A call of each entry that checks validity. On a valid state none of them is refused with 2.
-fn calls() -> [Call; 8] {
+fn calls() -> [Call; 9] {
     let (v, w) = (0, 1);
     [
         Call::TakeBlock {
@@ -19,6 +19,10 @@ fn calls() -> [Call; 8] {
         Call::AddEdge { v, w },
         Call::RemoveEdge { v, w },
         Call::Complete { output: vec![9; 8] },
+        Call::CompleteShuffled {
+            x: 5,
+            output: vec![9; 8],
+        },
         Call::EdgeList { output: vec![9; 8] },
         Call::Figures,
     ]

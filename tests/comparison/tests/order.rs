@@ -1,7 +1,7 @@
 //! Directed cases for the order of checks, on both sides and against numbers written down here.
 
 use comparison::both::Both;
-use comparison::call::{room, Call};
+use comparison::call::{room, Call, Completing};
 use reference::journal::record;
 use reference::numbers::Numbers;
 use reference::refused_at as refused;
@@ -25,9 +25,19 @@ fn remove(both: &mut Both, v: u64, w: u64) -> Numbers {
 }
 
 fn complete(both: &mut Both, length: usize) -> Numbers {
-    let output = vec![0xee; length];
-    both.call(Call::Complete { output })
+    complete_by(Completing::Lowest, both, length)
 }
+
+fn complete_by(completing: Completing, both: &mut Both, length: usize) -> Numbers {
+    both.call(completing.call(vec![0xee; length]))
+}
+
+/// Either way to complete, the least and the most number among them.
+const COMPLETING: [Completing; 3] = [
+    Completing::Lowest,
+    Completing::Shuffled(0),
+    Completing::Shuffled(u32::MAX),
+];
 
 fn list(both: &mut Both, length: usize) -> Numbers {
     let output = vec![0xee; length];
@@ -321,7 +331,10 @@ fn only_isolated_vertices() {
     for isolated in [1, 2, 199, 200] {
         let mut both = laid("only isolated vertices", &[(0, 0, isolated)]);
         assert_eq!(both.call(Call::Figures), [0, 1, 1, isolated, 0, 0]);
-        assert_eq!(complete(&mut both, 0), DONE);
+        for completing in COMPLETING {
+            let answer = complete_by(completing, &mut both, 0);
+            assert_eq!(answer, completing.answer(0, 0));
+        }
         assert_eq!(list(&mut both, 0), DONE);
         let last = isolated - 1;
         let expected = match last {
@@ -342,9 +355,12 @@ fn before_laying_out() {
     take(&mut both, 0, &[1, 1, 2, 0]);
     assert_eq!(add(&mut both, 9, 9), refused(3, 0, 0));
     assert_eq!(remove(&mut both, 9, 9), refused(3, 0, 0));
-    assert_eq!(complete(&mut both, 0), refused(3, 0, 0));
-    assert_eq!(complete(&mut both, 7), refused(3, 0, 0));
-    assert_eq!(complete(&mut both, 8), refused(3, 0, 0));
+    for completing in COMPLETING {
+        for length in [0, 7, 8] {
+            let answer = complete_by(completing, &mut both, length);
+            assert_eq!(answer, refused(3, 0, 0));
+        }
+    }
     assert_eq!(list(&mut both, 0), refused(3, 0, 0));
     assert_eq!(both.call(Call::Figures), [0, 0, 1, 0, 0, 0]);
 }
@@ -353,58 +369,70 @@ fn before_laying_out() {
 /// anything changes, more are left as they were.
 #[test]
 fn room_for_join_records() {
+    for completing in COMPLETING {
+        room_by(completing);
+    }
+}
+
+fn room_by(completing: Completing) {
     let mut both = laid("room for join records", &PAPER);
+    let done = |joins| completing.answer(joins, 0);
     for (v, w, missing) in [(0, 3, 4), (1, 2, 3), (3, 2, 2), (1, 3, 1)] {
         for length in 0..8 * missing {
-            assert_eq!(complete(&mut both, length), refused(18, 0, 0));
+            let answer = complete_by(completing, &mut both, length);
+            assert_eq!(answer, refused(18, 0, 0));
         }
         for more in [0, 1, 8, 9, 40_000] {
             let length = 8 * missing;
-            let output = vec![7; length + more];
-            let (journal, adjacency) = (both.journal.clone(), both.adjacency.clone());
-            let answer = both.call_on(journal, adjacency, Call::Complete { output });
-            assert_eq!(answer, [0, missing as u64, 0, length as u64, 0, 0]);
+            let call = completing.call(vec![7; length + more]);
+            let answer = both.call_on(both.journal.clone(), both.adjacency.clone(), call);
+            assert_eq!(answer, done(missing as u64));
             assert_eq!(both.output[length..], vec![7; more]);
         }
         assert_eq!(add(&mut both, v, w), JOINED);
     }
     // Nothing is missing: no room is needed, and none is used.
     for length in [0, 1, 7, 8, 32_000] {
-        assert_eq!(complete(&mut both, length), DONE);
+        assert_eq!(complete_by(completing, &mut both, length), done(0));
         assert!(both.output.iter().all(|&byte| byte == 0xee));
     }
     assert_eq!(remove(&mut both, 0, 3), DONE);
-    assert_eq!(complete(&mut both, 7), refused(18, 0, 0));
-    assert_eq!(complete(&mut both, 8), [0, 1, 0, 8, 0, 0]);
+    let answer = complete_by(completing, &mut both, 7);
+    assert_eq!(answer, refused(18, 0, 0));
+    assert_eq!(complete_by(completing, &mut both, 8), done(1));
     assert_eq!(both.output, [0, 3, 255, 255, 255, 255, 255, 255]);
 }
 
 /// 1, 2 and 3 come before 18, also where no output would be long enough.
 #[test]
 fn checks_before_the_room_for_join_records() {
-    let mut both = laid("before the room", &[(2, 2, 8)]);
-    assert_eq!(complete(&mut both, 31), refused(18, 0, 0));
+    for (completing, switches) in COMPLETING.into_iter().zip([2, 1, 1]) {
+        let mut both = laid("before the room", &[(2, 2, 8)]);
+        let answer = complete_by(completing, &mut both, 31);
+        assert_eq!(answer, refused(18, 0, 0));
+        for length in [0, 31, 32] {
+            checks_before_room(completing, length, &mut both);
+        }
+        let answer = complete_by(completing, &mut both, 32);
+        assert_eq!(answer, completing.answer(4, switches));
+    }
+}
+
+fn checks_before_room(completing: Completing, length: usize, both: &mut Both) {
     let (journal, adjacency) = (both.journal.clone(), both.adjacency.clone());
     let mut taking = journal.clone();
     taking[0] = 0;
     let mut looped = adjacency.clone();
     looped[0] = 1;
-    for length in [0, 31, 32] {
-        let mut answer = |journal: &[u8], adjacency: &[u8]| {
-            let output = vec![9; length];
-            both.call_on(
-                journal.to_vec(),
-                adjacency.to_vec(),
-                Call::Complete { output },
-            )
-        };
-        assert_eq!(answer(&journal[1..], &looped), refused(1, 0, 0));
-        assert_eq!(answer(&journal, &adjacency[1..]), refused(1, 0, 0));
-        assert_eq!(answer(&journal, &looped), refused(2, 0, 0));
-        assert_eq!(answer(&taking, &looped), refused(2, 0, 0));
-        assert_eq!(answer(&taking, &adjacency), refused(3, 0, 0));
-    }
-    assert_eq!(complete(&mut both, 32), [0, 4, 2, 32, 0, 0]);
+    let mut answer = |journal: &[u8], adjacency: &[u8]| {
+        let call = completing.call(vec![9; length]);
+        both.call_on(journal.to_vec(), adjacency.to_vec(), call)
+    };
+    assert_eq!(answer(&journal[1..], &looped), refused(1, 0, 0));
+    assert_eq!(answer(&journal, &adjacency[1..]), refused(1, 0, 0));
+    assert_eq!(answer(&journal, &looped), refused(2, 0, 0));
+    assert_eq!(answer(&taking, &looped), refused(2, 0, 0));
+    assert_eq!(answer(&taking, &adjacency), refused(3, 0, 0));
 }
 
 /// One switch: nobody is left to take the edge but the other named vertex.
@@ -580,6 +608,10 @@ fn lengths() {
         Call::AddEdge { v: 9, w: 9 },
         Call::RemoveEdge { v: 9, w: 9 },
         Call::Complete { output: vec![1; 3] },
+        Call::CompleteShuffled {
+            x: 9,
+            output: vec![1; 3],
+        },
         Call::EdgeList { output: vec![1; 3] },
         Call::Figures,
     ];
@@ -628,6 +660,10 @@ fn single_damaged_bytes() {
     damage(&mut both);
 }
 
+fn either_way(length: usize) -> [(usize, Completing); 2] {
+    [Completing::Lowest, Completing::Shuffled(9)].map(|completing| (length, completing))
+}
+
 fn damage(both: &mut Both) {
     let near: Vec<usize> = (0..80).chain([2 + 65, 66, 67, 68, 131, 132]).collect();
     let far = [JOURNAL_LENGTH - 66, JOURNAL_LENGTH - 65, JOURNAL_LENGTH - 1];
@@ -636,9 +672,9 @@ fn damage(both: &mut Both) {
             let mut journal = both.journal.clone();
             journal[place] = byte;
             both.call_on(journal.clone(), both.adjacency.clone(), Call::Figures);
-            for length in [0, room(&journal, &both.adjacency)] {
-                let output = vec![9; length];
-                let call = Call::Complete { output };
+            let needed = room(&journal, &both.adjacency);
+            for (length, completing) in [0, needed].into_iter().flat_map(either_way) {
+                let call = completing.call(vec![9; length]);
                 both.call_on(journal.clone(), both.adjacency.clone(), call);
             }
         }
@@ -695,6 +731,10 @@ fn edges_at_isolated_vertices() {
         Call::AddEdge { v: 3, w: 6 },
         Call::RemoveEdge { v: 0, w: 1 },
         Call::Complete { output: vec![9; 8] },
+        Call::CompleteShuffled {
+            x: 9,
+            output: vec![9; 8],
+        },
         Call::EdgeList { output: vec![9; 8] },
         Call::Figures,
     ];

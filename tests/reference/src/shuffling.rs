@@ -2,7 +2,7 @@
 //! chosen by a number that steps once a join.
 
 use crate::switching::{join_chosen, lowest_short_cell, Join};
-use crate::{adjacency, graphs, Matrix, Table};
+use crate::{adjacency, Matrix, Table};
 
 /// The number after this one.
 pub fn step(x: u32) -> u32 {
@@ -18,19 +18,16 @@ pub fn stepped(x: u32, times: usize) -> u32 {
 
 /// The pairs (v, w), v below w, that are not joined and whose cell counts fewer edges than wanted,
 /// ascending by v and then w.
-pub fn open_pairs(
-    adjacency: &[u8],
-    degrees: &[usize],
-    counted: &Matrix,
-    wanted: &Matrix,
-) -> Vec<(usize, usize)> {
-    let mut pairs = graphs::all_pairs(degrees.len());
-    pairs.retain(|&(v, w)| {
-        let (k, l) = (degrees[v], degrees[w]);
-        let short = counted.cell(k, l) < wanted.cell(k, l);
-        short && !adjacency::joined(adjacency, v, w)
-    });
-    pairs
+pub fn open_pairs<'a>(
+    adjacency: &'a [u8],
+    degrees: &'a [usize],
+    counted: &'a Matrix,
+    wanted: &'a Matrix,
+) -> impl Iterator<Item = (usize, usize)> + 'a {
+    let short = |k, l| counted.cell(k, l) < wanted.cell(k, l);
+    let open = move |v, w| !adjacency::joined(adjacency, v, w) && short(degrees[v], degrees[w]);
+    let above = move |v| (v + 1..degrees.len()).filter(move |&w| open(v, w));
+    (0..degrees.len()).flat_map(move |v| above(v).map(move |w| (v, w)))
 }
 
 /// Joins open pairs until no cell is short: the number steps, and its upper half chooses. Returns the
@@ -41,8 +38,8 @@ pub fn complete(adjacency: &mut [u8], wanted: &Table, x: u32) -> (Vec<Join>, u32
     let joins = join_chosen(adjacency, &degrees, |adjacency, counted| {
         lowest_short_cell(counted, &wanted.matrix)?;
         x = step(x);
-        let pairs = open_pairs(adjacency, &degrees, counted, &wanted.matrix);
-        Some(pairs[(x / 65_536) as usize % pairs.len()])
+        let pairs = || open_pairs(adjacency, &degrees, counted, &wanted.matrix);
+        pairs().nth((x / 65_536) as usize % pairs().count())
     });
     (joins, x)
 }
@@ -52,7 +49,7 @@ mod tests {
     use super::*;
     use crate::player::play;
     use crate::random::Random;
-    use crate::{join_record, switching, Switch, ADJACENCY_LENGTH};
+    use crate::{graphs, join_record, switching, Switch, ADJACENCY_LENGTH};
 
     #[test]
     fn steps() {
@@ -112,7 +109,7 @@ mod tests {
         let mut adjacency = vec![0; ADJACENCY_LENGTH];
         let pairs = |adjacency: &[u8]| {
             let counted = adjacency::counted_at(adjacency, &degrees);
-            open_pairs(adjacency, &degrees, &counted, &wanted.matrix)
+            open_pairs(adjacency, &degrees, &counted, &wanted.matrix).collect::<Vec<_>>()
         };
         assert_eq!(pairs(&adjacency), [(0, 3), (1, 2), (1, 3), (2, 3)]);
         for (v, w) in [(1, 2), (0, 3), (2, 3)] {
