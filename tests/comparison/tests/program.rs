@@ -1,11 +1,11 @@
-//! The program `replica`: its output for many inputs, byte by byte, as a list and as graph6, and its
-//! answer to arguments it has not.
+//! The program `replica`: its output for many inputs, byte by byte, as a list and as graph6, completed by
+//! the lowest pairs and shuffled, and its answer to arguments it has not.
 
 use comparison::blocks::{self, Size};
 use comparison::program::{ended, program};
 use reference::graph6;
 use reference::graphs::{pairs, Graph};
-use reference::program::{graph6_output, output};
+use reference::program::{graph6_output, output, output_with, Options};
 use reference::random::Random;
 use std::ffi::OsStr;
 use std::io::Write;
@@ -21,9 +21,10 @@ const DOCUMENT_01_OUTPUT: &str = "boards 4 links 4 switches 0\n0 3\n1 2\n1 3\n2 
 /// A pause in which a program that does not wait for the rest of its input goes on without it.
 const PAUSE: Duration = Duration::from_millis(200);
 
-/// What the program prints on standard error for other arguments than the option, or more.
-const USAGE: &str = "usage: replica [--graph6] < records\n";
+/// What the program prints on standard error for other arguments than its options, each once.
+const USAGE: &str = "usage: replica [--graph6] [--shuffle X] < records\n";
 const GRAPH6: &str = "--graph6";
+const SHUFFLE: &str = "--shuffle";
 
 /// Runs the program; `feed` writes its input, which ends then. What it prints fits into a pipe.
 fn output_of<A: AsRef<OsStr>>(arguments: &[A], feed: impl FnOnce(&mut ChildStdin)) -> Output {
@@ -54,11 +55,15 @@ fn feed_all(input: &[u8]) -> impl FnOnce(&mut ChildStdin) + '_ {
 }
 
 fn run(input: &[u8]) -> String {
-    run_fed(&[], feed_all(input))
+    run_with(&[], input)
 }
 
 fn run_graph6(input: &[u8]) -> String {
-    run_fed(&[GRAPH6], feed_all(input))
+    run_with(&[GRAPH6], input)
+}
+
+fn run_with(arguments: &[&str], input: &[u8]) -> String {
+    run_fed(arguments, feed_all(input))
 }
 
 /// The pieces arrive one by one, with a pause after each.
@@ -227,7 +232,157 @@ fn graph6_lines() {
     }
 }
 
-/// Any other argument, and more than one: nothing on standard output, whatever the input.
+/// From any number, as a list and as graph6, the options in either order: what the reference prints.
+#[test]
+fn shuffled() {
+    let inputs = [
+        fixed_inputs(),
+        any_inputs(40, Size::Medium, 9),
+        any_inputs(6, Size::Large, 10),
+    ];
+    let mut random = Random::new(11);
+    let mut others = 0;
+    for input in inputs.concat() {
+        let any = random.any() as u32;
+        let x = *random.pick(&[0, 1, u32::MAX, any, any]);
+        let expected = |graph6| {
+            let shuffle = Some(x);
+            output_with(Options { graph6, shuffle }, &input)
+        };
+        let x = x.to_string();
+        let listed = run_with(&[SHUFFLE, &x], &input);
+        assert_eq!(listed, expected(false), "from {x}, input {input:?}");
+        let text = expected(true);
+        for arguments in [[GRAPH6, SHUFFLE, &x], [SHUFFLE, &x, GRAPH6]] {
+            let printed = run_with(&arguments, &input);
+            assert_eq!(printed, text, "{arguments:?}, input {input:?}");
+        }
+        assert_eq!(as_graph6(&listed), text);
+        others += usize::from(listed != output(&input));
+    }
+    assert!(
+        others > 20,
+        "{others} differ from what is printed unshuffled"
+    );
+}
+
+/// What the square prints from some numbers, written down here, and from the same with zeros before.
+#[test]
+fn shuffled_squares() {
+    let zero = "boards 4 links 4 switches 1\n0 1\n0 2\n1 3\n2 3\n";
+    let one = "boards 4 links 4 switches 2\n0 2\n0 3\n1 2\n1 3\n";
+    let most = "boards 4 links 4 switches 1\n0 1\n0 3\n1 2\n2 3\n";
+    let many_zeros = "0".repeat(40) + "1";
+    for (x, expected) in [
+        ("0", zero),
+        ("0000", zero),
+        ("1", one),
+        ("001", one),
+        ("4294967295", most),
+        ("004294967295", most),
+        (&many_zeros, one),
+    ] {
+        assert_eq!(run_with(&[SHUFFLE, x], &[2, 2, 8, 0]), expected, "{x}");
+    }
+    let square = [&[SHUFFLE, "0", GRAPH6][..], &[GRAPH6, SHUFFLE, "0"]];
+    for arguments in square {
+        assert_eq!(run_with(arguments, &[2, 2, 8, 0]), "Cr\n");
+    }
+    for x in ["0", "4294967295", "007"] {
+        let refusal = run_with(&[SHUFFLE, x], &[2, 2, 4, 0]);
+        assert_eq!(refusal, "refused 11 2 2\n");
+        let pieces = DOCUMENT_01.chunks(5);
+        let printed = run_with_in_pieces(&[SHUFFLE, x], pieces, PAUSE / 10);
+        assert_eq!(printed, DOCUMENT_01_OUTPUT);
+    }
+}
+
+/// No numbers of 32 bits in digits alone.
+const WRONG_NUMBERS: [&str; 26] = [
+    "",
+    "-1",
+    "-0",
+    "+1",
+    "4294967296",
+    "4294967297",
+    "42949672950",
+    "9999999999",
+    "18446744073709551616",
+    "18446744073709551617",
+    "99999999999999999999",
+    "1x",
+    "x1",
+    " 1",
+    "1 ",
+    "1\n",
+    "0x10",
+    "1e3",
+    "1.0",
+    "1_0",
+    "1,0",
+    "/",
+    ":",
+    "\u{661}",
+    GRAPH6,
+    SHUFFLE,
+];
+
+/// The usage line, with --graph6 before a wrong number or behind it too.
+#[test]
+fn wrong_numbers() {
+    let (long, zeros) = ("9".repeat(100_000), "0".repeat(40) + "4294967296");
+    for x in WRONG_NUMBERS.into_iter().chain([&long[..], &zeros]) {
+        let lists: [&[&str]; 3] = [&[SHUFFLE, x], &[GRAPH6, SHUFFLE, x], &[SHUFFLE, x, GRAPH6]];
+        for arguments in lists {
+            assert_usage(&output_of(arguments, feed_all(&DOCUMENT_01)));
+        }
+    }
+    let no_text = OsStr::from_bytes(b"7\xff");
+    let arguments = [OsStr::new(SHUFFLE), no_text];
+    assert_usage(&output_of(&arguments, feed_all(&DOCUMENT_01)));
+}
+
+/// Every list of up to four of these words: the options that it has, or the usage line.
+#[test]
+fn every_short_list_of_arguments() {
+    let words = [GRAPH6, SHUFFLE, "7", "x"];
+    let input = [2, 2, 12, 0];
+    let mut lists: Vec<Vec<&str>> = vec![vec![]];
+    let mut good = 0;
+    for _ in 0..=4 {
+        for arguments in &lists {
+            match Options::of(arguments) {
+                Some(options) => {
+                    let printed = run_with(arguments, &input);
+                    assert_eq!(printed, output_with(options, &input), "{arguments:?}");
+                    good += 1;
+                }
+                None => assert_usage(&output_of(arguments, feed_all(&input))),
+            }
+        }
+        let longer = |list: &Vec<_>| words.map(|word| [&list[..], &[word]].concat());
+        lists = lists.iter().flat_map(longer).collect();
+    }
+    assert_eq!(good, 5);
+}
+
+/// The other option without its number, with two, twice, or written otherwise.
+const WRONG_SHUFFLES: [&[&str]; 12] = [
+    &[SHUFFLE],
+    &["7"],
+    &["7", SHUFFLE],
+    &["--shuffle7"],
+    &["--shuffle=7"],
+    &["--shuffle 7"],
+    &["--Shuffle", "7"],
+    &["-shuffle", "7"],
+    &["--shuffl", "7"],
+    &["--shuffles", "7"],
+    &[SHUFFLE, "7", "7"],
+    &[SHUFFLE, "7", SHUFFLE, "7"],
+];
+
+/// Any other argument, and an option twice: nothing on standard output, whatever the input.
 #[test]
 fn wrong_arguments() {
     let long = "-".repeat(100_000);
@@ -254,7 +409,7 @@ fn wrong_arguments() {
         &[GRAPH6, "--help"],
         &many,
     ];
-    for arguments in wrong {
+    for arguments in wrong.into_iter().chain(WRONG_SHUFFLES) {
         for input in [&[][..], &DOCUMENT_01, &[9]] {
             assert_usage(&output_of(arguments, feed_all(input)));
         }

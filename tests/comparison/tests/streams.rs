@@ -13,8 +13,13 @@ fn one_line(bytes: &[u8]) {
     assert!(!said.is_empty() && !said.contains('\n'), "{text:?}");
 }
 
-/// Without the option and with it.
-const ARGUMENTS: [&[&str]; 2] = [&[], &["--graph6"]];
+/// Without the options, with either and with both.
+const ARGUMENTS: [&[&str]; 4] = [
+    &[],
+    &["--graph6"],
+    &["--shuffle", "7"],
+    &["--shuffle", "7", "--graph6"],
+];
 
 /// Every write to standard output fails.
 fn on_a_full_device(arguments: &[&str], input: &[u8]) -> Output {
