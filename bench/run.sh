@@ -23,7 +23,7 @@ counted() {
     sed -n 's/.*Collected *: *//p' "$log"
 }
 
-printf '%-14s%-18s%14s%14s%8s\n' entry case library twin ratio
+printf '%-19s%-18s%14s%14s%8s\n' entry case library twin ratio
 "$bench" list | while read -r entry name twin; do
     if [ "${1:-$entry}" != "$entry" ] || [ "${2:-$name}" != "$name" ]; then
         continue
@@ -34,5 +34,5 @@ printf '%-14s%-18s%14s%14s%8s\n' entry case library twin ratio
         ours=$(counted "twin_$entry" twin "$entry" "$name")
         ratio=$(awk "BEGIN { printf \"%.2f\", $library / $ours }")
     fi
-    printf '%-14s%-18s%14s%14s%8s\n' "$entry" "$name" "$library" "$ours" "$ratio"
+    printf '%-19s%-18s%14s%14s%8s\n' "$entry" "$name" "$library" "$ours" "$ratio"
 done

@@ -1,6 +1,6 @@
 //! The calls that are measured, and the states they are made on.
 
-use comparison::call::{room, Call, Entry, Memory};
+use comparison::call::{room, Call, Completing, Entry, Memory};
 use reference::graphs::{self, Graph};
 use reference::journal::{self, record, LAID, TAKING};
 use reference::random::Random;
@@ -37,10 +37,16 @@ fn case(name: &str, call: Call, journal: Vec<u8>, adjacency: Vec<u8>) -> Case {
     }
 }
 
-/// Completing a state, with just the room that its records need.
-fn completion(name: &str, journal: Vec<u8>, adjacency: Vec<u8>) -> Case {
-    let output = vec![0; room(&journal, &adjacency)];
-    case(name, Call::Complete { output }, journal, adjacency)
+/// The number that shuffled cases begin with.
+const X: u32 = 1;
+
+/// Completing a state in either way, with just the room that its records need.
+fn completion(name: &str, journal: Vec<u8>, adjacency: Vec<u8>) -> [Case; 2] {
+    [Completing::Lowest, Completing::Shuffled(X)].map(|completing| {
+        let output = vec![0; room(&journal, &adjacency)];
+        let call = completing.call(output);
+        case(name, call, journal.clone(), adjacency.clone())
+    })
 }
 
 /// All cases, entry by entry.
@@ -50,7 +56,7 @@ pub fn all() -> Vec<Case> {
         cases.extend(completions(size));
     }
     let ring = laid(&graphs::regular(200, 2).matrix());
-    cases.push(completion("regular-2-200", ring, no_edges()));
+    cases.extend(completion("regular-2-200", ring, no_edges()));
     for size in SIZES {
         cases.extend(edges_by_hand(size));
     }
@@ -183,7 +189,7 @@ fn completions(size: usize) -> Vec<Case> {
     ];
     let mut cases: Vec<Case> = graphs
         .iter()
-        .map(|(name, graph)| {
+        .flat_map(|(name, graph)| {
             let name = format!("{name}-{size}");
             completion(&name, laid(&graph.matrix()), no_edges())
         })
@@ -191,10 +197,10 @@ fn completions(size: usize) -> Vec<Case> {
     let journal = laid(&regular(size).matrix());
     let start = four_cliques(size).adjacency();
     let name = format!("start-{size}");
-    cases.push(completion(&name, journal.clone(), start));
+    cases.extend(completion(&name, journal.clone(), start));
     let name = format!("nothing-{size}");
     let complete = regular(size).adjacency();
-    cases.push(completion(&name, journal, complete));
+    cases.extend(completion(&name, journal, complete));
     cases
 }
 
@@ -301,12 +307,13 @@ fn half_isolated() -> Vec<Case> {
         output: vec![0; records.len()],
     };
     let name = "isolated-200";
-    vec![
+    let mut cases = vec![
         case(name, Call::LayOut, taken, no_edges()),
-        completion(name, laid.clone(), no_edges()),
         case(name, Call::Figures, laid.clone(), graph.adjacency()),
-        case(name, survey, laid, graph.adjacency()),
-    ]
+        case(name, survey, laid.clone(), graph.adjacency()),
+    ];
+    cases.extend(completion(name, laid, no_edges()));
+    cases
 }
 
 fn reports(size: usize) -> Vec<Case> {

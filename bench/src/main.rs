@@ -58,7 +58,7 @@ fn once(call: &Call, memory: &mut Memory) -> Numbers {
     )
 }
 
-/// The call on the twin, which has five of the entries.
+/// The call on the twin, which has six of the entries.
 fn on_twin(call: &Call, memory: &mut Memory) -> Option<Numbers> {
     let (journal, adjacency) = (&memory.journal, &mut memory.adjacency);
     let (input, output) = (&memory.input, &mut memory.output);
@@ -66,6 +66,9 @@ fn on_twin(call: &Call, memory: &mut Memory) -> Option<Numbers> {
         Call::AddEdge { v, w } => Numbers::Nine(twin::twin_add_edge(journal, adjacency, v, w)),
         Call::RemoveEdge { v, w } => Numbers::Six(twin::twin_remove_edge(journal, adjacency, v, w)),
         Call::Complete { .. } => Numbers::Six(twin::twin_complete(journal, adjacency, output)),
+        Call::CompleteShuffled { x, .. } => {
+            Numbers::Six(twin::twin_complete_shuffled(journal, adjacency, x, output))
+        }
         Call::Graph6Write { total, .. } => {
             Numbers::Six(twin::twin_graph6_write(input, total, output))
         }
@@ -104,7 +107,7 @@ fn call_once(
 #[cfg(test)]
 mod tests {
     use super::*;
-    use comparison::call::{any_output, room};
+    use comparison::call::{any_output, on_reference, room, Completing};
     use comparison::{edge_lists, exchange};
     use reference::journal::LAID;
     use reference::random::Random;
@@ -172,7 +175,8 @@ mod tests {
             for call in [
                 Call::AddEdge { v, w },
                 Call::RemoveEdge { v, w },
-                Call::Complete { output },
+                Completing::any_shuffled(&mut random).call(output.clone()),
+                Completing::Lowest.call(output),
             ] {
                 let memory = Memory::of(&journal, &adjacency, &call);
                 answered.extend(compare(&call, memory, &format!("state {number}, {call:?}")));
@@ -180,6 +184,33 @@ mod tests {
         }
         let refusals = [1, 2, 3, 13, 14, 15, 16, 17, 18];
         assert!([0].iter().chain(&refusals).eq(&answered), "{answered:?}");
+    }
+
+    /// The twin completes shuffled as the reference does, which scans all pairs before each join.
+    #[test]
+    fn the_twin_shuffles_as_the_reference() {
+        let mut random = Random::new(10);
+        let states = (0..300).map(|_| any_state(&mut random));
+        let calls: Vec<_> = states
+            .map(|(journal, adjacency)| {
+                let output = vec![7; room(&journal, &adjacency) + 3];
+                let call = Call::CompleteShuffled { x: 5, output };
+                (Memory::of(&journal, &adjacency, &call), call)
+            })
+            .collect();
+        let shuffled = |case: &Case| matches!(case.call, Call::CompleteShuffled { .. });
+        let cases = cases::all().into_iter().filter(shuffled);
+        let cases = cases.map(|case| (case.memory(), case.call.clone()));
+        for (memory, call) in calls.into_iter().chain(cases) {
+            let (mut twin, mut expected) = (memory.clone(), memory);
+            let numbers = on_twin(&call, &mut twin);
+            assert_eq!(
+                numbers,
+                Some(on_reference(&call, &mut expected)),
+                "{call:?}"
+            );
+            assert!(twin == expected, "{call:?}: other bytes");
+        }
     }
 
     /// Random graphs as graph6, whole and spoiled, with room or without: every answer is reached.

@@ -12,7 +12,7 @@ const MOST_CALLS: u32 = 1_000;
 
 pub fn print(cases: &[Case]) {
     println!(
-        "{:<13}{:<16}{:>14}{:>14}{:>10}",
+        "{:<18}{:<16}{:>14}{:>14}{:>10}",
         "entry", "case", "library ns", "reference ns", "ratio"
     );
     for case in cases {
@@ -27,7 +27,7 @@ pub fn print(cases: &[Case]) {
         });
         let reference = time(case, |memory| on_reference(&case.call, memory));
         println!(
-            "{:<13}{:<16}{:>14}{:>14}{:>10.1}",
+            "{:<18}{:<16}{:>14}{:>14}{:>10.1}",
             case.entry().name(),
             case.name,
             library.as_nanos(),

@@ -1,5 +1,5 @@
-//! add_edge, remove_edge, complete, graph6_write and graph6_read written by hand to be fast, to
-//! hold the library's instructions against. It makes the library's savings (docs/DECISIONS.md 17
+//! add_edge, remove_edge, complete, complete_shuffled, graph6_write and graph6_read written by hand to
+//! be fast, to hold the library's instructions against. It makes the library's savings (docs/DECISIONS.md 17
 //! and 21), and what the check of a state has counted is handed on. Answers are the numbers of the
 //! C interface.
 
@@ -7,6 +7,8 @@ use reference::join_record::{self, UNUSED};
 use reference::numbers::{refusal, Nine, Six};
 use reference::{refused, refused_at, Refused};
 use reference::{BLOCK_LENGTH, JOURNAL_LENGTH, MOST_BLOCKS, MOST_DEGREE, MOST_VERTICES};
+
+mod shuffle;
 
 const DEGREES: usize = MOST_DEGREE + 1;
 const SIDE: usize = MOST_VERTICES;
@@ -365,11 +367,16 @@ fn remove(journal: &[u8], adjacency: &mut [u8], v: u64, w: u64) -> Result<Six, R
     Ok([0; 6])
 }
 
+/// Check 18: the part of an output that the records of all missing edges take.
+fn missing_records<'a>(laid: &Laid, output: &'a mut [u8]) -> Result<&'a mut [JoinRecord], Refused> {
+    let (records, _) = output.as_chunks_mut();
+    records.get_mut(..laid.missing()).ok_or(refused(18))
+}
+
 fn fill(journal: &[u8], adjacency: &mut [u8], output: &mut [u8]) -> Result<Six, Refused> {
     let (mut laid, rows) = check(journal, adjacency)?;
-    let missing = laid.missing();
-    let (records, _) = output.as_chunks_mut();
-    let mut records = records.get_mut(..missing).ok_or(refused(18))?;
+    let mut records = missing_records(&laid, output)?;
+    let missing = records.len();
     let mut switches = 0;
     for k in 1..DEGREES {
         for l in k..DEGREES {
@@ -525,6 +532,17 @@ pub fn twin_remove_edge(journal: &[u8], adjacency: &mut [u8], v: u64, w: u64) ->
 #[inline(never)]
 pub fn twin_complete(journal: &[u8], adjacency: &mut [u8], output: &mut [u8]) -> Six {
     fill(journal, adjacency, output).unwrap_or_else(refusal)
+}
+
+#[no_mangle]
+#[inline(never)]
+pub fn twin_complete_shuffled(
+    journal: &[u8],
+    adjacency: &mut [u8],
+    x: u32,
+    output: &mut [u8],
+) -> Six {
+    shuffle::fill_shuffled(journal, adjacency, x, output).unwrap_or_else(refusal)
 }
 
 #[no_mangle]
