@@ -2,7 +2,7 @@
 //! what is not valid, and changes nothing.
 
 use comparison::both::Both;
-use comparison::call::{on_library, Call};
+use comparison::call::{on_library, Call, Completing};
 use reference::journal::{record, slot_start};
 use reference::{refused, validity, ADJACENCY_LENGTH, JOURNAL_LENGTH};
 
@@ -19,10 +19,7 @@ fn calls() -> [Call; 9] {
         Call::AddEdge { v, w },
         Call::RemoveEdge { v, w },
         Call::Complete { output: vec![9; 8] },
-        Call::CompleteShuffled {
-            x: 5,
-            output: vec![9; 8],
-        },
+        Completing::Shuffled(9).call(vec![9; 8]),
         Call::EdgeList { output: vec![9; 8] },
         Call::Figures,
     ]

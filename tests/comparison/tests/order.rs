@@ -597,21 +597,16 @@ fn vertices_around_the_total() {
 #[test]
 fn lengths() {
     let mut both = laid("lengths", &PAPER);
+    let (number, block) = (0, Vec::new());
     let calls = [
         Call::Clear,
-        Call::TakeBlock {
-            number: 0,
-            block: Vec::new(),
-        },
+        Call::TakeBlock { number, block },
         Call::HeldBlock { number: 9 },
         Call::LayOut,
         Call::AddEdge { v: 9, w: 9 },
         Call::RemoveEdge { v: 9, w: 9 },
         Call::Complete { output: vec![1; 3] },
-        Call::CompleteShuffled {
-            x: 9,
-            output: vec![1; 3],
-        },
+        Completing::Shuffled(9).call(vec![1; 3]),
         Call::EdgeList { output: vec![1; 3] },
         Call::Figures,
     ];
@@ -721,20 +716,15 @@ fn bounds_of_a_valid_state() {
 #[test]
 fn edges_at_isolated_vertices() {
     let mut both = laid("edges at isolated vertices", &WITH_ISOLATED);
+    let (number, block) = (0, record(0, 0, 3).to_vec());
     let calls = [
-        Call::TakeBlock {
-            number: 0,
-            block: record(0, 0, 3).to_vec(),
-        },
-        Call::HeldBlock { number: 0 },
+        Call::TakeBlock { number, block },
+        Call::HeldBlock { number },
         Call::LayOut,
         Call::AddEdge { v: 3, w: 6 },
         Call::RemoveEdge { v: 0, w: 1 },
         Call::Complete { output: vec![9; 8] },
-        Call::CompleteShuffled {
-            x: 9,
-            output: vec![9; 8],
-        },
+        Completing::Shuffled(9).call(vec![9; 8]),
         Call::EdgeList { output: vec![9; 8] },
         Call::Figures,
     ];

@@ -48,61 +48,94 @@ fn complete(x: u32, table: &Table, both: &mut Both) -> Vec<u8> {
     both.output.clone()
 }
 
-/// The answer, the records, the bytes behind them, the edges, and no other byte.
+/// What comes of a table and a number, written down here.
+struct Known {
+    table: Table,
+    x: u32,
+    switches: u64,
+    last: u64,
+    /// Two vertices each, and the triples of their switches.
+    joins: Vec<[u8; 8]>,
+    edges: Vec<(usize, usize)>,
+}
+
+fn squares() -> [Known; 2] {
+    let known = |x, last, joins: [[u8; 8]; 4], edges: [(usize, usize); 4]| Known {
+        table: Table::of(&[(2, 2, 8)], 0),
+        x,
+        switches: 1,
+        last,
+        joins: joins.to_vec(),
+        edges: edges.to_vec(),
+    };
+    let from_least = [
+        [0, 3, U, U, U, U, U, U],
+        [0, 2, U, U, U, U, U, U],
+        [0, 1, 0, 2, 3, U, U, U],
+        [1, 3, U, U, U, U, U, U],
+    ];
+    let from_most = [
+        [0, 2, U, U, U, U, U, U],
+        [0, 3, U, U, U, U, U, U],
+        [2, 3, U, U, U, U, U, U],
+        [0, 1, 0, 1, 2, U, U, U],
+    ];
+    let edges = [(0, 1), (0, 2), (1, 3), (2, 3)];
+    let least = known(0, 2_868_466_484, from_least, edges);
+    let edges = [(0, 1), (0, 3), (1, 2), (2, 3)];
+    let most = known(u32::MAX, 2_709_482_403, from_most, edges);
+    [least, most]
+}
+
+fn two_switches_for_one_edge() -> Known {
+    Known {
+        table: Table::of(&[(1, 1, 6)], 0),
+        x: 0,
+        switches: 3,
+        last: 3_519_870_697,
+        joins: vec![
+            [1, 2, U, U, U, U, U, U],
+            [0, 1, 1, 3, 2, U, U, U],
+            [1, 3, 1, 4, 0, 3, 5, 2],
+        ],
+        edges: vec![(0, 4), (1, 3), (2, 5)],
+    }
+}
+
+/// Behind an isolated vertex; the pair of cell (2, 2), 5-6, is not the last.
+fn two_cells() -> Known {
+    Known {
+        table: Table::of(&[(1, 2, 4), (2, 2, 2)], 1),
+        x: 2,
+        switches: 2,
+        last: 3_079_534_013,
+        joins: vec![
+            [4, 7, U, U, U, U, U, U],
+            [1, 7, U, U, U, U, U, U],
+            [3, 7, 7, 5, 1, U, U, U],
+            [5, 6, U, U, U, U, U, U],
+            [1, 6, 1, 2, 5, U, U, U],
+        ],
+        edges: vec![(1, 6), (2, 5), (3, 7), (4, 7), (5, 6)],
+    }
+}
+
+/// The answer, the records and the bytes behind them, the edges and the journal.
 #[test]
 fn known_cases() {
-    let none = [U; 6];
-    let case = |table: Table, x, switches, last: u64, joins: &[(u8, u8, [u8; 6])]| {
-        let mut both = laid("known cases", &table, &mut Random::new(1));
-        let records: Vec<u8> = joins
-            .iter()
-            .flat_map(|&(v, w, triples)| [v, w].into_iter().chain(triples))
-            .collect();
-        let (written, journal) = (records.len(), both.journal.clone());
-        let output = vec![FILLED; written + 9];
+    let [least, most] = squares();
+    for known in [least, most, two_switches_for_one_edge(), two_cells()] {
+        let mut both = laid("known cases", &known.table, &mut Random::new(1));
+        let (x, joins, records) = (known.x, known.joins.len(), known.joins.concat());
+        let (written, journal) = (records.len() as u64, both.journal.clone());
+        let output = vec![FILLED; records.len() + 9];
         let answer = both.call(Call::CompleteShuffled { x, output });
-        let joined = joins.len() as u64;
-        assert_eq!(answer, [0, joined, switches, written as u64, last, 0]);
+        let expected = [0, joins as u64, known.switches, written, known.last, 0];
+        assert_eq!(answer, expected);
         assert_eq!(both.output, [&records[..], &[FILLED; 9]].concat());
+        assert_eq!(adjacency::edges(&both.adjacency), known.edges);
         assert!(both.journal == journal);
-        adjacency::edges(&both.adjacency)
-    };
-    let square = Table::of(&[(2, 2, 8)], 0);
-    let joins = [
-        (0, 3, none),
-        (0, 2, none),
-        (0, 1, [0, 2, 3, U, U, U]),
-        (1, 3, none),
-    ];
-    let edges = case(square.clone(), 0, 1, 2_868_466_484, &joins);
-    assert_eq!(edges, [(0, 1), (0, 2), (1, 3), (2, 3)]);
-    let joins = [
-        (0, 2, none),
-        (0, 3, none),
-        (2, 3, none),
-        (0, 1, [0, 1, 2, U, U, U]),
-    ];
-    let edges = case(square, u32::MAX, 1, 2_709_482_403, &joins);
-    assert_eq!(edges, [(0, 1), (0, 3), (1, 2), (2, 3)]);
-    // Two switches for one edge.
-    let joins = [
-        (1, 2, none),
-        (0, 1, [1, 3, 2, U, U, U]),
-        (1, 3, [1, 4, 0, 3, 5, 2]),
-    ];
-    let edges = case(Table::of(&[(1, 1, 6)], 0), 0, 3, 3_519_870_697, &joins);
-    assert_eq!(edges, [(0, 4), (1, 3), (2, 5)]);
-    // Pairs of two cells, behind an isolated vertex; the one of (2, 2) is not the last.
-    let joins = [
-        (4, 7, none),
-        (1, 7, none),
-        (3, 7, [7, 5, 1, U, U, U]),
-        (5, 6, none),
-        (1, 6, [1, 2, 5, U, U, U]),
-    ];
-    let table = Table::of(&[(1, 2, 4), (2, 2, 2)], 1);
-    let edges = case(table, 2, 2, 3_079_534_013, &joins);
-    assert_eq!(edges, [(1, 6), (2, 5), (3, 7), (4, 7), (5, 6)]);
+    }
 }
 
 /// Every state that a table of up to 5 vertices can be in, from the least or the most number and from
