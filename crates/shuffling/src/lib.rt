@@ -1,3 +1,4 @@
 // Completing by shuffled choice (document 02, P7).
+mod pick;
 mod picker;
 mod track;
