@@ -7,8 +7,11 @@ use native.Mathlib.Omega.{arith}
 use lib.ListN.{length, take, drop, take-append-drop}
 use lib.Seq.{sets, length-sets, length-take-le}
 use Rattle.slices.proofs.Part.{take-written, drop-written, take-sets, drop-sets, drop-later}
+use Rattle.answer.specs.Switches.{switchCount}
 use Rattle.answer.specs.declared.switches.Switches.{Switches}
 use Rattle.join_records.specs.Record.{joinRecordSize, joinRecord}
+use Rattle.joining.specs.Join.{joinBytes, joinSwitches}
+use Rattle.completion.specs.Complete.{Ran, joined}
 use Rattle.completion.specs.Inner.Work.{WroteRecords}
 
 -- one record more, behind those of i joins
@@ -26,6 +29,15 @@ module _ (out : List ℕ) (i v w : ℕ) (s : Switches) (fits : joinRecordSize * 
         sized = length-sets out (joinRecordSize * i) (joinRecord v w s);
         behind = rw after at (drop-written out (joinRecordSize * i) (joinRecord v w s) fits);
       }
+
+-- the state after a join, its record being the last one in the output
+pub joined-ran : (n : ℕ) (cls : ℕ → ℕ) (s : Ran) (v w : ℕ) {x : Switches} → x ≡ joinSwitches n cls (s .adjacency) v w
+    → (out out′ g′ : List ℕ) → joinRecordSize * s .joins + joinRecordSize ≤ length out → s .records ≡ take (joinRecordSize * s .joins) out
+    → out′ ≡ sets out (joinRecordSize * s .joins) (joinRecord v w x) → g′ ≡ joinBytes n cls (s .adjacency) v w
+    → _≡_ {A = Ran}
+    (record { adjacency = g′; joins = s .joins + 1; switches = s .switches + switchCount x; records = take (joinRecordSize * (s .joins + 1)) out′ })
+    (joined n cls s v w)
+joined-ran n cls s v w {x} ex out out′ g′ fits es eo eg = rw (eo, records-more out (s .joins) v w x fits, ← es, eg, ex)
 
 pub wrote-none : (i : ℕ) (out : List ℕ) → WroteRecords i i out out
 wrote-none i out = record { rises = omega arith; sized = refl; behind = refl }

@@ -1,7 +1,6 @@
 -- Filling keeps the graph partial and the totals bounded by its edges.
 -- Assumes nothing.
-use mathlib.Core.List.{List}
-use Prim.Native.Nat.{ℕ, zero, suc, _+_, _-_, _≤_, _<_}
+use Prim.Native.Nat.{ℕ, zero, suc, _+_, _-_, _*_, _≤_, _<_}
 use native.Mathlib.Omega.{arith}
 use Rattle.finite.specs.Range.{foldTo}
 use Rattle.finite.proofs.Fold.{foldTo-keeps}
@@ -9,15 +8,17 @@ use Rattle.answer.specs.Switches.{switchCount}
 use Rattle.answer.specs.declared.switches.Switches.{Switches}
 use Rattle.answer.specs.declared.switches.Switches.the-variants.{None, One, Two}
 use Rattle.graph.specs.Graph.{jdm}
+use Rattle.graph.specs.Target.{Open}
 use Rattle.graph.specs.Tests.{leastDegree, mostDegree, degrees}
 use Rattle.adjacency.specs.Adjacency.{edge}
+use Rattle.join_records.specs.Record.{joinRecordSize}
 use Rattle.joining.specs.Join.{joinSwitches}
 use Rattle.completion.specs.Choice.{openW, openV}
-use Rattle.completion.specs.Complete.{Ran, mostEdges}
+use Rattle.completion.specs.Complete.{Ran, joined, mostEdges}
 use Rattle.completion.specs.Inner.Cellwise.{cellStep, cellMissing, fillCell, fillRow}
 use Rattle.completion.specs.Inner.Work.{Sound}
-use Rattle.completion.proofs.Chosen.{Stepped, chosen, stepped}
-use Rattle.completion.proofs.Cellwise.{part-short, room as edges-most}
+use Rattle.completion.proofs.Chosen.{Stepped, chosen, opened}
+use Rattle.completion.proofs.Cellwise.{part-short, edges-within, room as edges-most}
 use Rattle.completion.proofs.Works.{few-edges}
 
 pub count-le : (x : Switches) → switchCount x ≤ 2
@@ -26,28 +27,29 @@ count-le (One x) = omega arith
 count-le (Two x y) = omega arith
 
 module _ (n : ℕ) (cls : ℕ → ℕ) (T : ℕ → ℕ → ℕ) (room : ℕ) where
+  -- the join of an open pair; there is an edge to add, so its record fits
+  module _ (s : Ran) (p : Sound n cls T room s) (v w : ℕ) (pair : Open n cls T (edge (s .adjacency)) v w) where
+    st : Stepped n cls T (s .adjacency) (joined n cls s v w .adjacency) (cls v) (cls w)
+    st = opened n cls T (s .adjacency) (p .filling) v w pair
+
+    pub joined-sound : Sound n cls T room (joined n cls s v w)
+    joined-sound =
+        record {
+          filling = st .filling;
+          joins-le = omega (arith, p .joins-le, st .one-more);
+          switches-le = omega (arith, p .switches-le, count-le (joinSwitches n cls (s .adjacency) v w));
+          records-fit = omega (arith, p .records-fit, st .one-more);
+        }
+
+    pub joined-room : joinRecordSize * s .joins + joinRecordSize ≤ room
+    joined-room = omega (arith, p .records-fit, st .one-more, edges-within n cls T (joined n cls s v w .adjacency) (st .filling))
+
   -- one join in a short cell
   step-sound : (s : Ran) → Sound n cls T room s → (k l : ℕ) → k < degrees → l < degrees → jdm n cls (edge (s .adjacency)) k l < T k l
       → Sound n cls T room (cellStep n cls k l s)
   step-sound s p k l kC lC h =
-      record {
-        filling = st .filling;
-        joins-le = omega (arith, p .joins-le, st .one-more);
-        switches-le = omega (arith, p .switches-le, count-le (joinSwitches n cls g v w));
-        records-fit = omega (arith, p .records-fit, st .one-more);
-      }
-    where
-      g : List ℕ
-      g = s .adjacency
-
-      v : ℕ
-      v = openV n cls g k l
-
-      w : ℕ
-      w = openW n cls g k l v
-
-      st : Stepped n cls T g (cellStep n cls k l s .adjacency) k l
-      st = stepped n cls T g (p .filling) k l v w (chosen n cls T g (p .filling) k l kC lC h)
+      let g = s .adjacency in
+      joined-sound s p (openV n cls g k l) (openW n cls g k l (openV n cls g k l)) (chosen n cls T g (p .filling) k l kC lC h .pair)
 
   -- i of the joins that a cell misses
   pub part-sound : (s : Ran) → Sound n cls T room s → (k l : ℕ) → k < degrees → l < degrees → (i : ℕ) → i ≤ cellMissing n cls T (s .adjacency) k l

@@ -1,6 +1,6 @@
 -- One join in a short cell: the searches from the cursor find what is to be joined, and the cursor moved on has passed only what is done.
 -- Assumes nothing.
-use mathlib.Core.Path.{_≡_, sym, ap, _∙_}
+use mathlib.Core.Path.{_≡_, sym, ap, ap₂, _∙_}
 use mathlib.Core.Bool.{false}
 use mathlib.Core.List.{List}
 use Prim.Native.Nat.{ℕ, _+_, _*_, _≤_, _<_, min}
@@ -28,16 +28,16 @@ use Rattle.joining.specs.Inner.Work.{degreesOf, Joinable, Placed, freed}
 use Rattle.joining.proofs.Bytes.{join-bytes}
 use Rattle.completion.specs.Choice.{openW, openV}
 use Rattle.join_records.specs.Record.{joinRecordSize, joinRecord}
-use Rattle.completion.specs.Complete.{Ran}
+use Rattle.completion.specs.Complete.{Ran, joined}
 use Rattle.completion.specs.Inner.Cellwise.{cellStep, Filling}
 use Rattle.completion.specs.Inner.Cursor.{ClassRange}
 use Rattle.completion.specs.Inner.Search.{lowestColumn, hasColumn, Searchable}
 use Rattle.completion.specs.Inner.Work.{WroteRecords, Saturated, CellOf, Resumes, Steppable}
 use Rattle.completion.specs.declared.pair.Cell.{Cell}
 use Rattle.completion.specs.declared.cell.Cursor.{Cursor}
-use Rattle.completion.proofs.Chosen.{Chosen, chosen, stepped}
-use Rattle.completion.proofs.Cellwise.{edges-within}
-use Rattle.completion.proofs.Output.{records-more, wrote-one}
+use Rattle.completion.proofs.Chosen.{Chosen, chosen}
+use Rattle.completion.proofs.Sound.{joined-room}
+use Rattle.completion.proofs.Output.{joined-ran, wrote-one}
 use Rattle.completion.proofs.Cursor.{rows-after, columns-after}
 use Rattle.completion.proofs.Search.{Found, found, searchable}
 
@@ -97,11 +97,9 @@ module _ {n : ℕ} {cls : ℕ → ℕ} {c : Cell} {u : Cursor} {room : ℕ} {s :
   stays : (j low : ℕ) → low ≤ n → Saturated n cls g j low → Saturated n cls g′ j low
   stays = saturated-stays n cls (p .table) g filling (openV n cls g k l) (openW n cls g k l (openV n cls g k l)) (chose .pair)
 
-  -- there is an edge to add, so its record fits
+  -- the record fits
   pub step-room : joinRecordSize * s .joins + joinRecordSize ≤ room
-  step-room =
-      let st = stepped n cls (p .table) g filling k l (openV n cls g k l) (openW n cls g k l (openV n cls g k l)) chose in
-      omega (arith, p .sound .records-fit, st .one-more, edges-within n cls (p .table) g′ (st .filling))
+  step-room = joined-room n cls (p .table) room s (p .sound) (openV n cls g k l) (openW n cls g k l (openV n cls g k l)) (chose .pair)
 
   -- v and w: what the search for a pair found; x and y: what those for unsaturated vertices did
   module _ (v w : ℕ) (ev : v ≡ lowest (u .at .v) (c .rows .to) (hasColumn g c)) (ew : v < c .rows .to → w ≡ lowestColumn g c v) where
@@ -137,8 +135,7 @@ module _ {n : ℕ} {cls : ℕ → ℕ} {c : Cell} {u : Cursor} {room : ℕ} {s :
           })
           (cellStep n cls k l s)
       step-ran out out′ g′ er es eo eg =
-          let fits : joinRecordSize * s .joins + joinRecordSize ≤ length out = omega (arith, step-room, er) in
-          rw (eo, records-more out (s .joins) v w x fits, ← es, eg, ex, pair-row, pair-column)
+          joined-ran n cls s v w ex out out′ g′ (omega (arith, step-room, er)) es eo eg ∙ ap₂ (joined n cls s) pair-row pair-column
 
       pub step-wrote : (out out′ : List ℕ) → room ≡ length out → out′ ≡ sets out (joinRecordSize * s .joins) (joinRecord v w x)
           → WroteRecords (s .joins) (s .joins + 1) out out′
