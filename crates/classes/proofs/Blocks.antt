@@ -7,9 +7,9 @@ use Prim.Native.Nat.{ℕ, _+_, _-_, _*_, _≤_, _<_}
 use native.Mathlib.Decide.{decLt}
 use native.Mathlib.Omega.{arith}
 use lib.Dec.{ltb}
-use lib.ListN.{getD, replicate, length-replicate}
+use lib.ListN.{length, getD, replicate, length-replicate}
 use Rattle.finite.specs.Range.{sumTo}
-use Rattle.finite.proofs.Fold.{fillTo-at}
+use Rattle.finite.proofs.Fold.{fillTo-at, fillTo-length}
 use Rattle.finite.proofs.Lowest.{lowest-cong}
 use Rattle.finite.proofs.Sum.{sumTo-more, sumTo-le, sumTo-triangle}
 use Rattle.graph.specs.Graph.{Graph, jdm}
@@ -51,6 +51,9 @@ module _ (counts : List ℕ) where
       (sym (jdm-block degrees (countIn counts) E k l kd ld))
 
 module _ {n : ℕ} {starts : List ℕ} (m : Numbered n starts) where
+  pub starts-length : length starts ≡ degrees + 1
+  starts-length = ap length (m .started) ∙ fillTo-length (λ k. sumTo k (countIn (m .counts))) (replicate (degrees + 1) 0) (degrees + 1) ∙ length-replicate {A = ℕ} (degrees + 1) 0
+
   -- the starts rise, up to the number of vertices
   pub start-rises : (k l : ℕ) → k ≤ l → l ≤ degrees → getD starts k 0 ≤ getD starts l 0
   start-rises k l h i =

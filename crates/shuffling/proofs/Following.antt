@@ -34,8 +34,7 @@ use Rattle.open_pairs.proofs.Marked.{marked-length, marked-inside, marked-outsi
 use Rattle.open_pairs.proofs.Refreshed.{Right, row-else, range-else, switches-else, range-length, row-right, range-right, switches-right}
 use Rattle.completion.specs.Inner.Cellwise.{Filling}
 use Rattle.completion.proofs.Chosen.{Stepped, opened}
-use Rattle.completion.proofs.Step.{saturated-stays}
-use Rattle.shuffling.specs.Inner.Track.{cellPlace, cellHas, Counted, Tracked, Lows, hasNow, haveAfter, isFullNow, flagsAfter, countsAfter}
+use Rattle.shuffling.specs.Inner.Track.{cellPlace, cellHas, Counted, Tracked, hasNow, haveAfter, isFullNow, flagsAfter, countsAfter}
 
 -- a row whose bytes and flags above v are the same has as many free columns
 free-same : (n k v : ℕ) (g g′ full full′ : List ℕ)
@@ -277,17 +276,4 @@ module _ {n : ℕ} {cells starts classes g have full counts sums : List ℕ} (t 
         summed = summed;
         rows = λ z zn. rw e (rows-after (isFullNow cells k l have) z zn);
         behind = λ z h. rw e (behind-after (isFullNow cells k l have) z h);
-      }
-
-  -- vertices that were saturated stay so
-  pub lows-after : {low : List ℕ} → Lows n starts g low → Lows n starts g′ low
-  lows-after u =
-      record {
-        sized = u .sized;
-        from = u .from;
-        to = u .to;
-        saturated = λ i id.
-            saturated-stays n (classFrom starts) (matrixOf cells) g f v w pair i _
-            (omega (arith, u .to i id, start-most (t .arranged .numbered) (i + 1) (omega arith)))
-            (u .saturated i id);
       }

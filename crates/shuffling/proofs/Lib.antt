@@ -4,3 +4,4 @@ pub mod Works
 pub mod Answers
 pub mod Following
 pub mod Seeking
+pub mod Unsaturated

@@ -7,16 +7,20 @@ use mathlib.Core.List.{List}
 use Prim.Native.Nat.{ℕ, _+_, _*_, _≤_, _<_}
 use lib.Dec.{eqb, ltb}
 use lib.ListN.{length, getD, set}
-use Rattle.finite.specs.Range.{bit}
+use Rattle.finite.specs.Range.{bit, lowest}
 use Rattle.answer.specs.declared.switches.Switches.{Switches}
 use Rattle.graph.specs.Graph.{Simple, jdm}
 use Rattle.graph.specs.Tests.{degrees}
 use Rattle.table.specs.Inner.Cells.{cellsSize, matrixOf}
 use Rattle.adjacency.specs.Adjacency.{adjacencySize, side, edge}
 use Rattle.classes.specs.Inner.Block.{classFrom}
+use Rattle.joining.specs.Inner.Work.{degreesOf}
 use Rattle.open_pairs.specs.Inner.Rows.{freeTo, Scannable, Summed}
 use Rattle.open_pairs.specs.Inner.Refresh.{refreshRow, refreshRange, refreshSwitches, markFull}
-use Rattle.completion.specs.Inner.Work.{Arranged, Saturated}
+use Rattle.completion.specs.Complete.{Ran}
+use Rattle.completion.specs.Inner.Work.{Arranged, Saturated, Sound, ran}
+use Rattle.shuffling.specs.Shuffle.{Shuffled}
+use Rattle.shuffling.specs.declared.step.Shuffle.{Shuffle}
 
 -- where cell (k, l), k ≤ l, stands in an array
 abbrev pub cellPlace : ℕ → ℕ → ℕ
@@ -84,3 +88,18 @@ abbrev pub countsAfter : ℕ → List ℕ → List ℕ → List ℕ → List ℕ
 countsAfter n starts classes g full v k isFull s counts =
     refreshSwitches n classes g full s
     (cond isFull (refreshRange n classes g full (getD starts k 0) (getD starts (k + 1) 0) counts) (refreshRow n classes g full v counts))
+
+-- the matrix and the output, with what was done so far: a run, and x
+abbrev pub shuffledAt : List ℕ → List ℕ → Shuffle → Shuffled
+shuffledAt g out d = record { ran = ran g out (d .totals); x = d .x }
+
+-- what holds before each join and after it; the output has `room` bytes
+pub record Shuffling (n : ℕ) (cells starts classes g have full counts sums low held : List ℕ) (room : ℕ) (s : Ran) : Type 0 where
+  pub tracked : Tracked n cells starts classes g have full counts sums
+  pub lows : Lows n starts g low
+  pub sound : Sound n (classFrom starts) (matrixOf cells) room s
+  pub degrees-held : held ≡ degreesOf n g
+
+-- the search for an unsaturated vertex of class k goes on from where it was
+abbrev pub lowFrom : List ℕ → List ℕ → List ℕ → ℕ → ℕ
+lowFrom held starts low k = lowest (getD low k 0) (getD starts (k + 1) 0) (λ i. ltb (getD held i 0) k)
