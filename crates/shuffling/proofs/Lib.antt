@@ -5,3 +5,4 @@ pub mod Answers
 pub mod Following
 pub mod Seeking
 pub mod Unsaturated
+pub mod Onward

@@ -83,3 +83,68 @@ fn join_pair(
     let joined = joining::join(adjacency, held, starts, n, v, w);
     joined.switches
 }
+
+// One join.
+pub fn shuffle_step(
+    adjacency: &mut [u8],
+    output: &mut [u8],
+    held: &mut [usize; MOST_VERTICES],
+    low: &mut [usize; STARTS],
+    have: &mut [u32; CELLS],
+    full: &mut [u8],
+    counts: &mut [usize; MOST_VERTICES],
+    sums: &mut [usize; SUMS],
+    cells: &[u32; CELLS],
+    starts: &[usize; STARTS],
+    classes: &[u8; MOST_VERTICES],
+    n: usize,
+    done: Shuffle,
+) -> Shuffle
+    requires { ⌜ Shuffling n (now cells) (now starts) (now classes) (now adjacency) (now have) (now full) (now counts) (now sums) (now low) (now held) (length (now output)) (ran (now adjacency) (now output) (done .totals)) × (isShort n (classFrom (now starts)) (matrixOf (now cells)) (shuffledAt (now adjacency) (now output) done) ≡ true) ⌝ }
+    ensures { λ r. ⌜ shuffledAt (now (adjacency .exit)) (now (output .exit)) r ≡ nextShuffled n (classFrom (now (starts .entry))) (matrixOf (now (cells .entry))) (shuffledAt (now (adjacency .entry)) (now (output .entry)) done) ⌝ }
+    ensures { λ r. ⌜ WroteRecords (done .totals .joins) (r .totals .joins) (now (output .entry)) (now (output .exit)) ⌝ }
+    ensures { λ r. ⌜ Shuffling n (now (cells .entry)) (now (starts .entry)) (now (classes .entry)) (now (adjacency .exit)) (now (have .exit)) (now (full .exit)) (now (counts .exit)) (now (sums .exit)) (now (low .exit)) (now (held .exit)) (length (now (output .entry))) (ran (now (adjacency .exit)) (now (output .exit)) (r .totals)) ⌝ }
+{
+    let x = next_x(done.x);
+    let pair = pick(
+        adjacency,
+        cells,
+        starts,
+        classes,
+        have,
+        full,
+        counts,
+        sums,
+        n,
+        x,
+    );
+    let v = pair.v;
+    let w = pair.w;
+    let k = wide(classes[v]);
+    let l = wide(classes[w]);
+    let made = join_pair(adjacency, held, low, starts, n, pair, k, l);
+    let joins = done.totals.joins;
+    put_record(output, JOIN_RECORD_SIZE * joins, v, w, made);
+    update(
+        adjacency,
+        cells,
+        starts,
+        classes,
+        have,
+        full,
+        counts,
+        sums,
+        n,
+        v,
+        k,
+        l,
+        made,
+    );
+    Shuffle {
+        totals: Totals {
+            joins: joins + 1,
+            switches: done.totals.switches + switch_count(made),
+        },
+        x,
+    }
+}
