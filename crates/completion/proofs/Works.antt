@@ -68,9 +68,9 @@ module _ (n : ℕ) (cls : ℕ → ℕ) (T : ℕ → ℕ → ℕ) where
   Good s = Filling n cls T (s .adjacency) × ZeroOutside n (s .adjacency)
 
   -- where no cell is short, all are full
-  stops : (s : Ran) → Good s → isIncomplete n cls T s ≡ false → (k l : ℕ) → k < degrees → l < degrees
+  pub stops : (s : Ran) → Filling n cls T (s .adjacency) → isIncomplete n cls T s ≡ false → (k l : ℕ) → k < degrees → l < degrees
       → jdm n cls (edge (s .adjacency)) k l ≡ T k l
-  stops s good e k l kC lC = go (decLt l k)
+  stops s f e k l kC lC = go (decLt l k)
     where
       g : List ℕ
       g = s .adjacency
@@ -84,17 +84,17 @@ module _ (n : ℕ) (cls : ℕ → ℕ) (T : ℕ → ℕ → ℕ) where
               (omega (arith, ltb-false (shortK n cls T g) degrees e)) in
               let cell = lowest-before k degrees (shortCell n cls T g k) (omega arith) l kl
               (omega (arith, ltb-false (shortL n cls T g k) degrees row)) in
-              omega (arith, ltb-false (jdm n cls (edge g) k l) (T k l) cell, good .0 .partial .within k l kC lC)
+              omega (arith, ltb-false (jdm n cls (edge g) k l) (T k l) cell, f .partial .within k l kC lC)
           at (no k0) =
               let z : k ≡ 0 = omega arith in
-              rw z (omega (arith, none-of-0 (good .0 .target) l lC, good .0 .partial .within 0 l (omega arith) lC))
+              rw z (omega (arith, none-of-0 (f .target) l lC, f .partial .within 0 l (omega arith) lC))
 
       go : Dec (l < k) → jdm n cls (edge g) k l ≡ T k l
       go (no h) = upper k l kC lC (omega arith)
       go (yes h) =
-          necessary-always n degrees cls (edge g) (good .0 .partial .simple) (good .0 .target .classed) .symmetric k l
+          necessary-always n degrees cls (edge g) (f .partial .simple) (f .target .classed) .symmetric k l
           ∙ upper l k lC kC (omega arith)
-          ∙ good .0 .target .symmetric l k lC kC
+          ∙ f .target .symmetric l k lC kC
 
   -- the lowest short cell, where there is one
   pub short-cell : (g : List ℕ) → ltb (shortK n cls T g) degrees ≡ true
@@ -187,7 +187,7 @@ module _ (n : ℕ) (cls : ℕ → ℕ) (T : ℕ → ℕ → ℕ) where
           next = c .next;
           Good = λ s. Good (c .ran s);
           partial = λ s p. p .0 .partial;
-          stops = λ s. stops (c .ran s);
+          stops = λ s good. stops (c .ran s) (good .0);
           picks = λ s good e. (
             c .v s,
             c .w s,

@@ -6,3 +6,5 @@ pub mod Following
 pub mod Seeking
 pub mod Unsaturated
 pub mod Onward
+pub mod Beginning
+pub mod Counting

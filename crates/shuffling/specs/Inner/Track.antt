@@ -9,15 +9,16 @@ use lib.Dec.{eqb, ltb}
 use lib.ListN.{length, getD, set}
 use Rattle.finite.specs.Range.{bit, lowest}
 use Rattle.answer.specs.declared.switches.Switches.{Switches}
-use Rattle.graph.specs.Graph.{Simple, jdm}
+use Rattle.graph.specs.Graph.{Simple, jdm, edges}
 use Rattle.graph.specs.Tests.{degrees}
 use Rattle.table.specs.Inner.Cells.{cellsSize, matrixOf}
+use Rattle.layout.specs.Layout.{wanted}
 use Rattle.adjacency.specs.Adjacency.{adjacencySize, side, edge}
 use Rattle.classes.specs.Inner.Block.{classFrom}
 use Rattle.joining.specs.Inner.Work.{degreesOf}
 use Rattle.open_pairs.specs.Inner.Rows.{freeTo, Scannable, Summed}
 use Rattle.open_pairs.specs.Inner.Refresh.{refreshRow, refreshRange, refreshSwitches, markFull}
-use Rattle.completion.specs.Complete.{Ran}
+use Rattle.completion.specs.Complete.{Ran, fresh, mostEdges}
 use Rattle.completion.specs.Inner.Work.{Arranged, Saturated, Sound, ran}
 use Rattle.shuffling.specs.Shuffle.{Shuffled}
 use Rattle.shuffling.specs.declared.step.Shuffle.{Shuffle}
@@ -103,3 +104,11 @@ pub record Shuffling (n : ℕ) (cells starts classes g have full counts sums low
 -- the search for an unsaturated vertex of class k goes on from where it was
 abbrev pub lowFrom : List ℕ → List ℕ → List ℕ → ℕ → ℕ
 lowFrom held starts low k = lowest (getD low k 0) (getD starts (k + 1) 0) (λ i. ltb (getD held i 0) k)
+
+-- m edges are missing, no more than a layout can have
+abbrev pub Lacks : ℕ → List ℕ → List ℕ → ℕ → Type 0
+Lacks n cells g m = (edges n (edge g) + m ≡ wanted (matrixOf cells)) × (m ≤ mostEdges)
+
+-- the matrix g, with nothing done yet
+abbrev pub begins : List ℕ → ℕ → Shuffled
+begins g x = record { ran = fresh g; x = x }

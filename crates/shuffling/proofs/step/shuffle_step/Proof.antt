@@ -15,17 +15,17 @@ shuffle-step-spec =
     (λ c κs. tt)  -- next-x-requires
     (λ c κs.
     let f = c .before .before .before .before .before .before .before .before .before in
-    (f .pre .0 .tracked, f .pre .0 .sound .filling, step-some _ _ (f .pre .0) (f .pre .1)))  -- pick-requires
+    (f .pre .0 .tracked, f .pre .0 .sound .filling, step-some (f .args .output .now) (f .args .done) (f .pre .0) (f .pre .1)))  -- pick-requires
     (λ c.
     let f = c .before .before .before .before .before .before .before .before .before .before in
     let e = c .pick .ensures in
-    omega (arith, step-few _ _ (f .pre .0) (f .pre .1) _ _ _ (e .0) (e .1) .0))  -- element-copy-out-wide
+    omega (arith, step-few (f .args .output .now) (f .args .done) (f .pre .0) (f .pre .1) _ _ _ (e .0) (e .1) .0))  -- element-copy-out-wide
     (λ c κs. tt)  -- wide-requires
     (λ c.
     let p = c .before .before in
     let f = p .before .before .before .before .before .before .before .before .before .before in
     let e = p .pick .ensures in
-    omega (arith, step-few _ _ (f .pre .0) (f .pre .1) _ _ _ (e .0) (e .1) .1))  -- element-copy-out-wide-2
+    omega (arith, step-few (f .args .output .now) (f .args .done) (f .pre .0) (f .pre .1) _ _ _ (e .0) (e .1) .1))  -- element-copy-out-wide-2
     (λ c κs. tt)  -- wide-requires-2
     (λ c κs.
     let l = c .before .before .before in
@@ -33,12 +33,12 @@ shuffle-step-spec =
     let p = k .before .before in
     let f = p .before .before .before .before .before .before .before .before .before .before in
     let e = p .pick .ensures in (
-      step-joinable _ _ (f .pre .0) (f .pre .1) _ _ _ (e .0) (e .1),
+      step-joinable (f .args .output .now) (f .args .done) (f .pre .0) (f .pre .1) _ _ _ (e .0) (e .1),
       f .pre .0 .degrees-held,
       f .pre .0 .lows,
       f .pre .0 .tracked .arranged,
-      row-of _ _ (f .pre .0) (f .pre .1) _ _ _ (e .0) (e .1) (k .wide .ensures .0),
-      column-of _ _ (f .pre .0) (f .pre .1) _ _ _ (e .0) (e .1) (l .wide2 .ensures .0),
+      row-of (f .args .output .now) (f .args .done) (f .pre .0) (f .pre .1) _ _ _ (e .0) (e .1) (k .wide .ensures .0),
+      column-of (f .args .output .now) (f .args .done) (f .pre .0) (f .pre .1) _ _ _ (e .0) (e .1) (l .wide2 .ensures .0),
     ))  -- join-pair-requires
     (λ c. let f = c .before .before .before .before .before .before .before .before .before .before .before .before .before .before .before .before .before .before .before .before .before in omega (arith, joins-most (f .pre .0 .sound)))  -- mul-put-record
     (λ c κs.
@@ -46,9 +46,9 @@ shuffle-step-spec =
     let p = j .before .before .before .before .before .before .before .before in
     let f = p .before .before .before .before .before .before .before .before .before .before in
     let e = p .pick .ensures in
-    let joinable = step-joinable _ _ (f .pre .0) (f .pre .1) _ _ _ (e .0) (e .1) in
+    let joinable = step-joinable (f .args .output .now) (f .args .done) (f .pre .0) (f .pre .1) _ _ _ (e .0) (e .1) in
     let bytes = switches-bytes joinable (j .join-pair .ensures .0) in (
-      step-room _ _ (f .pre .0) (f .pre .1) _ _ _ (e .0) (e .1),
+      step-room (f .args .output .now) (f .args .done) (f .pre .0) (f .pre .1) _ _ _ (e .0) (e .1),
       omega (arith, joinable .pair .first, joinable .few),
       omega (arith, joinable .pair .second, joinable .few),
       bytes .0,
@@ -61,11 +61,11 @@ shuffle-step-spec =
     let p = k .before .before in
     let f = p .before .before .before .before .before .before .before .before .before .before in
     let e = p .pick .ensures in
-    let asks = update-asks _ _ (f .pre .0) (f .pre .1) _ _ _ (e .0) (e .1)
-    (row-of _ _ (f .pre .0) (f .pre .1) _ _ _ (e .0) (e .1) (k .wide .ensures .0))
-    (column-of _ _ (f .pre .0) (f .pre .1) _ _ _ (e .0) (e .1) (l .wide2 .ensures .0))
+    let asks = update-asks (f .args .output .now) (f .args .done) (f .pre .0) (f .pre .1) _ _ _ (e .0) (e .1)
+    (row-of (f .args .output .now) (f .args .done) (f .pre .0) (f .pre .1) _ _ _ (e .0) (e .1) (k .wide .ensures .0))
+    (column-of (f .args .output .now) (f .args .done) (f .pre .0) (f .pre .1) _ _ _ (e .0) (e .1) (l .wide2 .ensures .0))
     (j .join-pair .ensures .1 .0) (j .join-pair .ensures .0) in
-    let joinable = step-joinable _ _ (f .pre .0) (f .pre .1) _ _ _ (e .0) (e .1) in (
+    let joinable = step-joinable (f .args .output .now) (f .args .done) (f .pre .0) (f .pre .1) _ _ _ (e .0) (e .1) in (
       (asks .0 .0, asks .0 .1, f .pre .0 .tracked .summed, f .pre .0 .tracked .arranged, asks .0 .2),
       (joinable .pair .first, asks .1 .0, asks .1 .1, asks .1 .2),
     ))  -- update-requires
@@ -88,15 +88,15 @@ shuffle-step-spec =
     let x = p .before .before .before .before .before .before in
     let f = x .before .before .before .before in
     let e = p .pick .ensures in
-    let row = row-of _ _ (f .pre .0) (f .pre .1) _ _ _ (e .0) (e .1) (k .wide .ensures .0) in
-    let column = column-of _ _ (f .pre .0) (f .pre .1) _ _ _ (e .0) (e .1) (l .wide2 .ensures .0) in
+    let row = row-of (f .args .output .now) (f .args .done) (f .pre .0) (f .pre .1) _ _ _ (e .0) (e .1) (k .wide .ensures .0) in
+    let column = column-of (f .args .output .now) (f .args .done) (f .pre .0) (f .pre .1) _ _ _ (e .0) (e .1) (l .wide2 .ensures .0) in
     let made = j .join-pair .ensures .0 in
     let bytes = j .join-pair .ensures .1 .0 in
     let kept = u .update .ensures in (
-      step-next _ _ (f .pre .0) (f .pre .1) _ _ _ (e .0) (e .1) row column bytes made (o .put-record .ensures) (m .switch-count .ensures .0) (x .next-x .ensures),
+      step-next (f .args .output .now) (f .args .done) (f .pre .0) (f .pre .1) _ _ _ (e .0) (e .1) row column bytes made (o .put-record .ensures) (m .switch-count .ensures .0) (x .next-x .ensures),
       (
-        step-wrote _ _ (f .pre .0) (f .pre .1) _ _ _ (e .0) (e .1) row column bytes made (o .put-record .ensures) (m .switch-count .ensures .0),
-        step-shuffling _ _ (f .pre .0) (f .pre .1) _ _ _ (e .0) (e .1) row column bytes made (o .put-record .ensures) (m .switch-count .ensures .0)
+        step-wrote (f .args .output .now) (f .args .done) (f .pre .0) (f .pre .1) _ _ _ (e .0) (e .1) row column bytes made (o .put-record .ensures) (m .switch-count .ensures .0),
+        step-shuffling (f .args .output .now) (f .args .done) (f .pre .0) (f .pre .1) _ _ _ (e .0) (e .1) row column bytes made (o .put-record .ensures) (m .switch-count .ensures .0)
             (kept .0) (kept .1 .0) (kept .1 .1 .0) (kept .1 .1 .1) (j .join-pair .ensures .1 .1 .1) (j .join-pair .ensures .1 .1 .0),
       ),
     )))  -- returns
