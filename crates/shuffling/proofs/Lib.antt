@@ -8,3 +8,4 @@ pub mod Unsaturated
 pub mod Onward
 pub mod Beginning
 pub mod Counting
+pub mod Entry
