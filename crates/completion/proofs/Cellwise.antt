@@ -1,7 +1,7 @@
 -- Completing cell by cell is completing (`run` of specs/Complete.antt): the lowest short cell only moves up, so that each cell gets the
 -- joins it misses when its turn comes.
 -- Assumes nothing.
-use mathlib.Core.Path.{_≡_, refl, ap, _∙_}
+use mathlib.Core.Path.{_≡_, ap, _∙_}
 use mathlib.Core.Bool.{Bool, true, false, cond}
 use mathlib.Core.List.{List}
 use Prim.Native.Nat.{ℕ, zero, suc, _+_, _-_, _*_, _/_, _%_, _≤_, _<_}
@@ -13,8 +13,7 @@ use borrow.Author.Tests.{lt-ltb, le-ltb, eq-eqb, ne-eqb}
 use Rattle.finite.specs.Range.{foldTo}
 use Rattle.finite.proofs.Lowest.{lowest-only}
 use Rattle.finite.proofs.Fold.{iterate-next}
-use Rattle.finite.proofs.Delta.{δ-self}
-use Rattle.graph.specs.Graph.{jdm, edges, atEdge}
+use Rattle.graph.specs.Graph.{jdm, edges}
 use Rattle.graph.specs.Tests.{leastDegree, mostDegree, degrees}
 use Rattle.graph.proofs.Edge.{atEdge-cell}
 use Rattle.graph.proofs.Necessary.{necessary-always}

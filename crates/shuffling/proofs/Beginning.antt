@@ -1,23 +1,21 @@
 -- Before the first join: what is kept, as the code makes it.
 -- Assumes nothing.
-use mathlib.Core.Path.{_≡_, refl, sym, ap, _∙_}
+use mathlib.Core.Path.{_≡_, refl, sym, _∙_}
 use mathlib.Core.List.{List}
-use Prim.Native.Nat.{ℕ, _+_, _*_, _≤_, _<_}
+use Prim.Native.Nat.{ℕ, _+_, _*_}
 use native.Mathlib.Omega.{arith}
-use lib.ListN.{length, getD, replicate, length-replicate}
+use lib.ListN.{getD, replicate, length-replicate}
 use Rattle.finite.proofs.Sum.{sumTo-zero}
 use Rattle.slices.proofs.Zero.{getD-zeros}
-use Rattle.graph.specs.Tests.{degrees}
 use Rattle.table.specs.Inner.Cells.{cellsSize}
-use Rattle.adjacency.specs.Adjacency.{side, edge}
-use Rattle.classes.specs.Inner.Block.{classFrom}
+use Rattle.adjacency.specs.Adjacency.{side}
 use Rattle.classes.proofs.Blocks.{start-rises, start-most, class-only}
 use Rattle.open_pairs.specs.Inner.Rows.{rowsInSum, sumCount, Summed}
 use Rattle.open_pairs.specs.Inner.Refresh.{refreshRange, Classed}
 use Rattle.open_pairs.proofs.Refreshed.{range-else, range-right}
 use Rattle.completion.specs.Complete.{fresh}
 use Rattle.completion.specs.Inner.Work.{Arranged, Working}
-use Rattle.shuffling.specs.Inner.Track.{Countable, Counted, ClassArray, Tracked, Lows, Shuffling}
+use Rattle.shuffling.specs.Inner.Track.{Countable, Counted, ClassArray, Lows, Shuffling}
 
 -- no row has an open pair yet
 pub begin-summed : Summed (replicate side 0) (replicate sumCount 0)

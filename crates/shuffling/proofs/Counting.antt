@@ -1,22 +1,17 @@
 -- As many joins as edges are missing: before each of them a cell is short, and after them none is.
 -- Assumes nothing.
-use mathlib.Core.Path.{_≡_, refl, sym, ap, _∙_}
+use mathlib.Core.Path.{_≡_, refl, sym, _∙_}
 use mathlib.Core.Bool.{Bool, true, false}
-use mathlib.Core.List.{List}
-use Prim.Native.Nat.{ℕ, _+_, _-_, _*_, _≤_, _<_}
+use Prim.Native.Nat.{ℕ, _+_, _-_, _<_}
 use native.Mathlib.Omega.{arith}
-use lib.ListN.{length}
 use Rattle.finite.specs.Range.{sumTo}
 use Rattle.finite.proofs.Sum.{sumTo-cong}
 use Rattle.finite.proofs.Fold.{iterate-next, iterate-stop}
 use Rattle.graph.specs.Graph.{jdm, edges}
 use Rattle.graph.specs.Tests.{degrees}
-use Rattle.graph.specs.Theorems.{allCells}
 use Rattle.graph.proofs.Completion.{cells-twice}
-use Rattle.table.specs.Inner.Cells.{matrixOf}
 use Rattle.layout.specs.Layout.{wanted}
 use Rattle.adjacency.specs.Adjacency.{edge}
-use Rattle.classes.specs.Inner.Block.{classFrom}
 use Rattle.completion.specs.Complete.{Ran, mostEdges, isIncomplete}
 use Rattle.completion.specs.Inner.Cellwise.{Filling}
 use Rattle.completion.specs.Inner.Work.{ran}

@@ -2,12 +2,10 @@
 -- Assumes nothing.
 use mathlib.Core.Path.{_≡_, refl, sym, ap, ap₂, _∙_}
 use mathlib.Core.List.{List}
-use Prim.Native.Nat.{ℕ, _+_, _*_, _≤_, _<_}
+use Prim.Native.Nat.{ℕ, _*_, _≤_}
 use native.Mathlib.Omega.{arith}
 use lib.ListN.{length, getD, take, replicate, length-replicate}
 use Rattle.finite.proofs.Fold.{fillTo-at}
-use Rattle.answer.specs.declared.CompleteAnswer.{CompleteAnswer}
-use Rattle.answer.specs.declared.CompleteAnswer.the-variants as Complete
 use Rattle.answer.specs.declared.ShuffleAnswer.the-variants.{Completed}
 use Rattle.answer.specs.declared.Verdict.the-variants.{Go}
 use Rattle.graph.specs.Graph.{DegreeTable}
@@ -19,7 +17,7 @@ use Rattle.state.specs.Checks.{phaseVerdict}
 use Rattle.classes.specs.Inner.Block.{startsOf, classFrom}
 use Rattle.classes.proofs.Blocks.{table-classes}
 use Rattle.join_records.specs.Record.{joinRecordSize}
-use Rattle.completion.specs.Complete.{Ran, fresh, mostEdges, missing, finishLaid, finishAdjacency, finishOutput}
+use Rattle.completion.specs.Complete.{fresh, mostEdges, missing, finishLaid, finishAdjacency, finishOutput}
 use Rattle.completion.specs.Inner.Work.{Working, Started, WroteRecords}
 use Rattle.completion.specs.declared.start.Start.{Start}
 use Rattle.completion.proofs.Entry.{phase-complete}

@@ -1,6 +1,6 @@
 -- What is kept follows a join: the cells, the flags, the counts of the rows, and where the unsaturated vertices begin.
 -- Assumes nothing.
-use mathlib.Core.Path.{_≡_, refl, sym, ap, ap₂, _∙_}
+use mathlib.Core.Path.{_≡_, refl, sym, ap, _∙_}
 use mathlib.Core.Bool.{Bool, true, false, false≢true, _&&_, cond}
 use mathlib.Core.List.{List}
 use mathlib.Core.Logic.{_≢_}
@@ -8,7 +8,7 @@ use Prim.Native.Nat.{ℕ, _+_, _-_, _*_, _≤_, _<_}
 use native.Mathlib.Decide.{ℕ-discrete}
 use native.Mathlib.Omega.{arith}
 use lib.Dec.{eqb, ltb}
-use lib.ListN.{length, getD, set, length-set}
+use lib.ListN.{length, getD, length-set}
 use lib.Seq.{getD-set-same, getD-set-other}
 use borrow.Author.Tests.{lt-ltb, ne-eqb}
 use Rattle.finite.specs.Range.{bit}
@@ -17,7 +17,6 @@ use Rattle.answer.specs.Switches.{SwitchBelow, RowApart, Each}
 use Rattle.answer.specs.declared.switches.Switch.{Switch}
 use Rattle.answer.specs.declared.switches.Switches.{Switches}
 use Rattle.answer.specs.declared.switches.Switches.the-variants.{None, One, Two}
-use Rattle.graph.specs.Graph.{jdm}
 use Rattle.graph.specs.Target.{Open}
 use Rattle.graph.specs.Tests.{degrees}
 use Rattle.graph.proofs.Edge.{atEdge-cell, atEdge-upper}

@@ -5,7 +5,7 @@ use mathlib.Core.Bool.{true, false}
 use mathlib.Core.List.{List}
 use Prim.Native.Nat.{ℕ, _+_, _*_, _≤_, _<_}
 use native.Mathlib.Omega.{arith}
-use lib.ListN.{length, getD, take}
+use lib.ListN.{length, getD}
 use lib.Seq.{sets}
 use Rattle.answer.specs.Switches.{switchCount}
 use Rattle.answer.specs.declared.switches.Switches.{Switches}
@@ -21,8 +21,7 @@ use Rattle.joining.proofs.Untouched.{switches-below}
 use Rattle.open_pairs.specs.Inner.Rows.{Scannable, Summed}
 use Rattle.open_pairs.specs.Inner.Refresh.{Classed, Within}
 use Rattle.completion.specs.Complete.{Ran, joined}
-use Rattle.completion.specs.Inner.Cellwise.{Filling}
-use Rattle.completion.specs.Inner.Work.{ran, WroteRecords, Sound}
+use Rattle.completion.specs.Inner.Work.{ran, WroteRecords}
 use Rattle.completion.specs.declared.cell.Totals.{Totals}
 use Rattle.completion.proofs.Sound.{joined-sound, joined-room}
 use Rattle.completion.proofs.Output.{joined-ran, wrote-one}
@@ -31,7 +30,7 @@ use Rattle.shuffling.specs.Shuffle.{Shuffled, nextShuffled, isShort}
 use Rattle.shuffling.specs.Inner.Track.{Tracked, Lows, hasNow, haveAfter, isFullNow, flagsAfter, countsAfter, Shuffling, shuffledAt}
 use Rattle.shuffling.specs.declared.step.Shuffle.{Shuffle}
 use Rattle.shuffling.proofs.Picked.{Picked, picked, some-open, position-below, passes-open, passes-rising}
-use Rattle.shuffling.proofs.Following.{joinable, row-class, column-class, classes-rise, now-within, scannable-after, tracked-after}
+use Rattle.shuffling.proofs.Following.{joinable, column-class, classes-rise, now-within, scannable-after, tracked-after}
 
 module _ {n : ℕ} {cells starts classes g have full counts sums low held : List ℕ} (out : List ℕ) (d : Shuffle)
     (p : Shuffling n cells starts classes g have full counts sums low held (length out) (ran g out (d .totals)))

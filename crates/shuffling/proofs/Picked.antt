@@ -10,11 +10,11 @@ use native.Mathlib.Decide.{decLt}
 use native.Mathlib.Omega.{arith}
 use lib.Dec.{eqb, ltb}
 use borrow.Author.Tests.{lt-ltb, eq-eqb, ne-eqb, ltb-true, eqb-true, le-ltb}
-use Rattle.finite.specs.Range.{bit, sumTo, lowest}
+use Rattle.finite.specs.Range.{bit}
 use Rattle.finite.proofs.Sum.{sumTo-more, sumTo-term, sumTo-le}
 use Rattle.finite.proofs.Seek.{sumTo-seek, bits-seek}
-use Rattle.finite.proofs.Lowest.{lowest-holds, lowest-found, lowest-only, lowest-none}
-use Rattle.finite.proofs.All.{and-left, and-right, and-both, and-false}
+use Rattle.finite.proofs.Lowest.{lowest-only, lowest-none}
+use Rattle.finite.proofs.All.{and-left, and-right, and-both}
 use Rattle.graph.specs.Graph.{jdm}
 use Rattle.graph.specs.Target.{Open}
 use Rattle.graph.specs.Tests.{degrees}

@@ -1,9 +1,9 @@
 -- The counts of the rows are the open pairs of the definition, so that what is found by them is the pair that is picked.
 -- Assumes nothing.
-use mathlib.Core.Path.{_≡_, refl, sym, ap, ap₂, _∙_}
-use mathlib.Core.Bool.{Bool, true, false, _&&_, not}
+use mathlib.Core.Path.{_≡_, sym, ap, ap₂, _∙_}
+use mathlib.Core.Bool.{Bool, true, _&&_}
 use mathlib.Core.List.{List}
-use Prim.Native.Nat.{ℕ, _+_, _-_, _*_, _≤_, _<_}
+use Prim.Native.Nat.{ℕ, _+_, _-_, _≤_, _<_}
 use native.Mathlib.Nat.{zero-add, add-zero}
 use native.Mathlib.Decide.{ℕ-discrete, decLt}
 use native.Mathlib.Omega.{arith}
@@ -12,13 +12,11 @@ use lib.ListN.{getD}
 use borrow.Author.Tests.{lt-ltb, le-ltb, eq-eqb, ne-eqb}
 use Rattle.finite.specs.Range.{bit, sumTo}
 use Rattle.finite.proofs.Sum.{sumTo-cong, sumTo-zero, sumTo-split}
-use Rattle.graph.specs.Tests.{degrees}
 use Rattle.table.specs.Inner.Cells.{cellsSize, matrixOf}
 use Rattle.adjacency.specs.Adjacency.{side, edge}
 use Rattle.classes.specs.Inner.Block.{classFrom}
 use Rattle.classes.proofs.Blocks.{class-rises}
 use Rattle.open_pairs.specs.Inner.Rows.{isFree, freeTo, openTo}
-use Rattle.completion.specs.Choice.{shortCell}
 use Rattle.completion.specs.Inner.Cellwise.{Filling}
 use Rattle.shuffling.specs.Choice.{isOpen, openInRow, openBefore, openCount, pairV, pairW}
 use Rattle.shuffling.specs.Inner.Track.{cellPlace, cellHas, Tracked}

@@ -2,13 +2,13 @@
 -- x after as many steps as joins.
 -- Assumes nothing.
 use mathlib.Core.Path.{_≡_, refl, sym, ap, _∙_}
-use mathlib.Core.Bool.{Bool, true}
+use mathlib.Core.Bool.{true}
 use mathlib.Core.List.{List}
-use Prim.Native.Nat.{ℕ, _+_, _<_}
+use Prim.Native.Nat.{ℕ, _<_}
 use Rattle.finite.proofs.Fold.{foldTo-none, foldTo-more, iterate-keeps}
 use Rattle.journal.specs.Journal.{jdmOf}
 use Rattle.state.specs.Laid.{vertexCount, degreeAt}
-use Rattle.completion.specs.Complete.{fresh, mostEdges, isIncomplete}
+use Rattle.completion.specs.Complete.{fresh, mostEdges}
 use Rattle.completion.proofs.Works.{Good, Chooser, finishes-by}
 use Rattle.completion.proofs.Records.{records-length}
 use Rattle.completion.proofs.Entry.{CompleteFacts, CompleteWorks, good-start, finished-works}

@@ -1,6 +1,5 @@
 // All joins, from x on.
 ghost use mathlib.Core.Path.{_≡_};
-ghost use Prim.Native.Nat.{_≤_};
 ghost use lib.ListN.{length};
 ghost use Rattle.table.specs.Inner.Cells.{matrixOf};
 ghost use Rattle.classes.specs.Inner.Block.{classFrom};

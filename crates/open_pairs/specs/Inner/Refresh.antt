@@ -1,6 +1,5 @@
 -- Counting rows anew, and flagging a cell.
 -- Assumes nothing.
-use mathlib.Core.Path.{_≡_}
 use mathlib.Core.List.{List}
 use Prim.Native.Nat.{ℕ, _+_, _-_, _*_, _<_, min}
 use lib.ListN.{getD, set}
@@ -11,7 +10,7 @@ use Rattle.answer.specs.declared.switches.Switches.{Switches}
 use Rattle.answer.specs.declared.switches.Switches.the-variants.{None, One, Two}
 use Rattle.graph.specs.Tests.{degrees}
 use Rattle.adjacency.specs.Adjacency.{side}
-use Rattle.open_pairs.specs.Inner.Rows.{freeTo, Scannable}
+use Rattle.open_pairs.specs.Inner.Rows.{freeTo}
 
 -- row v counted anew, its class being what the array says
 abbrev pub refreshRow : ℕ → List ℕ → List ℕ → List ℕ → ℕ → List ℕ → List ℕ

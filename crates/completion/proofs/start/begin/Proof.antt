@@ -1,6 +1,5 @@
 -- `completion::start::begin` meets its contract.
 -- Assumes nothing.
-use mathlib.Core.Path.{refl}
 use native.Mathlib.Omega.{arith}
 use Rattle.state.proofs.Checks.{phase-facts}
 use Rattle.completion.proofs.Whole.{vertices-few, edges-simple, degrees-few, laid-is, wanted-enough, wanted-most, missing-is}

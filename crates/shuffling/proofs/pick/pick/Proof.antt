@@ -1,10 +1,9 @@
 -- `shuffling::pick::pick` meets its contract.
 -- Assumes nothing.
-use mathlib.Core.Path.{_≡_, sym, ap, ap₂, _∙_}
+use mathlib.Core.Path.{ap₂, _∙_}
 use Prim.Native.Nat.{ℕ, _/_, _%_}
 use native.Mathlib.Nat.{mod-lt}
 use native.Mathlib.Omega.{arith}
-use borrow.Author.Needs.{needs}
 use Rattle.shuffling.proofs.Seeking.{total-count, row-below, row-free, seek-row, seek-column}
 use Rattle.shuffling.proofs.pick.pick.Statement.{statement}
 use Rattle.shuffling.proofs.pick.pick.Tie as tie

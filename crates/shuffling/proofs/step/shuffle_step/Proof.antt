@@ -1,6 +1,5 @@
 -- `shuffling::step::shuffle_step` meets its contract.
 -- Assumes nothing.
-use mathlib.Core.Path.{refl}
 use native.Mathlib.Omega.{arith}
 use borrow.Author.Needs.{needs}
 use Rattle.joining.proofs.Relieving.{switches-bytes}
