@@ -105,7 +105,7 @@ pub fn shuffle_step(
     ensures { λ r. ⌜ WroteRecords (done .totals .joins) (r .totals .joins) (now (output .entry)) (now (output .exit)) ⌝ }
     ensures { λ r. ⌜ Shuffling n (now (cells .entry)) (now (starts .entry)) (now (classes .entry)) (now (adjacency .exit)) (now (have .exit)) (now (full .exit)) (now (counts .exit)) (now (sums .exit)) (now (low .exit)) (now (held .exit)) (length (now (output .entry))) (ran (now (adjacency .exit)) (now (output .exit)) (r .totals)) ⌝ }
 {
-    let x = next_x(done.x);
+    let stepped = next_x(done.x);
     let pair = pick(
         adjacency,
         cells,
@@ -116,7 +116,7 @@ pub fn shuffle_step(
         counts,
         sums,
         n,
-        x,
+        stepped,
     );
     let v = pair.v;
     let w = pair.w;
@@ -145,6 +145,6 @@ pub fn shuffle_step(
             joins: joins + 1,
             switches: done.totals.switches + switch_count(made),
         },
-        x,
+        x: stepped,
     }
 }
