@@ -1,7 +1,7 @@
 // Document 01's numbers of each answer, in the struct that the C interface hands back.
 ghost use mathlib.Core.Path.{_≡_};
 ghost use Prim.Native.Nat.{ℕ, _<_};
-ghost use Rattle.answer.specs.Numbers.{refused, clearNumbers, takeNumbers, layOutNumbers, figuresNumbers, addNumbers, removeNumbers, completeNumbers, writtenNumbers, readNumbers};
+ghost use Rattle.answer.specs.Numbers.{refused, clearNumbers, takeNumbers, layOutNumbers, figuresNumbers, addNumbers, removeNumbers, completeNumbers, shuffleNumbers, writtenNumbers, readNumbers};
 ghost use Rattle.journal.specs.Journal.{mostBlocks};
 ghost use Rattle.numbers.specs.Flat.{flat, flatJoin, heldNumbers};
 use answer::AddAnswer;
@@ -13,6 +13,7 @@ use answer::LengthAnswer;
 use answer::ReadAnswer;
 use answer::Refusal;
 use answer::RemoveAnswer;
+use answer::ShuffleAnswer;
 use answer::TakeAnswer;
 use answer::WrittenAnswer;
 use answer::number_of;
@@ -20,6 +21,7 @@ use answer::switches::Switches;
 use answer::switches::first_switch;
 use answer::switches::second_switch;
 use answer::switches::switch_count;
+use table::cells::wide32;
 
 // number is 0 where the call did its work, else the refusal's number with its places in first and second. What is not named is 0.
 #[repr(C)]
@@ -171,6 +173,22 @@ pub fn of_complete(answer: CompleteAnswer) -> ReplicaAnswer
             fifth: 0,
         },
         CompleteAnswer::Refused(r) => of_refusal(r),
+    }
+}
+
+pub fn of_shuffle(answer: ShuffleAnswer) -> ReplicaAnswer
+    ensures { λ r. ⌜ r ≡ flat (shuffleNumbers answer) ⌝ }
+{
+    match answer {
+        ShuffleAnswer::Completed(joins, switches, length, x) => ReplicaAnswer {
+            number: 0,
+            first: joins,
+            second: switches,
+            third: length,
+            fourth: wide32(x),
+            fifth: 0,
+        },
+        ShuffleAnswer::Refused(r) => of_refusal(r),
     }
 }
 
