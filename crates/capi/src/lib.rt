@@ -1,7 +1,7 @@
 // The C interface: one export for each entry (include/replica.h). Each calls the entry and hands its answer back in document 01's numbers.
 ghost use mathlib.Core.Path.{_≡_};
 ghost use lib.ListN.{length};
-ghost use Rattle.answer.specs.Numbers.{clearNumbers, takeNumbers, layOutNumbers, figuresNumbers, addNumbers, removeNumbers, completeNumbers, writtenNumbers, readNumbers};
+ghost use Rattle.answer.specs.Numbers.{clearNumbers, takeNumbers, layOutNumbers, figuresNumbers, addNumbers, removeNumbers, completeNumbers, shuffleNumbers, writtenNumbers, readNumbers};
 ghost use Rattle.clearing.specs.Clear.{clearAnswer, clearBytes};
 ghost use Rattle.taking.specs.Take.{takeAnswer, takeJournal};
 ghost use Rattle.reading_back.specs.Held.{lengthAnswer};
@@ -14,6 +14,7 @@ ghost use Rattle.survey.specs.Survey.{surveyAnswer, surveyOutput};
 ghost use Rattle.graph6_writing.specs.Write.{writeAnswer, writeOutput};
 ghost use Rattle.graph6_reading.specs.Read.{readAnswer, readOutput};
 ghost use Rattle.completion.specs.Complete.{completeAnswer, completeAdjacency, completeOutput};
+ghost use Rattle.shuffling.specs.Shuffle.{shuffleAnswer, shuffleAdjacency, shuffleOutput};
 ghost use Rattle.numbers.specs.Flat.{flat, flatJoin, heldNumbers};
 use numbers::ReplicaAnswer;
 use numbers::ReplicaJoin;
@@ -99,6 +100,20 @@ pub extern "C" fn replica_complete(
     ensures { λ _. ⌜ now (output .exit) ≡ completeOutput (completeAnswer (now (journal .entry)) (now (adjacency .entry)) (length (now (output .entry)))) (now (journal .entry)) (now (adjacency .entry)) (now (output .entry)) ⌝ }
 {
     numbers::of_complete(completion::complete(journal, adjacency, output))
+}
+
+#[no_mangle]
+pub extern "C" fn replica_complete_shuffled(
+    journal: &[u8],
+    adjacency: &mut [u8],
+    x: u32,
+    output: &mut [u8],
+) -> ReplicaAnswer
+    ensures { λ r. ⌜ r ≡ flat (shuffleNumbers (shuffleAnswer (now (journal .entry)) (now (adjacency .entry)) x (length (now (output .entry))))) ⌝ }
+    ensures { λ _. ⌜ now (adjacency .exit) ≡ shuffleAdjacency (now (journal .entry)) (now (adjacency .entry)) x (length (now (output .entry))) ⌝ }
+    ensures { λ _. ⌜ now (output .exit) ≡ shuffleOutput (now (journal .entry)) (now (adjacency .entry)) x (now (output .entry)) ⌝ }
+{
+    numbers::of_shuffle(shuffling::complete_shuffled(journal, adjacency, x, output))
 }
 
 #[no_mangle]
