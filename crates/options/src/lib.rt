@@ -1,0 +1,92 @@
+// What the program's arguments ask for.
+ghost use mathlib.Core.Path.{_≡_};
+ghost use Prim.Native.Nat.{_-_};
+ghost use Rattle.options.specs.Options.{isDigit, numberOf, shuffledBy, choiceOf};
+use slices::same_bytes;
+use slices::wide;
+
+// How the completed graph is shown: N, its edges and the switches, then a line for each edge; or one line of graph6.
+pub enum Form {
+    Lines,
+    Graph6,
+}
+
+// Which open pair is joined next: the lowest one, or the one that x picks, from this x on.
+pub enum Finish {
+    Lowest,
+    Shuffled(u32),
+}
+
+// What the arguments ask for.
+pub enum Choice {
+    Show(Form, Finish),
+    Usage,
+}
+
+// What a word says.
+pub enum Number {
+    Value(u32),
+    NoNumber,
+}
+
+// Numbers are below it.
+const NUMBER_END: usize = 4294967296;
+
+fn is_digit(b: u8) -> bool
+    ensures { λ r. ⌜ r ≡ isDigit b ⌝ }
+{
+    (b'0' <= b) & (b <= b'9')
+}
+
+// A word's number. It stops where the number is too large, so that no word is too long to be read.
+fn number_of(word: &[u8]) -> Number
+    ensures { λ r. ⌜ r ≡ numberOf (now (word .entry)) ⌝ }
+{
+    if word.len() == 0 {
+        return Number::NoNumber;
+    }
+    let mut value = 0;
+    for i in 0..word.len() {
+        if !is_digit(word[i]) {
+            return Number::NoNumber;
+        }
+        value = value * 10 + (wide(word[i]) - 48);
+        if NUMBER_END <= value {
+            return Number::NoNumber;
+        }
+    }
+    Number::Value(value as u32)
+}
+
+// The form, shuffled from a word's number on.
+fn shuffled_by(form: Form, word: &[u8]) -> Choice
+    ensures { λ r. ⌜ r ≡ shuffledBy form (numberOf (now (word .entry))) ⌝ }
+{
+    let number = number_of(word);
+    match number {
+        Number::Value(x) => Choice::Show(form, Finish::Shuffled(x)),
+        Number::NoNumber => Choice::Usage,
+    }
+}
+
+// What so many arguments ask for, the program's name counted, of which these are the three behind the name.
+pub fn choice_of(count: usize, first: &[u8], second: &[u8], third: &[u8]) -> Choice
+    ensures { λ r. ⌜ r ≡ choiceOf count (now (first .entry)) (now (second .entry)) (now (third .entry)) ⌝ }
+{
+    if count <= 1 {
+        return Choice::Show(Form::Lines, Finish::Lowest);
+    }
+    if (count == 2) & same_bytes(first, b"--graph6") {
+        return Choice::Show(Form::Graph6, Finish::Lowest);
+    }
+    if (count == 3) & same_bytes(first, b"--shuffle") {
+        return shuffled_by(Form::Lines, second);
+    }
+    if (count == 4) & same_bytes(first, b"--graph6") & same_bytes(second, b"--shuffle") {
+        return shuffled_by(Form::Graph6, third);
+    }
+    if (count == 4) & same_bytes(first, b"--shuffle") & same_bytes(third, b"--graph6") {
+        return shuffled_by(Form::Graph6, second);
+    }
+    Choice::Usage
+}
