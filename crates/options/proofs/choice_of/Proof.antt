@@ -1,5 +1,6 @@
 -- `options::choice_of` meets its contract: of its tests those before the answer failed.
 -- Assumes nothing.
+use native.Mathlib.Omega.{arith}
 use borrow.Author.Needs.{needs}
 use borrow.Author.Tests.{le-leb, lt-leb}
 use Rattle.options.proofs.choice_of.Statement.{statement}
@@ -8,7 +9,7 @@ use Rattle.options.proofs.choice_of.Tie as tie
 pub choice-of-spec : {M : Type 1} → statement M
 choice-of-spec =
     tie.close (tie.spec
-    (λ c. rw (le-leb _ _ (c .if1 .taken)))  -- returns
+    (λ c. rw (le-leb (c .before .before .before .before .args .count) 1 (omega arith)))  -- returns
     (λ c. search needs)  -- slice-aggregate-same-bytes
     (λ c κs. tt)  -- same-bytes-requires
     (λ c.
