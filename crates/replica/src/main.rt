@@ -2,13 +2,14 @@
 use libc::STDERR_FILENO;
 use libc::STDIN_FILENO;
 use libc::STDOUT_FILENO;
-use runner::Choice;
-use runner::Form;
+use options::Choice;
+use options::Finish;
+use options::Form;
 use runner::INPUT_MOST;
 use runner::TEXT_MOST;
 
-// Room for the longest option; a longer word is none.
-const WORD_MOST: usize = 16;
+// Room for every option and for a number with many zeros before it; a longer word is read as an empty one, which is neither.
+const WORD_MOST: usize = 64;
 
 // Whether n bytes are all of the input that can matter. Where fewer came, the input ended or a read failed: one more read tells.
 fn was_read(n: usize) -> bool {
@@ -20,7 +21,7 @@ fn was_read(n: usize) -> bool {
 }
 
 // Reads the records and prints the replica.
-fn print_replica(form: Form) {
+fn print_replica(form: Form, finish: Finish) {
     let mut input = [0u8; INPUT_MOST];
     let n = io::read_full(STDIN_FILENO, &mut input);
     if !was_read(n) {
@@ -28,20 +29,27 @@ fn print_replica(form: Form) {
         return;
     }
     let mut output = [0u8; TEXT_MOST];
-    let len = runner::render(form, &input[..n], &mut output);
+    let len = runner::render(form, finish, &input[..n], &mut output);
     if !io::write_all(STDOUT_FILENO, &output[..len]) {
         io::write_all(STDERR_FILENO, b"replica: the output could not be written\n");
     }
 }
 
 fn main() {
-    let mut word = [0u8; WORD_MOST];
-    let n = os::arg(1, &mut word);
-    let choice = runner::choice_of(os::arg_count(), &word[..n]);
+    let mut first = [0u8; WORD_MOST];
+    let mut second = [0u8; WORD_MOST];
+    let mut third = [0u8; WORD_MOST];
+    let n1 = os::arg(1, &mut first);
+    let n2 = os::arg(2, &mut second);
+    let n3 = os::arg(3, &mut third);
+    let choice = options::choice_of(os::arg_count(), &first[..n1], &second[..n2], &third[..n3]);
     match choice {
-        Choice::Show(form) => print_replica(form),
+        Choice::Show(form, finish) => print_replica(form, finish),
         Choice::Usage => {
-            io::write_all(STDERR_FILENO, b"usage: replica [--graph6] < records\n");
+            io::write_all(
+                STDERR_FILENO,
+                b"usage: replica [--graph6] [--shuffle X] < records\n",
+            );
         }
     }
 }

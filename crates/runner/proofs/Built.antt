@@ -43,16 +43,17 @@ use Rattle.edgelist.proofs.Pairs.{cat-sized, one-sized}
 use Rattle.listing.specs.List.{listBytes}
 use Rattle.graph6.proofs.Text.{text-cong}
 use Rattle.graph6_writing.specs.Write.{writeText}
-use Rattle.completion.specs.Complete.{completed, completeAnswer, completeAdjacency}
-use Rattle.completion.proofs.Entry.{CompleteFacts, completed-facts, facts-completed, missing-most, complete-works}
+use Rattle.completion.specs.Complete.{Ran, finishAnswer, finishAdjacency}
+use Rattle.completion.proofs.Entry.{CompleteFacts, completed-facts, facts-completed, missing-most}
 use Rattle.text.specs.Text.{newline, refusedLine, headLine, edgeLines}
 use Rattle.text.proofs.Lines.{lines-cat, lines-one}
-use Rattle.runner.specs.declared.Form.{Form}
-use Rattle.runner.specs.declared.Form.the-variants.{Lines, Graph6}
-use Rattle.runner.specs.Program.{blocksIn, blockIn, Taking, takeVerdict, takeNext, takeAll, stateText, recordsMost, completedText, laidText, takenText, textFrom}
+use Rattle.options.specs.declared.Form.{Form}
+use Rattle.options.specs.declared.Form.the-variants.{Lines, Graph6}
+use Rattle.options.specs.declared.Finish.{Finish}
+use Rattle.runner.specs.Program.{blocksIn, blockIn, Taking, takeVerdict, takeNext, takeAll, stateText, recordsMost, outcomeOf, completedText, laidText, takenText, textFrom}
 use Rattle.runner.specs.Theorems.{CompletesAlways, inputTable, edgeText, shown, Built, ProgramSays}
 use Rattle.runner.proofs.Taking.{IsGo}
-use Rattle.runner.proofs.Room.{laid-count}
+use Rattle.runner.proofs.Room.{outcome-works, laid-count}
 
 -- the lines of a graph's edge list, v by v and w by w
 module _ (n : ℕ) (g : List ℕ) where
@@ -152,12 +153,12 @@ state-shown Graph6 n switches j g count simple =
     (text-cong (vertexCount j) (edge g) (graphOf (listBytes (vertexCount j) g)) (list-graph (vertexCount j) (edge g) simple))
 
 -- a completed state's text
-module _ (j g : List ℕ) (n joins switches written : ℕ) (count : n ≡ vertexCount j)
-    (e : completeAnswer j g recordsMost ≡ Completed joins switches written) where
-  built : (form : Form) → Built form (tableOf j) (stateText form n switches j (completed j g .adjacency))
+module _ (finish : Finish) (j g : List ℕ) (n joins switches written : ℕ) (count : n ≡ vertexCount j)
+    (e : finishAnswer (outcomeOf finish j g) j g recordsMost ≡ Completed joins switches written) where
+  built : (form : Form) → Built form (tableOf j) (stateText form n switches j (outcomeOf finish j g .adjacency))
   built form =
-      let w = complete-works j g (completed-facts j g recordsMost joins switches written e .facts) in
-      let h = completed j g .adjacency in
+      let w = outcome-works finish j g (completed-facts j g (outcomeOf finish j g) recordsMost joins switches written e .facts) in
+      let h = outcomeOf finish j g .adjacency in
       record {
         journal = j;
         adjacency = h;
@@ -173,42 +174,48 @@ module _ (j g : List ℕ) (n joins switches written : ℕ) (count : n ≡ vertex
 abbrev Told : Form → DegreeTable → List ℕ → Type 0
 Told form t text = ((r : Refusal) × (text ≡ refusedLine r)) ⊎ Built form t text
 
-told-completed : (form : Form) (j g : List ℕ) (n : ℕ) → n ≡ vertexCount j → Told form (tableOf j) (laidText form (LaidOut n) j g)
-told-completed form j g n count = go (completeAnswer j g recordsMost) refl
+told-completed : (form : Form) (finish : Finish) (j g : List ℕ) (n : ℕ) → n ≡ vertexCount j
+    → Told form (tableOf j) (laidText form finish (LaidOut n) j g)
+told-completed form finish j g n count = go (finishAnswer (outcomeOf finish j g) j g recordsMost) refl
   where
-    go : (a : CompleteAnswer) → completeAnswer j g recordsMost ≡ a → Told form (tableOf j) (completedText form a n j (completeAdjacency a j g))
-    go (Completed joins switches written) e = inr (built j g n joins switches written count e form)
+    go : (a : CompleteAnswer) → finishAnswer (outcomeOf finish j g) j g recordsMost ≡ a
+        → Told form (tableOf j) (completedText form a n j (finishAdjacency a (outcomeOf finish j g) g))
+    go (Completed joins switches written) e = inr (built finish j g n joins switches written count e form)
     go (CompleteRefused r) e = inl (r, refl)
 
-told-laid : (form : Form) (j g : List ℕ) → Told form (tableOf j) (takenText form Go j g)
-told-laid form j g = go (layOutAnswer j g) refl
+told-laid : (form : Form) (finish : Finish) (j g : List ℕ) → Told form (tableOf j) (takenText form finish Go j g)
+told-laid form finish j g = go (layOutAnswer j g) refl
   where
-    go : (a : LayOutAnswer) → layOutAnswer j g ≡ a → Told form (tableOf j) (laidText form a (layOutJournal a j) g)
+    go : (a : LayOutAnswer) → layOutAnswer j g ≡ a → Told form (tableOf j) (laidText form finish a (layOutJournal a j) g)
     go (LaidOut n) e =
-        subst (λ (t : DegreeTable). Told form t (laidText form (LaidOut n) (laid j) g)) (table-laid j)
-        (told-completed form (laid j) g n (laid-count j g n e))
+        subst (λ (t : DegreeTable). Told form t (laidText form finish (LaidOut n) (laid j) g)) (table-laid j)
+        (told-completed form finish (laid j) g n (laid-count j g n e))
     go (LayOutRefused r) e = inl (r, refl)
 
-told : (form : Form) (j g input : List ℕ) → ClearedState j g → Told form (inputTable input) (textFrom form j g input)
-told form j g input c = go (takeAll j g input .verdict) refl
+told : (form : Form) (finish : Finish) (j g input : List ℕ) → ClearedState j g → Told form (inputTable input) (textFrom form finish j g input)
+told form finish j g input c = go (takeAll j g input .verdict) refl
   where
-    go : (v : Verdict) → takeAll j g input .verdict ≡ v → Told form (inputTable input) (takenText form v (takeAll j g input .journal) g)
+    go : (v : Verdict) → takeAll j g input .verdict ≡ v → Told form (inputTable input) (takenText form finish v (takeAll j g input .journal) g)
     go Go e =
-        subst (λ (t : DegreeTable). Told form t (takenText form Go (takeAll j g input .journal) g)) (reached-all g input j c e .table)
-        (told-laid form (takeAll j g input .journal) g)
+        subst (λ (t : DegreeTable). Told form t (takenText form finish Go (takeAll j g input .journal) g)) (reached-all g input j c e .table)
+        (told-laid form finish (takeAll j g input .journal) g)
     go (Stop r) e = inl (r, refl)
 
 pub program-says : ProgramSays
-program-says form input = told form (replicate journalSize 0) (replicate adjacencySize 0) input cleared-state
+program-says form finish input = told form finish (replicate journalSize 0) (replicate adjacencySize 0) input cleared-state
 
 -- completing a laid state is not refused: no layout has more edges than there is room for
-laid-completes : (j g : List ℕ) (n : ℕ) → layOutAnswer j g ≡ LaidOut n
-    → (joins switches written : ℕ) × (completeAnswer (layOutJournal (layOutAnswer j g) j) g recordsMost ≡ Completed joins switches written)
-laid-completes j g n e =
-    (completed j′ g .joins, completed j′ g .switches, length (completed j′ g .records), facts-completed j′ g recordsMost f (omega (arith, missing-most j′ g f)))
+laid-completes : (finish : Finish) (j g : List ℕ) (n : ℕ) → layOutAnswer j g ≡ LaidOut n
+    → let j′ = layOutJournal (layOutAnswer j g) j in
+    (joins switches written : ℕ) × (finishAnswer (outcomeOf finish j′ g) j′ g recordsMost ≡ Completed joins switches written)
+laid-completes finish j g n e =
+    (r .joins, r .switches, length (r .records), facts-completed j′ g r recordsMost f (omega (arith, missing-most j′ g f)))
   where
     j′ : List ℕ
     j′ = layOutJournal (layOutAnswer j g) j
+
+    r : Ran
+    r = outcomeOf finish j′ g
 
     was : LaidOutFacts j g
     was = lay-out-facts j g n e
@@ -222,4 +229,4 @@ laid-completes j g n e =
         }
 
 pub completes-always : CompletesAlways
-completes-always input n went e = laid-completes (takeAll (replicate journalSize 0) (replicate adjacencySize 0) input .journal) (replicate adjacencySize 0) n e
+completes-always finish input n went e = laid-completes finish (takeAll (replicate journalSize 0) (replicate adjacencySize 0) input .journal) (replicate adjacencySize 0) n e

@@ -16,7 +16,8 @@ use Rattle.table.specs.Block.{blockMost}
 use Rattle.journal.specs.Journal.{mostBlocks, journalSize}
 use Rattle.adjacency.specs.Adjacency.{adjacencySize}
 use Rattle.runner.specs.Program.{blocksIn, blockIn, Taking, takeNext, takeAll, takenText, textFrom, inputMost}
-use Rattle.runner.specs.declared.Form.{Form}
+use Rattle.options.specs.declared.Form.{Form}
+use Rattle.options.specs.declared.Finish.{Finish}
 use Rattle.runner.specs.Theorems.{ReadsEnough}
 use Rattle.runner.proofs.Taking.{after, stays, full}
 
@@ -67,12 +68,12 @@ module _ (j g input : List ℕ) (long : inputMost < length input) where
           ∙ ap (after j g (take inputMost input)) q
 
 -- from any journal and matrix
-enough : (form : Form) (j g input : List ℕ) → textFrom form j g input ≡ textFrom form j g (take inputMost input)
-enough form j g input = go (decLt inputMost (length input))
+enough : (form : Form) (finish : Finish) (j g input : List ℕ) → textFrom form finish j g input ≡ textFrom form finish j g (take inputMost input)
+enough form finish j g input = go (decLt inputMost (length input))
   where
-    go : Dec (inputMost < length input) → textFrom form j g input ≡ textFrom form j g (take inputMost input)
-    go (yes h) = ap (λ (s : Taking). takenText form (s .verdict) (s .journal) g) (same-all j g input h)
-    go (no h) = ap (textFrom form j g) (sym (take-all inputMost input (omega arith)))
+    go : Dec (inputMost < length input) → textFrom form finish j g input ≡ textFrom form finish j g (take inputMost input)
+    go (yes h) = ap (λ (s : Taking). takenText form finish (s .verdict) (s .journal) g) (same-all j g input h)
+    go (no h) = ap (textFrom form finish j g) (sym (take-all inputMost input (omega arith)))
 
 pub reads-enough : ReadsEnough
-reads-enough form input = enough form (replicate journalSize 0) (replicate adjacencySize 0) input
+reads-enough form finish input = enough form finish (replicate journalSize 0) (replicate adjacencySize 0) input

@@ -36,15 +36,18 @@ use Rattle.edgelist.proofs.Listed.{list-rising, list-passed}
 use Rattle.graph6.specs.Format.{bodyMost}
 use Rattle.graph6.proofs.Text.{text-most}
 use Rattle.graph6_writing.specs.Write.{writeText}
-use Rattle.completion.specs.Complete.{mostEdges, completed, completeAnswer, completeAdjacency}
+use Rattle.completion.specs.Complete.{mostEdges, finishAnswer, finishAdjacency}
 use Rattle.completion.proofs.Cellwise.{room}
 use Rattle.completion.proofs.Works.{few-edges}
-use Rattle.completion.proofs.Entry.{completed-facts, complete-works}
+use Rattle.completion.proofs.Entry.{CompleteFacts, CompleteWorks, completed-facts, complete-works}
+use Rattle.shuffling.proofs.Works.{shuffled-works}
 use Rattle.text.specs.Text.{newline, edgeLines, headLine, headMost, edgeMost}
 use Rattle.text.proofs.Decimal.{refused-length, head-length, edges-length}
-use Rattle.runner.specs.declared.Form.{Form}
-use Rattle.runner.specs.declared.Form.the-variants.{Lines, Graph6}
-use Rattle.runner.specs.Program.{stateText, recordsMost, completedText, laidText, takenText, textMost}
+use Rattle.options.specs.declared.Form.{Form}
+use Rattle.options.specs.declared.Form.the-variants.{Lines, Graph6}
+use Rattle.options.specs.declared.Finish.{Finish}
+use Rattle.options.specs.declared.Finish.the-variants.{Lowest, Shuffled}
+use Rattle.runner.specs.Program.{stateText, recordsMost, outcomeOf, completedText, laidText, takenText, textMost}
 
 abbrev IsWritten : WrittenAnswer → Type 0
 IsWritten (Written n) = Unit {0}
@@ -133,14 +136,21 @@ module _ (j g : List ℕ) (lengths : lengthsOk j g ≡ true) (sound : valid j g 
 refused-fits : (r : Refusal) → length (Rattle.text.specs.Text.refusedLine r) ≤ textMost
 refused-fits r = omega (arith, refused-length r)
 
-completed-fits : (form : Form) (j g : List ℕ) (n : ℕ) → n ≡ vertexCount j → length (laidText form (LaidOut n) j g) ≤ textMost
-completed-fits form j g n count = go (completeAnswer j g recordsMost) refl
+-- whichever pairs it joins, completing works
+pub outcome-works : (finish : Finish) (j g : List ℕ) → CompleteFacts j g → CompleteWorks j g (outcomeOf finish j g)
+outcome-works Lowest j g f = complete-works j g f
+outcome-works (Shuffled x) j g f = shuffled-works j g x f
+
+completed-fits : (form : Form) (finish : Finish) (j g : List ℕ) (n : ℕ) → n ≡ vertexCount j
+    → length (laidText form finish (LaidOut n) j g) ≤ textMost
+completed-fits form finish j g n count = go (finishAnswer (outcomeOf finish j g) j g recordsMost) refl
   where
-    go : (a : CompleteAnswer) → completeAnswer j g recordsMost ≡ a → length (completedText form a n j (completeAdjacency a j g)) ≤ textMost
+    go : (a : CompleteAnswer) → finishAnswer (outcomeOf finish j g) j g recordsMost ≡ a
+        → length (completedText form a n j (finishAdjacency a (outcomeOf finish j g) g)) ≤ textMost
     go (Completed joins switches written) e =
-        let f = completed-facts j g recordsMost joins switches written e .facts in
-        let w = complete-works j g f in
-        state-fits j (completed j g .adjacency) (w .lengths) (w .sound) (f .phased) form n switches count
+        let f = completed-facts j g (outcomeOf finish j g) recordsMost joins switches written e .facts in
+        let w = outcome-works finish j g f in
+        state-fits j (outcomeOf finish j g .adjacency) (w .lengths) (w .sound) (f .phased) form n switches count
     go (CompleteRefused r) e = refused-fits r
 
 -- what laying out answers is the N of the state
@@ -148,10 +158,10 @@ pub laid-count : (j g : List ℕ) (n : ℕ) → layOutAnswer j g ≡ LaidOut n �
 laid-count j g n e = lay-out-vertices j g n e ∙ ap vertices (sym (table-laid j))
 
 -- every text fits
-pub text-fits : (form : Form) (v : Verdict) (j g : List ℕ) → length (takenText form v j g) ≤ textMost
-text-fits form (Stop r) j g = refused-fits r
-text-fits form Go j g = go (layOutAnswer j g) refl
+pub text-fits : (form : Form) (finish : Finish) (v : Verdict) (j g : List ℕ) → length (takenText form finish v j g) ≤ textMost
+text-fits form finish (Stop r) j g = refused-fits r
+text-fits form finish Go j g = go (layOutAnswer j g) refl
   where
-    go : (a : LayOutAnswer) → layOutAnswer j g ≡ a → length (laidText form a (layOutJournal a j) g) ≤ textMost
-    go (LaidOut n) e = completed-fits form (layOutJournal (LaidOut n) j) g n (laid-count j g n e)
+    go : (a : LayOutAnswer) → layOutAnswer j g ≡ a → length (laidText form finish a (layOutJournal a j) g) ≤ textMost
+    go (LaidOut n) e = completed-fits form finish (layOutJournal (LaidOut n) j) g n (laid-count j g n e)
     go (LayOutRefused r) e = refused-fits r

@@ -19,14 +19,15 @@ use Rattle.journal.specs.Journal.{phase}
 use Rattle.state.specs.Valid.{lengthsOk, valid}
 use Rattle.state.specs.Laid.{vertexCount}
 use Rattle.laying_out.specs.LayOut.{layOutAnswer, layOutJournal}
-use Rattle.completion.specs.Complete.{completed, completeAnswer, completeAdjacency}
-use Rattle.completion.proofs.Entry.{completed-facts, complete-works}
+use Rattle.completion.specs.Complete.{Ran, finishAnswer, finishAdjacency}
+use Rattle.completion.proofs.Entry.{completed-facts}
 use Rattle.io.specs.Counts.{Counts}
 use Rattle.text.specs.Text.{refusedLine}
 use Rattle.text.proofs.Written.{Written}
-use Rattle.runner.specs.declared.Form.{Form}
-use Rattle.runner.specs.Program.{takeAll, stateText, recordsMost, completedText, laidText, takenText, textFrom, textMost}
-use Rattle.runner.proofs.Room.{laid-count, text-fits}
+use Rattle.options.specs.declared.Form.{Form}
+use Rattle.options.specs.declared.Finish.{Finish}
+use Rattle.runner.specs.Program.{takeAll, stateText, recordsMost, outcomeOf, completedText, laidText, takenText, textFrom, textMost}
+use Rattle.runner.proofs.Room.{outcome-works, laid-count, text-fits}
 
 -- the text t stands at the start of the list l, which is then m, and p is its length
 abbrev pub Says : List ℕ → List ℕ → ℕ → List ℕ → Type 0
@@ -39,39 +40,46 @@ says t u l p m e w = subst (λ (t : List ℕ). Says t l p m) (sym e) w
 pub says-line : (t u l : List ℕ) (p : ℕ) (m : List ℕ) → t ≡ u → Written l 0 u p m → Says t l p m
 says-line t u l p m e w = says t u l p m e (w .0 ∙ zero-add (length u), w .1)
 
--- after completing, with m bytes for the records
-module _ (form : Form) (j g : List ℕ) (n m : ℕ) (room : m ≡ recordsMost) (a : CompleteAnswer) (g′ : List ℕ)
-    (answered : a ≡ completeAnswer j g m) (left : g′ ≡ completeAdjacency (completeAnswer j g m) j g) where
-  answer : a ≡ completeAnswer j g recordsMost
-  answer = answered ∙ ap (completeAnswer j g) room
+-- what completing that ends in r answers, and what it leaves by that answer
+pub ended : (r : Ran) (j g : List ℕ) (m : ℕ) (a : CompleteAnswer) (g′ : List ℕ) → a ≡ finishAnswer r j g m
+    → g′ ≡ finishAdjacency (finishAnswer r j g m) r g → (a ≡ finishAnswer r j g m) × (g′ ≡ finishAdjacency a r g)
+ended r j g m a g′ answered left = (answered, left ∙ ap (λ (a : CompleteAnswer). finishAdjacency a r g) (sym answered))
 
-  pub said-refused : (r : Refusal) → a ≡ CompleteRefused r → laidText form (LaidOut n) j g ≡ refusedLine r
-  said-refused r h = ap (λ (a : CompleteAnswer). completedText form a n j (completeAdjacency a j g)) (sym answer ∙ h)
+-- after completing, with m bytes for the records
+module _ (form : Form) (finish : Finish) (j g : List ℕ) (n m : ℕ) (room : m ≡ recordsMost) (a : CompleteAnswer) (g′ : List ℕ)
+    (answered : a ≡ finishAnswer (outcomeOf finish j g) j g m)
+    (left : g′ ≡ finishAdjacency a (outcomeOf finish j g) g) where
+  answer : a ≡ finishAnswer (outcomeOf finish j g) j g recordsMost
+  answer = answered ∙ ap (finishAnswer (outcomeOf finish j g) j g) room
+
+  pub said-refused : (r : Refusal) → a ≡ CompleteRefused r → laidText form finish (LaidOut n) j g ≡ refusedLine r
+  said-refused r h = ap (λ (a : CompleteAnswer). completedText form a n j (finishAdjacency a (outcomeOf finish j g) g)) (sym answer ∙ h)
 
   module _ (joins switches written : ℕ) (h : a ≡ Completed joins switches written) where
-    completed-is : g′ ≡ completed j g .adjacency
-    completed-is = left ∙ ap (λ (a : CompleteAnswer). completeAdjacency a j g) (sym answered ∙ h)
+    completed-is : g′ ≡ outcomeOf finish j g .adjacency
+    completed-is = left ∙ ap (λ (a : CompleteAnswer). finishAdjacency a (outcomeOf finish j g) g) h
 
-    pub said-completed : laidText form (LaidOut n) j g ≡ stateText form n switches j g′
+    pub said-completed : laidText form finish (LaidOut n) j g ≡ stateText form n switches j g′
     said-completed =
-        ap (λ (a : CompleteAnswer). completedText form a n j (completeAdjacency a j g)) (sym answer ∙ h)
+        ap (λ (a : CompleteAnswer). completedText form a n j (finishAdjacency a (outcomeOf finish j g) g)) (sym answer ∙ h)
         ∙ ap (λ (g : List ℕ). stateText form n switches j g) (sym completed-is)
 
     pub completed-laid : (lengthsOk j g′ ≡ true) × (valid j g′ ≡ true) × (phase j ≡ 1)
     completed-laid =
-        let f = completed-facts j g m joins switches written (sym answered ∙ h) .facts in
-        let w = complete-works j g f in
+        let f = completed-facts j g (outcomeOf finish j g) m joins switches written (sym answered ∙ h) .facts in
+        let w = outcome-works finish j g f in
         rw completed-is (w .lengths, w .sound, f .phased)
 
 -- after laying out
-module _ (form : Form) (j g : List ℕ) (a : LayOutAnswer) (j′ : List ℕ) (e : (a ≡ layOutAnswer j g) × (j′ ≡ layOutJournal (layOutAnswer j g) j)) where
-  pub said-not-laid : (r : Refusal) → a ≡ LayOutRefused r → takenText form Go j g ≡ refusedLine r
-  said-not-laid r h = ap (λ (a : LayOutAnswer). laidText form a (layOutJournal a j) g) (sym (e .0) ∙ h)
+module _ (form : Form) (finish : Finish) (j g : List ℕ) (a : LayOutAnswer) (j′ : List ℕ)
+    (e : (a ≡ layOutAnswer j g) × (j′ ≡ layOutJournal (layOutAnswer j g) j)) where
+  pub said-not-laid : (r : Refusal) → a ≡ LayOutRefused r → takenText form finish Go j g ≡ refusedLine r
+  said-not-laid r h = ap (λ (a : LayOutAnswer). laidText form finish a (layOutJournal a j) g) (sym (e .0) ∙ h)
 
-  pub said-laid : (n : ℕ) → a ≡ LaidOut n → takenText form Go j g ≡ laidText form (LaidOut n) j′ g
+  pub said-laid : (n : ℕ) → a ≡ LaidOut n → takenText form finish Go j g ≡ laidText form finish (LaidOut n) j′ g
   said-laid n h =
-      ap (λ (a : LayOutAnswer). laidText form a (layOutJournal (layOutAnswer j g) j) g) (sym (e .0) ∙ h)
-      ∙ ap (λ (j : List ℕ). laidText form (LaidOut n) j g) (sym (e .1))
+      ap (λ (a : LayOutAnswer). laidText form finish a (layOutJournal (layOutAnswer j g) j) g) (sym (e .0) ∙ h)
+      ∙ ap (λ (j : List ℕ). laidText form finish (LaidOut n) j g) (sym (e .1))
 
   -- with the state's N
   pub laid-n : (n : ℕ) → a ≡ LaidOut n → n ≡ vertexCount j′
@@ -81,21 +89,23 @@ module _ (form : Form) (j g : List ℕ) (a : LayOutAnswer) (j′ : List ℕ) (e 
       ∙ ap vertexCount (sym (e .1))
 
 -- after taking
-module _ (form : Form) (j g input : List ℕ) (v : Verdict) (j′ : List ℕ) (e : (v ≡ takeAll j g input .verdict) × (j′ ≡ takeAll j g input .journal)) where
-  pub said-stopped : (r : Refusal) → v ≡ Stop r → textFrom form j g input ≡ refusedLine r
-  said-stopped r h = ap (λ (v : Verdict). takenText form v (takeAll j g input .journal) g) (sym (e .0) ∙ h)
+module _ (form : Form) (finish : Finish) (j g input : List ℕ) (v : Verdict) (j′ : List ℕ)
+    (e : (v ≡ takeAll j g input .verdict) × (j′ ≡ takeAll j g input .journal)) where
+  pub said-stopped : (r : Refusal) → v ≡ Stop r → textFrom form finish j g input ≡ refusedLine r
+  said-stopped r h = ap (λ (v : Verdict). takenText form finish v (takeAll j g input .journal) g) (sym (e .0) ∙ h)
 
-  pub said-taken : v ≡ Go → textFrom form j g input ≡ takenText form Go j′ g
+  pub said-taken : v ≡ Go → textFrom form finish j g input ≡ takenText form finish Go j′ g
   said-taken h =
-      ap (λ (v : Verdict). takenText form v (takeAll j g input .journal) g) (sym (e .0) ∙ h)
-      ∙ ap (λ (j : List ℕ). takenText form Go j g) (sym (e .1))
+      ap (λ (v : Verdict). takenText form finish v (takeAll j g input .journal) g) (sym (e .0) ∙ h)
+      ∙ ap (λ (j : List ℕ). takenText form finish Go j g) (sym (e .1))
 
 -- and it fits
-pub says-fits : (form : Form) (j g input l : List ℕ) (p : ℕ) (m : List ℕ) → textMost ≤ length l → Says (textFrom form j g input) l p m
-    → (p ≡ length (textFrom form j g input)) × (Counts p m × (m ≡ sets l 0 (textFrom form j g input)))
-says-fits form j g input l p m room w = (w .0, ((fits, sym (length-take-le p m fits)), w .1))
+pub says-fits : (form : Form) (finish : Finish) (j g input l : List ℕ) (p : ℕ) (m : List ℕ) → textMost ≤ length l
+    → Says (textFrom form finish j g input) l p m
+    → (p ≡ length (textFrom form finish j g input)) × (Counts p m × (m ≡ sets l 0 (textFrom form finish j g input)))
+says-fits form finish j g input l p m room w = (w .0, ((fits, sym (length-take-le p m fits)), w .1))
   where
     fits : p ≤ length m
     fits =
-        rw (w .1, length-sets l 0 (textFrom form j g input))
-        (omega (arith, room, w .0, text-fits form (takeAll j g input .verdict) (takeAll j g input .journal) g))
+        rw (w .1, length-sets l 0 (textFrom form finish j g input))
+        (omega (arith, room, w .0, text-fits form finish (takeAll j g input .verdict) (takeAll j g input .journal) g))

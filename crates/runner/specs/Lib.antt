@@ -1,3 +1,2 @@
-pub mod Options
 pub mod Program
 pub mod Theorems

@@ -1,6 +1,6 @@
 -- What the program prints, for every input (document 01, "The program `replica`"): "reads records from standard input, cuts them into blocks of
--- 64 bytes (the last may be shorter), numbered from 0, lays out, finishes and prints"; "On a refusal it prints only" that. Document 02, P5, adds the form: lines
--- as before, or one line of graph6.
+-- 64 bytes (the last may be shorter), numbered from 0, lays out, finishes and prints"; "On a refusal it prints only" that. Document 02 adds the form, lines
+-- as before or one line of graph6 (P5), and the second way to finish (P7).
 -- Assumes nothing.
 use mathlib.Core.List.{List, _++_}
 use Prim.Native.Nat.{ℕ, _+_, _-_, _*_, _/_}
@@ -22,11 +22,14 @@ use Rattle.state.specs.Laid.{vertexCount}
 use Rattle.taking.specs.Take.{takeAnswer, takeJournal}
 use Rattle.laying_out.specs.LayOut.{layOutAnswer, layOutJournal}
 use Rattle.join_records.specs.Record.{joinRecordSize}
-use Rattle.completion.specs.Complete.{mostEdges, completeAnswer, completeAdjacency}
+use Rattle.completion.specs.Complete.{Ran, mostEdges, completed, finishAnswer, finishAdjacency}
+use Rattle.shuffling.specs.Shuffle.{shuffled}
 use Rattle.listing.specs.List.{listBytes}
 use Rattle.graph6_writing.specs.Write.{writeText}
-use Rattle.runner.specs.declared.Form.{Form}
-use Rattle.runner.specs.declared.Form.the-variants.{Lines, Graph6}
+use Rattle.options.specs.declared.Form.{Form}
+use Rattle.options.specs.declared.Form.the-variants.{Lines, Graph6}
+use Rattle.options.specs.declared.Finish.{Finish}
+use Rattle.options.specs.declared.Finish.the-variants.{Lowest, Shuffled}
 use Rattle.text.specs.Text.{newline, refusedLine, headLine, edgeLines, headMost, edgeMost}
 
 -- how many blocks the input has: none where it is empty, and the last may be shorter
@@ -72,28 +75,36 @@ stateText form n switches j g = listText form n switches (listBytes (vertexCount
 abbrev pub recordsMost : ℕ
 recordsMost = joinRecordSize * mostEdges
 
+-- what completing ends in: the lowest open pair is joined next, or the one that x picks, from this x on
+abbrev pub outcomeOf : Finish → List ℕ → List ℕ → Ran
+outcomeOf Lowest j g = completed j g
+outcomeOf (Shuffled x) j g = shuffled j g x .ran
+
 -- after completing
 abbrev pub completedText : Form → CompleteAnswer → ℕ → List ℕ → List ℕ → List ℕ
 completedText form (Completed joins switches written) n j g = stateText form n switches j g
 completedText form (CompleteRefused r) n j g = refusedLine r
 
 -- after laying out
-abbrev pub laidText : Form → LayOutAnswer → List ℕ → List ℕ → List ℕ
-laidText form (LaidOut n) j g = let a = completeAnswer j g recordsMost in completedText form a n j (completeAdjacency a j g)
-laidText form (LayOutRefused r) j g = refusedLine r
+abbrev pub laidText : Form → Finish → LayOutAnswer → List ℕ → List ℕ → List ℕ
+laidText form finish (LaidOut n) j g =
+    let r = outcomeOf finish j g in
+    let a = finishAnswer r j g recordsMost in
+    completedText form a n j (finishAdjacency a r g)
+laidText form finish (LayOutRefused r) j g = refusedLine r
 
 -- after taking
-abbrev pub takenText : Form → Verdict → List ℕ → List ℕ → List ℕ
-takenText form Go j g = let a = layOutAnswer j g in laidText form a (layOutJournal a j) g
-takenText form (Stop r) j g = refusedLine r
+abbrev pub takenText : Form → Finish → Verdict → List ℕ → List ℕ → List ℕ
+takenText form finish Go j g = let a = layOutAnswer j g in laidText form finish a (layOutJournal a j) g
+takenText form finish (Stop r) j g = refusedLine r
 
 -- from a journal j and a matrix g
-abbrev pub textFrom : Form → List ℕ → List ℕ → List ℕ → List ℕ
-textFrom form j g input = takenText form (takeAll j g input .verdict) (takeAll j g input .journal) g
+abbrev pub textFrom : Form → Finish → List ℕ → List ℕ → List ℕ → List ℕ
+textFrom form finish j g input = takenText form finish (takeAll j g input .verdict) (takeAll j g input .journal) g
 
 -- the program's text: the journal and the matrix are all zero at first
-abbrev pub programText : Form → List ℕ → List ℕ
-programText form input = textFrom form (replicate journalSize 0) (replicate adjacencySize 0) input
+abbrev pub programText : Form → Finish → List ℕ → List ℕ
+programText form finish input = textFrom form finish (replicate journalSize 0) (replicate adjacencySize 0) input
 
 -- the bytes of an input that can matter: one block more than the journal has room for
 abbrev pub inputMost : ℕ

@@ -18,12 +18,13 @@ use Rattle.graph.specs.Tests.{vertices}
 use Rattle.journal.specs.Journal.{journalSize, tableOf}
 use Rattle.adjacency.specs.Adjacency.{adjacencySize, edge}
 use Rattle.laying_out.specs.LayOut.{layOutAnswer, layOutJournal}
-use Rattle.completion.specs.Complete.{completeAnswer}
+use Rattle.completion.specs.Complete.{finishAnswer}
 use Rattle.graph6.specs.Format.{graph6Text}
 use Rattle.text.specs.Text.{newline, refusedLine, headLine, edgeLine}
-use Rattle.runner.specs.declared.Form.{Form}
-use Rattle.runner.specs.declared.Form.the-variants.{Lines, Graph6}
-use Rattle.runner.specs.Program.{blocksIn, blockIn, takeAll, recordsMost, programText, inputMost}
+use Rattle.options.specs.declared.Form.{Form}
+use Rattle.options.specs.declared.Form.the-variants.{Lines, Graph6}
+use Rattle.options.specs.declared.Finish.{Finish}
+use Rattle.runner.specs.Program.{blocksIn, blockIn, takeAll, recordsMost, outcomeOf, programText, inputMost}
 
 -- "cuts them into blocks of 64 bytes (the last may be shorter)": an empty input is no block at all, one of m full blocks is m blocks; no block is
 -- empty, although an empty one would be taken; and the blocks, one behind the other, are the input
@@ -35,16 +36,18 @@ pub record InputCut : Type 0 where
 
 -- what lies behind 65 blocks cannot matter: the program need not read it
 abbrev pub ReadsEnough : Type 0
-ReadsEnough = (form : Form) (input : List ℕ) → programText form input ≡ programText form (take inputMost input)
+ReadsEnough = (form : Form) (finish : Finish) (input : List ℕ) → programText form finish input ≡ programText form finish (take inputMost input)
 
 -- where the input's blocks are taken and laid out, completing has room and is not refused
 abbrev pub CompletesAlways : Type 0
 CompletesAlways =
-    (input : List ℕ) (n : ℕ) →
-    let j = takeAll (replicate journalSize 0) (replicate adjacencySize 0) input .journal in
-    let a = layOutAnswer j (replicate adjacencySize 0) in
-    takeAll (replicate journalSize 0) (replicate adjacencySize 0) input .verdict ≡ Go → a ≡ LaidOut n →
-    (joins switches written : ℕ) × (completeAnswer (layOutJournal a j) (replicate adjacencySize 0) recordsMost ≡ Completed joins switches written)
+    (finish : Finish) (input : List ℕ) (n : ℕ) →
+    let g : List ℕ = replicate adjacencySize 0 in
+    let t = takeAll (replicate journalSize 0) g input in
+    let a = layOutAnswer (t .journal) g in
+    let j = layOutJournal a (t .journal) in
+    t .verdict ≡ Go → a ≡ LaidOut n →
+    (joins switches written : ℕ) × (finishAnswer (outcomeOf finish j g) j g recordsMost ≡ Completed joins switches written)
 
 -- the sum of the input's blocks: in each cell, and of the isolated vertices
 abbrev pub inputTable : List ℕ → DegreeTable
@@ -79,4 +82,5 @@ pub record Built (form : Form) (t : DegreeTable) (text : List ℕ) : Type 0 wher
 -- every text is a refusal, or that of a graph with the input's table
 abbrev pub ProgramSays : Type 0
 ProgramSays =
-    (form : Form) (input : List ℕ) → ((r : Refusal) × (programText form input ≡ refusedLine r)) ⊎ Built form (inputTable input) (programText form input)
+    (form : Form) (finish : Finish) (input : List ℕ) →
+    ((r : Refusal) × (programText form finish input ≡ refusedLine r)) ⊎ Built form (inputTable input) (programText form finish input)

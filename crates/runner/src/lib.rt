@@ -2,7 +2,7 @@
 ghost use mathlib.Core.Path.{_≡_};
 ghost use mathlib.Core.Bool.{true};
 ghost use mathlib.Core.List.{_++_};
-ghost use Prim.Native.Nat.{_+_, _-_, _*_, _/_, _≤_};
+ghost use Prim.Native.Nat.{ℕ, _+_, _-_, _*_, _/_, _≤_};
 ghost use lib.Dec.{eqb};
 ghost use lib.ListN.{length};
 ghost use lib.Seq.{sets};
@@ -10,6 +10,7 @@ ghost use Rattle.table.specs.Block.{blockMost};
 ghost use Rattle.journal.specs.Journal.{phase};
 ghost use Rattle.state.specs.Valid.{lengthsOk, valid};
 ghost use Rattle.answer.specs.declared.Verdict.the-variants.{Go};
+ghost use Rattle.answer.specs.declared.CompleteAnswer.{CompleteAnswer};
 ghost use Rattle.answer.specs.declared.LayOutAnswer.the-variants.{LaidOut};
 ghost use Rattle.taking.specs.Take.{takeAnswer, takeJournal};
 ghost use Rattle.io.specs.Counts.{Counts};
@@ -17,11 +18,13 @@ ghost use Rattle.text.specs.Text.{newline, headLine, edgeLines, headMost};
 ghost use Rattle.state.specs.Laid.{vertexCount};
 ghost use Rattle.edgelist.specs.EdgeList.{listVerdict};
 ghost use Rattle.graph6_writing.specs.Write.{writeText};
-ghost use Rattle.runner.specs.Options.{choiceOf};
-ghost use Rattle.runner.specs.Program.{blockIn, takeVerdict, takeAll, listText, stateText, laidText, takenText, programText, inputMost, textMost};
+ghost use Rattle.completion.specs.Complete.{finishAnswer, finishAdjacency};
+ghost use Rattle.shuffling.specs.Shuffle.{withX};
+ghost use Rattle.runner.specs.Program.{blockIn, takeVerdict, takeAll, listText, stateText, outcomeOf, laidText, takenText, programText, inputMost, textMost};
 use adjacency::ADJACENCY_SIZE;
 use answer::CompleteAnswer;
 use answer::LayOutAnswer;
+use answer::ShuffleAnswer;
 use answer::TakeAnswer;
 use answer::Verdict;
 use answer::WrittenAnswer;
@@ -30,9 +33,11 @@ use journal::JOURNAL_SIZE;
 use journal::MOST_BLOCKS;
 use layout::MOST_VERTICES;
 use libc::STDOUT_FILENO;
+use options::Finish;
+use options::Form;
+use shuffling::complete_shuffled;
 use slices::least;
 use slices::put;
-use slices::same_bytes;
 use table::degree::DEGREES;
 use table::record::BLOCK_MOST;
 use text::EDGE_MOST;
@@ -52,31 +57,6 @@ const RECORDS_MOST: usize = JOIN_RECORD_SIZE * (LIST_MOST / 2);
 
 // The most bytes of the text: the first line, and a line for each edge.
 pub const TEXT_MOST: usize = HEAD_MOST + EDGE_MOST * (LIST_MOST / 2);
-
-// How the completed graph is shown: N, its edges and the switches, then a line for each edge; or one line of graph6.
-pub enum Form {
-    Lines,
-    Graph6,
-}
-
-// What the program's arguments ask for.
-pub enum Choice {
-    Show(Form),
-    Usage,
-}
-
-// The form asked for by the arguments, the program's name counted, of which `word` is the one behind the name.
-pub fn choice_of(count: usize, word: &[u8]) -> Choice
-    ensures { λ r. ⌜ r ≡ choiceOf count (now (word .entry)) ⌝ }
-{
-    if count <= 1 {
-        return Choice::Show(Form::Lines);
-    }
-    if (count == 2) & same_bytes(word, b"--graph6") {
-        return Choice::Show(Form::Graph6);
-    }
-    Choice::Usage
-}
 
 // n bytes are all that can matter, whatever follows them.
 pub fn is_enough(n: usize) -> bool
@@ -195,14 +175,51 @@ fn put_state(
     }
 }
 
+// The answer of completing without the last x, which is not shown.
+fn without_x(answer: ShuffleAnswer) -> CompleteAnswer
+    ensures { λ r. ⌜ ((x : ℕ) (a : CompleteAnswer) → answer ≡ withX x a → r ≡ a) ⌝ }
+{
+    match answer {
+        ShuffleAnswer::Completed(joins, switches, len, _) => CompleteAnswer::Completed(
+            joins,
+            switches,
+            len,
+        ),
+        ShuffleAnswer::Refused(r) => CompleteAnswer::Refused(r),
+    }
+}
+
+// Completes by the lowest open pairs, or by those that x picks.
+fn finish_by(
+    journal: &[u8],
+    adjacency: &mut [u8],
+    finish: Finish,
+    records: &mut [u8],
+) -> CompleteAnswer
+    ensures { λ r. ⌜ r ≡ finishAnswer (outcomeOf finish (now (journal .entry)) (now (adjacency .entry))) (now (journal .entry)) (now (adjacency .entry)) (length (now (records .entry))) ⌝ }
+    ensures { λ r. ⌜ now (adjacency .exit) ≡ finishAdjacency r (outcomeOf finish (now (journal .entry)) (now (adjacency .entry))) (now (adjacency .entry)) ⌝ }
+{
+    match finish {
+        Finish::Lowest => completion::complete(journal, adjacency, records),
+        Finish::Shuffled(x) => without_x(complete_shuffled(journal, adjacency, x, records)),
+    }
+}
+
 // Completes a laid state of n vertices. There is room for every record.
-fn complete(journal: &[u8], adjacency: &mut [u8], form: Form, n: usize, output: &mut [u8]) -> usize
+fn complete(
+    journal: &[u8],
+    adjacency: &mut [u8],
+    form: Form,
+    finish: Finish,
+    n: usize,
+    output: &mut [u8],
+) -> usize
     requires { ⌜ (n ≡ vertexCount (now journal)) × (textMost ≤ length (now output)) ⌝ }
-    ensures { λ r. ⌜ r ≡ length (laidText form (LaidOut n) (now (journal .entry)) (now (adjacency .entry))) ⌝ }
-    ensures { λ _. ⌜ now (output .exit) ≡ sets (now (output .entry)) 0 (laidText form (LaidOut n) (now (journal .entry)) (now (adjacency .entry))) ⌝ }
+    ensures { λ r. ⌜ r ≡ length (laidText form finish (LaidOut n) (now (journal .entry)) (now (adjacency .entry))) ⌝ }
+    ensures { λ _. ⌜ now (output .exit) ≡ sets (now (output .entry)) 0 (laidText form finish (LaidOut n) (now (journal .entry)) (now (adjacency .entry))) ⌝ }
 {
     let mut records = [0u8; RECORDS_MOST];
-    let answer = completion::complete(journal, adjacency, &mut records);
+    let answer = finish_by(journal, adjacency, finish, &mut records);
     match answer {
         CompleteAnswer::Refused(r) => put_refused(output, 0, r),
         CompleteAnswer::Completed(_, switches, _) => put_state(
@@ -217,36 +234,42 @@ fn complete(journal: &[u8], adjacency: &mut [u8], form: Form, n: usize, output: 
 }
 
 // Lays out what was taken.
-fn lay_out(journal: &mut [u8], adjacency: &mut [u8], form: Form, output: &mut [u8]) -> usize
+fn lay_out(
+    journal: &mut [u8],
+    adjacency: &mut [u8],
+    form: Form,
+    finish: Finish,
+    output: &mut [u8],
+) -> usize
     requires { ⌜ textMost ≤ length (now output) ⌝ }
-    ensures { λ r. ⌜ r ≡ length (takenText form Go (now (journal .entry)) (now (adjacency .entry))) ⌝ }
-    ensures { λ _. ⌜ now (output .exit) ≡ sets (now (output .entry)) 0 (takenText form Go (now (journal .entry)) (now (adjacency .entry))) ⌝ }
+    ensures { λ r. ⌜ r ≡ length (takenText form finish Go (now (journal .entry)) (now (adjacency .entry))) ⌝ }
+    ensures { λ _. ⌜ now (output .exit) ≡ sets (now (output .entry)) 0 (takenText form finish Go (now (journal .entry)) (now (adjacency .entry))) ⌝ }
 {
     let answer = laying_out::lay_out(journal, adjacency);
     match answer {
         LayOutAnswer::Refused(r) => put_refused(output, 0, r),
-        LayOutAnswer::LaidOut(n) => complete(journal, adjacency, form, n, output),
+        LayOutAnswer::LaidOut(n) => complete(journal, adjacency, form, finish, n, output),
     }
 }
 
 // The program's text for an input, at the start of the output. Its length; it always fits.
-pub fn render(form: Form, input: &[u8], output: &mut [u8; TEXT_MOST]) -> usize
-    ensures { λ r. ⌜ r ≡ length (programText form (now (input .entry))) ⌝ }
+pub fn render(form: Form, finish: Finish, input: &[u8], output: &mut [u8; TEXT_MOST]) -> usize
+    ensures { λ r. ⌜ r ≡ length (programText form finish (now (input .entry))) ⌝ }
     ensures { λ r. ⌜ Counts r (now (output .exit)) ⌝ }
-    ensures { λ _. ⌜ now (output .exit) ≡ sets (now (output .entry)) 0 (programText form (now (input .entry))) ⌝ }
+    ensures { λ _. ⌜ now (output .exit) ≡ sets (now (output .entry)) 0 (programText form finish (now (input .entry))) ⌝ }
 {
     let mut journal = [0u8; JOURNAL_SIZE];
     let mut adjacency = [0u8; ADJACENCY_SIZE];
     let taken = take_all(&mut journal, &adjacency, input);
     match taken {
         Verdict::Stop(r) => put_refused(output, 0, r),
-        Verdict::Go => lay_out(&mut journal, &mut adjacency, form, output),
+        Verdict::Go => lay_out(&mut journal, &mut adjacency, form, finish, output),
     }
 }
 
-// Prints the lines for an input.
+// Prints the lines for an input, completed by the lowest open pairs.
 pub fn run(input: &[u8]) -> bool {
     let mut output = [0u8; TEXT_MOST];
-    let len = render(Form::Lines, input, &mut output);
+    let len = render(Form::Lines, Finish::Lowest, input, &mut output);
     io::write_all(STDOUT_FILENO, &output[..len])
 }

@@ -12,8 +12,8 @@ use Rattle.runner.proofs.complete.Tie as tie
 pub complete-spec : {M : Type 1} → statement M
 complete-spec =
     tie.close (tie.spec
-    (λ c. search needs)  -- slice-aggregate-complete
-    (λ c κs. tt)  -- complete-requires
+    (λ c. search needs)  -- slice-aggregate-finish-by
+    (λ c κs. tt)  -- finish-by-requires
     (λ c. search needs)  -- enum-known-answer
     (λ c κs. omega arith)  -- put-refused-requires
     (λ c. search needs)  -- enum-known-answer-2
@@ -22,8 +22,8 @@ complete-spec =
     let l = k .before .before .before .before .before in
     let s = l .before .before .before .before .before .before in
     let a = s .args in
-    let e = l .complete .ensures in
-    let f = completed-laid (a .form) (a .journal .now) (a .adjacency .now) (a .n) _ (length-replicate {A = ℕ} recordsMost 0) _ _ (e .0) (e .1 .0)
+    let e = l .finish-by .ensures in
+    let f = completed-laid (a .form) (a .finish) (a .journal .now) (a .adjacency .now) (a .n) _ (length-replicate {A = ℕ} recordsMost 0) _ _ (e .0) (e .1)
     _ _ _ (k .answer2 .given .1) in
     (f .0, f .1, f .2, s .pre .0, s .pre .1))  -- put-state-requires
     (λ c. search needs)  -- same-length
@@ -33,9 +33,9 @@ complete-spec =
     let k = p .before .before .before in
     let l = k .before .before .before .before .before in
     let a = l .before .before .before .before .before .before .args in
-    let e = l .complete .ensures in
+    let e = l .finish-by .ensures in
     says-line _ _ (a .output .now) _ _
-    (said-refused (a .form) (a .journal .now) (a .adjacency .now) (a .n) _ (length-replicate {A = ℕ} recordsMost 0) _ _ (e .0) (e .1 .0) _ (k .answer .given .1))
+    (said-refused (a .form) (a .finish) (a .journal .now) (a .adjacency .now) (a .n) _ (length-replicate {A = ℕ} recordsMost 0) _ _ (e .0) (e .1) _ (k .answer .given .1))
     (p .put-refused .ensures))  -- returns
     (λ c. search needs)  -- same-length-3
     (λ c. search needs)  -- same-length-4
@@ -44,8 +44,8 @@ complete-spec =
     let k = p .before .before .before .before in
     let l = k .before .before .before .before .before in
     let a = l .before .before .before .before .before .before .args in
-    let e = l .complete .ensures in
+    let e = l .finish-by .ensures in
     says _ _ (a .output .now) _ _
-    (said-completed (a .form) (a .journal .now) (a .adjacency .now) (a .n) _ (length-replicate {A = ℕ} recordsMost 0) _ _ (e .0) (e .1 .0)
+    (said-completed (a .form) (a .finish) (a .journal .now) (a .adjacency .now) (a .n) _ (length-replicate {A = ℕ} recordsMost 0) _ _ (e .0) (e .1)
     _ _ _ (k .answer2 .given .1))
     (p .put-state .ensures)))  -- returns-2

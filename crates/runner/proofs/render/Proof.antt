@@ -28,9 +28,9 @@ render-spec =
     let a = t .before .before .before .before .args in
     let j = replicate {A = ℕ} journalSize 0 in
     let g = replicate {A = ℕ} adjacencySize 0 in
-    says-fits (a .form) j g (a .input .now) (a .output .now) _ _ (search needs)
-    (says-line (textFrom (a .form) j g (a .input .now)) _ (a .output .now) _ _
-    (said-stopped (a .form) j g (a .input .now) _ _ (t .take-all .ensures) _ (k .taken .given .1))
+    says-fits (a .form) (a .finish) j g (a .input .now) (a .output .now) _ _ (search needs)
+    (says-line (textFrom (a .form) (a .finish) j g (a .input .now)) _ (a .output .now) _ _
+    (said-stopped (a .form) (a .finish) j g (a .input .now) _ _ (t .take-all .ensures) _ (k .taken .given .1))
     (c .put-refused .ensures)))  -- returns
     (λ c.
     let p = c .before .before in
@@ -39,7 +39,7 @@ render-spec =
     let a = t .before .before .before .before .args in
     let j = replicate {A = ℕ} journalSize 0 in
     let g = replicate {A = ℕ} adjacencySize 0 in
-    says-fits (a .form) j g (a .input .now) (a .output .now) _ _ (search needs)
-    (says (textFrom (a .form) j g (a .input .now)) _ (a .output .now) _ _
-    (said-taken (a .form) j g (a .input .now) _ _ (t .take-all .ensures) (k .enum-told .given .1))
+    says-fits (a .form) (a .finish) j g (a .input .now) (a .output .now) _ _ (search needs)
+    (says (textFrom (a .form) (a .finish) j g (a .input .now)) _ (a .output .now) _ _
+    (said-taken (a .form) (a .finish) j g (a .input .now) _ _ (t .take-all .ensures) (k .enum-told .given .1))
     (p .lay-out .ensures))))  -- returns-2
