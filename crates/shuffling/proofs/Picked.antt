@@ -4,7 +4,7 @@ use mathlib.Core.Path.{_≡_, refl, sym, ap, _∙_}
 use mathlib.Core.Bool.{Bool, true, false, _&&_}
 use mathlib.Core.List.{List}
 use mathlib.Core.Logic.{_≢_}
-use Prim.Native.Nat.{ℕ, _+_, _-_, _/_, _≤_, _<_}
+use Prim.Native.Nat.{ℕ, _+_, _-_, _≤_, _<_}
 use native.Mathlib.Nat.{mod-lt}
 use native.Mathlib.Decide.{decLt}
 use native.Mathlib.Omega.{arith}
@@ -162,4 +162,4 @@ module _ (n : ℕ) (cls : ℕ → ℕ) (T : ℕ → ℕ → ℕ) (g : List ℕ) 
         go v w o (no h) = counted w v (omega (arith, o .distinct)) (turned v w o)
 
     pub position-below : ltb (shortK n cls T g) degrees ≡ true → (x : ℕ) → position n cls T g x < openCount n cls T g
-    position-below e x = mod-lt (x / 65536) (some-open e)
+    position-below e x = mod-lt _ (some-open e)
