@@ -1,5 +1,7 @@
 -- Filling keeps the graph partial and the totals bounded by its edges.
 -- Assumes nothing.
+use mathlib.Core.Path.{_≡_}
+use mathlib.Core.List.{List}
 use Prim.Native.Nat.{ℕ, zero, suc, _+_, _-_, _*_, _≤_, _<_}
 use native.Mathlib.Omega.{arith}
 use Rattle.finite.specs.Range.{foldTo}
@@ -13,10 +15,13 @@ use Rattle.graph.specs.Tests.{leastDegree, mostDegree, degrees}
 use Rattle.adjacency.specs.Adjacency.{edge}
 use Rattle.join_records.specs.Record.{joinRecordSize}
 use Rattle.joining.specs.Join.{joinSwitches}
+use Rattle.joining.specs.Inner.Work.{Joinable}
+use Rattle.joining.proofs.Relieving.{switches-bytes}
 use Rattle.completion.specs.Choice.{openW, openV}
 use Rattle.completion.specs.Complete.{Ran, joined, mostEdges}
 use Rattle.completion.specs.Inner.Cellwise.{cellStep, cellMissing, fillCell, fillRow}
-use Rattle.completion.specs.Inner.Work.{Sound}
+use Rattle.completion.specs.declared.cell.Totals.{Totals}
+use Rattle.completion.specs.Inner.Work.{Recordable, Sound, ran}
 use Rattle.completion.proofs.Chosen.{Stepped, chosen, opened}
 use Rattle.completion.proofs.Cellwise.{part-short, edges-within, room as edges-most}
 use Rattle.completion.proofs.Works.{few-edges}
@@ -74,3 +79,17 @@ module _ (n : ℕ) (cls : ℕ → ℕ) (T : ℕ → ℕ → ℕ) (room : ℕ) wh
 pub joins-most : {n : ℕ} {cls : ℕ → ℕ} {T : ℕ → ℕ → ℕ} {room : ℕ} {s : Ran} → Sound n cls T room s → s .joins ≤ mostEdges
 joins-most {n} {cls} {T} {room} {s} p =
     omega (arith, p .joins-le, edges-most n cls T mostEdges (few-edges n cls T (p .filling .target) (p .filling .few)) (s .adjacency) (p .filling))
+
+-- the join of two vertices whose record fits
+pub join-recordable : {n : ℕ} {cls : ℕ → ℕ} {T : ℕ → ℕ → ℕ} {room : ℕ} {g : List ℕ} {t : Totals} (out : List ℕ) → Sound n cls T room (ran g out t)
+    → joinRecordSize * t .joins + joinRecordSize ≤ room → {v w : ℕ} → Joinable n cls g v w → {s : Switches} → s ≡ joinSwitches n cls g v w
+    → Recordable room t v w s
+join-recordable out p fits j e =
+    record {
+      few = joins-most p;
+      switches-le = p .switches-le;
+      fits = fits;
+      first = omega (arith, j .pair .first, j .few);
+      second = omega (arith, j .pair .second, j .few);
+      bytes = switches-bytes j e;
+    }

@@ -32,12 +32,12 @@ use Rattle.completion.specs.Complete.{Ran, joined}
 use Rattle.completion.specs.Inner.Cellwise.{cellStep, Filling}
 use Rattle.completion.specs.Inner.Cursor.{ClassRange}
 use Rattle.completion.specs.Inner.Search.{lowestColumn, hasColumn, Searchable}
-use Rattle.completion.specs.Inner.Work.{WroteRecords, Saturated, CellOf, Resumes, Steppable}
+use Rattle.completion.specs.Inner.Work.{Saturated, CellOf, Resumes, Steppable}
 use Rattle.completion.specs.declared.pair.Cell.{Cell}
 use Rattle.completion.specs.declared.cell.Cursor.{Cursor}
 use Rattle.completion.proofs.Chosen.{Chosen, chosen}
 use Rattle.completion.proofs.Sound.{joined-room}
-use Rattle.completion.proofs.Output.{joined-ran, wrote-one}
+use Rattle.completion.proofs.Output.{joined-ran}
 use Rattle.completion.proofs.Cursor.{rows-after, columns-after}
 use Rattle.completion.proofs.Search.{Found, found, searchable}
 
@@ -136,10 +136,6 @@ module _ {n : ℕ} {cls : ℕ → ℕ} {c : Cell} {u : Cursor} {room : ℕ} {s :
           (cellStep n cls k l s)
       step-ran out out′ g′ er es eo eg =
           joined-ran n cls s v w ex out out′ g′ (omega (arith, step-room, er)) es eo eg ∙ ap₂ (joined n cls s) pair-row pair-column
-
-      pub step-wrote : (out out′ : List ℕ) → room ≡ length out → out′ ≡ sets out (joinRecordSize * s .joins) (joinRecord v w x)
-          → WroteRecords (s .joins) (s .joins + 1) out out′
-      step-wrote out out′ er eo = rw eo (wrote-one out (s .joins) v w x (omega (arith, step-room, er)))
 
     module _ (x y : ℕ) (ex : x ≡ lowest (u .low .v) (c .rows .to) (λ i. ltb (getD held i 0) (c .k)))
         (ey : y ≡ lowest (u .low .w) (c .columns .to) (λ i. ltb (getD held i 0) (c .l))) where

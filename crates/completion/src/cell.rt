@@ -1,17 +1,20 @@
 // Filling one cell.
 ghost use mathlib.Core.Path.{_≡_};
-ghost use Prim.Native.Nat.{_+_, _≤_, _<_};
+ghost use Prim.Native.Nat.{_+_, _*_, _≤_, _<_};
 ghost use lib.Dec.{ltb};
 ghost use lib.ListN.{length, getD};
+ghost use lib.Seq.{sets};
 ghost use Rattle.finite.specs.Range.{lowest, foldTo};
 ghost use Rattle.adjacency.specs.Adjacency.{side};
 ghost use Rattle.classes.specs.Inner.Block.{classFrom};
+ghost use Rattle.join_records.specs.Record.{joinRecordSize, joinRecord};
 ghost use Rattle.joining.specs.Inner.Work.{degreesOf};
 ghost use Rattle.completion.specs.Inner.Cellwise.{cellStep};
-ghost use Rattle.completion.specs.Inner.Work.{ran, WroteRecords, CellOf, Resumes, Steppable, Fillable};
+ghost use Rattle.completion.specs.Inner.Work.{ran, WroteRecords, Recordable, withJoin, CellOf, Resumes, Steppable, Fillable};
 use crate::pair::Cell;
 use crate::pair::Pair;
 use crate::pair::open_pair;
+use answer::switches::Switches;
 use answer::switches::switch_count;
 use classes::STARTS;
 use join_records::JOIN_RECORD_SIZE;
@@ -52,6 +55,25 @@ pub fn advance(held: &[usize; MOST_VERTICES], from: usize, to: usize, k: usize) 
     i
 }
 
+// The record of a join written behind those of the joins before it, and one join more.
+pub fn record_join(
+    output: &mut [u8],
+    totals: Totals,
+    v: usize,
+    w: usize,
+    made: Switches,
+) -> Totals
+    requires { ⌜ Recordable (length (now output)) totals v w made ⌝ }
+    ensures { λ r. ⌜ (r ≡ withJoin totals made) × WroteRecords (totals .joins) (r .joins) (now (output .entry)) (now (output .exit)) ⌝ }
+    ensures { λ _. ⌜ now (output .exit) ≡ sets (now (output .entry)) (joinRecordSize * totals .joins) (joinRecord v w made) ⌝ }
+{
+    put_record(output, JOIN_RECORD_SIZE * totals.joins, v, w, made);
+    Totals {
+        joins: totals.joins + 1,
+        switches: totals.switches + switch_count(made),
+    }
+}
+
 // The lowest open pair of the cell joined, and its record written. A switch of v may free a column that was passed: the cursor falls to it.
 fn fill_step(
     adjacency: &mut [u8],
@@ -83,23 +105,14 @@ fn fill_step(
     };
     let done = joining::join(adjacency, held, starts, n, row, column);
     let made = done.switches;
-    put_record(
-        output,
-        JOIN_RECORD_SIZE * totals.joins,
-        pair.v,
-        pair.w,
-        made,
-    );
+    let sum = record_join(output, totals, pair.v, pair.w, made);
     let next = least(done.freed, pair.w + 1);
     Step {
         cursor: Cursor {
             at: Pair { v: pair.v, w: next },
             low: Pair { v, w },
         },
-        totals: Totals {
-            joins: totals.joins + 1,
-            switches: totals.switches + switch_count(made),
-        },
+        totals: sum,
     }
 }
 

@@ -7,7 +7,6 @@ use Prim.Native.Nat.{ℕ, _+_, _*_, _≤_, _<_}
 use native.Mathlib.Omega.{arith}
 use lib.ListN.{length, getD}
 use lib.Seq.{sets}
-use Rattle.answer.specs.Switches.{switchCount}
 use Rattle.answer.specs.declared.switches.Switches.{Switches}
 use Rattle.graph.specs.Target.{Open}
 use Rattle.graph.specs.Tests.{degrees}
@@ -21,10 +20,9 @@ use Rattle.joining.proofs.Untouched.{switches-below}
 use Rattle.open_pairs.specs.Inner.Rows.{Scannable, Summed}
 use Rattle.open_pairs.specs.Inner.Refresh.{Classed, Within}
 use Rattle.completion.specs.Complete.{Ran, joined}
-use Rattle.completion.specs.Inner.Work.{ran, WroteRecords}
-use Rattle.completion.specs.declared.cell.Totals.{Totals}
-use Rattle.completion.proofs.Sound.{joined-sound, joined-room}
-use Rattle.completion.proofs.Output.{joined-ran, wrote-one}
+use Rattle.completion.specs.Inner.Work.{ran, withJoin, Recordable}
+use Rattle.completion.proofs.Sound.{joined-sound, joined-room, join-recordable}
+use Rattle.completion.proofs.Output.{joined-ran}
 use Rattle.shuffling.specs.Choice.{nextX, pairV, pairW, position, openCount}
 use Rattle.shuffling.specs.Shuffle.{Shuffled, nextShuffled, isShort}
 use Rattle.shuffling.specs.Inner.Track.{Tracked, Lows, hasNow, haveAfter, isFullNow, flagsAfter, countsAfter, Shuffling, shuffledAt}
@@ -65,8 +63,11 @@ module _ {n : ℕ} {cells starts classes g have full counts sums low held : List
     pub column-of : {l : ℕ} → l ≡ getD classes w 0 → l ≡ classFrom starts w
     column-of el = el ∙ p .tracked .classed w (step-pair .second)
 
-    pub step-room : joinRecordSize * d .totals .joins + joinRecordSize ≤ length out
+    step-room : joinRecordSize * d .totals .joins + joinRecordSize ≤ length out
     step-room = joined-room n (classFrom starts) (matrixOf cells) (length out) (ran g out (d .totals)) (p .sound) v w step-pair
+
+    pub step-recordable : {s : Switches} → s ≡ joinSwitches n (classFrom starts) g v w → Recordable (length out) (d .totals) v w s
+    step-recordable es = join-recordable out (p .sound) step-room step-joinable es
 
     -- k and l are their classes, g′ the matrix after the join, s its switches
     module _ {k l : ℕ} (ek : k ≡ classFrom starts v) (el : l ≡ classFrom starts w) {g′ : List ℕ}
@@ -94,21 +95,13 @@ module _ {n : ℕ} {cells starts classes g have full counts sums low held : List
           let ec′ = rw (eg, ek, el, es) at ec in
           rw (eg, eh, ef, ek, el) (tracked-after (p .tracked) (p .sound .filling) v w step-rises step-pair ec′ summed)
 
-      -- the output with the record, and the numbers
-      module _ {out′ : List ℕ} (eo : out′ ≡ sets out (joinRecordSize * d .totals .joins) (joinRecord v w s)) {m : ℕ} (em : m ≡ switchCount s) where
-        abbrev totals′ : Totals
-        totals′ = record { joins = d .totals .joins + 1; switches = d .totals .switches + m }
-
-        pub step-wrote : WroteRecords (d .totals .joins) (d .totals .joins + 1) out out′
-        step-wrote = rw eo (wrote-one out (d .totals .joins) v w s step-room)
-
-        step-ran : ran g′ out′ totals′ ≡ joined n (classFrom starts) (ran g out (d .totals)) v w
-        step-ran =
-            ap (λ (i : ℕ). ran g′ out′ (record { joins = d .totals .joins + 1; switches = d .totals .switches + i })) em
-            ∙ joined-ran n (classFrom starts) (ran g out (d .totals)) v w es out out′ g′ step-room refl eo eg
+      -- the output with the record
+      module _ {out′ : List ℕ} (eo : out′ ≡ sets out (joinRecordSize * d .totals .joins) (joinRecord v w s)) where
+        step-ran : ran g′ out′ (withJoin (d .totals) s) ≡ joined n (classFrom starts) (ran g out (d .totals)) v w
+        step-ran = joined-ran n (classFrom starts) (ran g out (d .totals)) v w es out out′ g′ step-room refl eo eg
 
         pub step-next : x ≡ nextX (d .x)
-            → shuffledAt g′ out′ (record { totals = totals′; x = x }) ≡ nextShuffled n (classFrom starts) (matrixOf cells) (shuffledAt g out d)
+            → shuffledAt g′ out′ (record { totals = withJoin (d .totals) s; x = x }) ≡ nextShuffled n (classFrom starts) (matrixOf cells) (shuffledAt g out d)
         step-next ex =
             ap₂ {C = Shuffled} (λ (r : Ran) (y : ℕ). record { ran = r; x = y }) (step-ran ∙ ap₂ (joined n (classFrom starts) (ran g out (d .totals))) ev (ew ∙ column)) ex
             ∙ same
@@ -133,7 +126,7 @@ module _ {n : ℕ} {cells starts classes g have full counts sums low held : List
         pub step-shuffling : {have′ full′ counts′ sums′ low′ held′ : List ℕ} → have′ ≡ haveAfter k l have → full′ ≡ flagsAfter cells starts k l have full
             → counts′ ≡ countsAfter n starts classes g′ (flagsAfter cells starts k l have full) v k (isFullNow cells k l have) s counts
             → Summed counts′ sums′ → Lows n starts (joinBytes n (classFrom starts) g v w) low′ → held′ ≡ degreesOf n (joinBytes n (classFrom starts) g v w)
-            → Shuffling n cells starts classes g′ have′ full′ counts′ sums′ low′ held′ (length out) (ran g′ out′ totals′)
+            → Shuffling n cells starts classes g′ have′ full′ counts′ sums′ low′ held′ (length out) (ran g′ out′ (withJoin (d .totals) s))
         step-shuffling eh ef ec summed lows ed =
             record {
               tracked = step-tracked eh ef ec summed;

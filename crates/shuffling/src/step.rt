@@ -17,12 +17,10 @@ use crate::pick::pick;
 use crate::picker::next_x;
 use crate::track::update;
 use answer::switches::Switches;
-use answer::switches::switch_count;
 use classes::STARTS;
 use completion::cell::Totals;
 use completion::cell::advance;
-use join_records::JOIN_RECORD_SIZE;
-use join_records::put_record;
+use completion::cell::record_join;
 use joining::End;
 use layout::MOST_VERTICES;
 use open_pairs::row::SUMS;
@@ -123,8 +121,7 @@ pub fn shuffle_step(
     let k = wide(classes[v]);
     let l = wide(classes[w]);
     let made = join_pair(adjacency, held, low, starts, n, pair, k, l);
-    let joins = done.totals.joins;
-    put_record(output, JOIN_RECORD_SIZE * joins, v, w, made);
+    let totals = record_join(output, done.totals, v, w, made);
     update(
         adjacency,
         cells,
@@ -140,11 +137,5 @@ pub fn shuffle_step(
         l,
         made,
     );
-    Shuffle {
-        totals: Totals {
-            joins: joins + 1,
-            switches: done.totals.switches + switch_count(made),
-        },
-        x: stepped,
-    }
+    Shuffle { totals, x: stepped }
 }

@@ -5,6 +5,8 @@ use mathlib.Core.Bool.{false}
 use mathlib.Core.List.{List}
 use Prim.Native.Nat.{ℕ, _+_, _*_, _≤_, _<_}
 use lib.ListN.{length, getD, take, drop}
+use Rattle.answer.specs.Switches.{switchCount, firstSwitch, secondSwitch}
+use Rattle.answer.specs.declared.switches.Switches.{Switches}
 use Rattle.graph.specs.Graph.{jdm, edges}
 use Rattle.graph.specs.Switch.{unsaturated}
 use Rattle.graph.specs.Tests.{degrees, vertices}
@@ -18,6 +20,7 @@ use Rattle.joining.specs.Join.{own}
 use Rattle.joining.specs.Inner.Work.{degreesOf}
 use Rattle.classes.specs.Inner.Block.{Numbered, classFrom, blockSum, BlockOf}
 use Rattle.join_records.specs.Record.{joinRecordSize}
+use Rattle.join_records.specs.Inner.Bytes.{InBytes}
 use Rattle.completion.specs.Complete.{Ran, mostEdges, missing as missingEdges}
 use Rattle.completion.specs.Inner.Cellwise.{cellMissing, Filling}
 use Rattle.completion.specs.Inner.Cursor.{RowsDone, ColumnsDone}
@@ -36,6 +39,19 @@ pub record WroteRecords (i j : ℕ) (out out′ : List ℕ) : Type 0 where
   pub rises : i ≤ j
   pub sized : length out′ ≡ length out
   pub behind : drop (joinRecordSize * j) out′ ≡ drop (joinRecordSize * j) out
+
+-- one join more, with its switches
+abbrev pub withJoin : Totals → Switches → Totals
+withJoin t s = record { joins = t .joins + 1; switches = t .switches + switchCount s }
+
+-- the join of v and w with its switches can be recorded behind those made so far, in an output of `room` bytes
+pub record Recordable (room : ℕ) (t : Totals) (v w : ℕ) (s : Switches) : Type 0 where
+  pub few : t .joins ≤ mostEdges
+  pub switches-le : t .switches ≤ 2 * t .joins
+  pub fits : joinRecordSize * t .joins + joinRecordSize ≤ room
+  pub first : v < 256
+  pub second : w < 256
+  pub bytes : InBytes (firstSwitch s) × InBytes (secondSwitch s)
 
 -- a partial graph, with totals that its edges bound; an output of `room` bytes has room for the records made and those of the edges that are missing
 pub record Sound (n : ℕ) (cls : ℕ → ℕ) (T : ℕ → ℕ → ℕ) (room : ℕ) (s : Ran) : Type 0 where

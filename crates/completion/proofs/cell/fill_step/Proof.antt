@@ -3,9 +3,8 @@
 use mathlib.Core.Path.{refl}
 use native.Mathlib.Omega.{arith}
 use borrow.Author.Needs.{needs}
-use Rattle.joining.proofs.Relieving.{switches-bytes}
-use Rattle.completion.proofs.Sound.{joins-most}
-use Rattle.completion.proofs.Step.{step-searchable, step-joinable, step-room, step-ran, step-wrote, row-placed, column-placed, step-resumes}
+use Rattle.completion.proofs.Sound.{join-recordable}
+use Rattle.completion.proofs.Step.{step-searchable, step-joinable, step-room, step-ran, row-placed, column-placed, step-resumes}
 use Rattle.completion.proofs.cell.fill_step.Statement.{statement}
 use Rattle.completion.proofs.cell.fill_step.Tie as tie
 
@@ -32,56 +31,34 @@ fill-step-spec =
       row-placed (f .pre .0) (f .pre .1) _ _ (e .0) (e .1) _ _ (x .advance .ensures) (y .advance2 .ensures),
       column-placed (f .pre .0) (f .pre .1) _ _ (e .0) (e .1) _ _ (x .advance .ensures) (y .advance2 .ensures),
     ))  -- join-requires
-    (λ c.
-    let f = c .before .before .before .before .before .before .before .before .before .before .before .before .before .before .before in
-    omega (arith, joins-most (f .pre .0 .sound)))  -- mul-put-record
     (λ c κs.
-    let j = c .before .before .before .before in
+    let j = c .before .before .before in
     let o = j .before .before .before .before .before .before .before in
     let f = o .before .before .before .before in
     let joinable = step-joinable (f .pre .0) _ _ (o .open-pair .ensures .0) (o .open-pair .ensures .1) in
-    let bytes = switches-bytes joinable (j .join .ensures .0 .0) in (
-      step-room (f .pre .0),
-      omega (arith, joinable .pair .first, joinable .few),
-      omega (arith, joinable .pair .second, joinable .few),
-      bytes .0,
-      bytes .1,
-    ))  -- put-record-requires
+    join-recordable (f .args .output .now) (f .pre .0 .sound) (step-room (f .pre .0)) joinable (j .join .ensures .0 .0))  -- record-join-requires
     (λ c.
-    let o = c .before .before .before .before .before .before .before .before .before .before .before .before .before .before .before in
+    let o = c .before .before .before .before .before .before .before .before .before .before .before .before .before .before in
     let f = o .before .before .before .before in
     let joinable = step-joinable (f .pre .0) _ _ (o .open-pair .ensures .0) (o .open-pair .ensures .1) in
     omega (arith, joinable .pair .second, f .pre .0 .sound .filling .few))  -- add-least
     (λ c κs. tt)  -- least-requires
-    (λ c.
-    let w = c .before .before .before .before .before in
-    let f = w .before .before .before .before .before .before .before .before .before .before .before .before .before .before .before .before in
-    omega (arith, joins-most (f .pre .0 .sound)))  -- add-t27
-    (λ c κs. tt)  -- switch-count-requires
-    (λ c.
-    let w = c .before .before .before .before .before .before .before in
-    let f = w .before .before .before .before .before .before .before .before .before .before .before .before .before .before .before .before in
-    omega (arith, joins-most (f .pre .0 .sound), f .pre .0 .sound .switches-le, c .before .switch-count .ensures .1))  -- add-t32
     (λ c. search needs)  -- same-length
     (λ c. search needs)  -- same-length-2
     (λ c.
-    let n = c .before in
-    let m = n .before .before in
-    let w = m .before .before .before .before in
-    let j = w .before .before .before .before .before in
+    let w = c .before .before .before .before in
+    let j = w .before .before .before .before in
     let y = j .before .before .before in
     let x = y .before .before in
     let o = x .before .before in
     let f = o .before .before .before .before in
     let e = o .open-pair .ensures in
-    rw (n .switch-count .ensures .0) (
+    let wrote = w .record-join .ensures in
+    rw (wrote .0 .0) (
       (
-        step-ran (f .pre .0) _ _ (e .0) (e .1) (j .join .ensures .0 .0) _ _ _ refl refl (w .put-record .ensures) (j .join .ensures .1 .0),
+        step-ran (f .pre .0) _ _ (e .0) (e .1) (j .join .ensures .0 .0) _ _ _ refl refl (wrote .1) (j .join .ensures .1 .0),
         step-resumes (f .pre .0) _ _ (e .0) (e .1) _ _ (x .advance .ensures) (y .advance2 .ensures) _ _ _
-            (j .join .ensures .1 .0) (j .join .ensures .0 .1) (m .least .ensures),
+            (j .join .ensures .1 .0) (j .join .ensures .0 .1) (c .least .ensures),
       ),
-      (
-        step-wrote (f .pre .0) _ _ (e .0) (e .1) (j .join .ensures .0 .0) _ _ refl (w .put-record .ensures),
-        rw (j .join .ensures .1 .0) (j .join .ensures .1 .1),
-      ),
+      (rw (wrote .0 .0) at (wrote .0 .1), rw (j .join .ensures .1 .0) (j .join .ensures .1 .1)),
     )))  -- returns
