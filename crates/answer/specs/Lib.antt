@@ -1,3 +1,4 @@
 pub mod Refusals
 pub mod Switches
 pub mod Numbers
+pub mod Inner

@@ -1,7 +1,6 @@
 -- The switches of a join (document 02, P2): how many there are, and their two places where each has one.
 -- Assumes nothing.
-use mathlib.Core.Logic.{_≢_}
-use Prim.Native.Nat.{ℕ, _<_, min}
+use Prim.Native.Nat.{ℕ}
 use Rattle.answer.specs.declared.switches.Switch.{Switch}
 use Rattle.answer.specs.declared.switches.Switches.{Switches}
 use Rattle.answer.specs.declared.switches.Switches.the-variants.{None, One, Two}
@@ -11,20 +10,6 @@ abbrev pub switchCount : Switches → ℕ
 switchCount None = 0
 switchCount (One x) = 1
 switchCount (Two x y) = 2
-
--- the vertices of a switch are below n
-abbrev pub SwitchBelow : ℕ → Switch → Type 0
-SwitchBelow n s = (s .a < n) × (s .b < n) × (s .t < n)
-
--- u is not the lower end of an edge that the switch moved
-abbrev pub RowApart : ℕ → Switch → Type 0
-RowApart u s = (u ≢ min (s .a) (s .t)) × (u ≢ min (s .b) (s .t))
-
--- P holds of each of them
-abbrev pub Each : (Switch → Type 0) → Switches → Type 0
-Each P None = 0 < 1
-Each P (One x) = P x
-Each P (Two x y) = P x × P y
 
 -- what stands for a vertex of a switch that was not needed: no vertex has this number
 abbrev pub unused : ℕ

@@ -1,4 +1,4 @@
-// What the entries answer. specs/Numbers.antt gives document 01's number and values for each case.
+// What the entries answer, and which way of completing is asked for. specs/Numbers.antt gives document 01's number and values for each answer.
 ghost use mathlib.Core.Path.{_≡_};
 ghost use Rattle.answer.specs.Numbers.{numberOf};
 ghost use Rattle.answer.specs.Refusals.{refusal, stop};
@@ -92,6 +92,13 @@ pub enum AddAnswer {
 pub enum RemoveAnswer {
     Removed,
     Refused(Refusal),
+}
+
+// Which open pair completing joins next (document 01: finish): the lowest one of the lowest short cell, or the one that x picks, from this x on
+// (document 02, P7).
+pub enum Finish {
+    Lowest,
+    Picked(u32),
 }
 
 // Completing: the edges added, the switches made, and the written length.

@@ -56,13 +56,7 @@ pub fn advance(held: &[usize; MOST_VERTICES], from: usize, to: usize, k: usize) 
 }
 
 // The record of a join written behind those of the joins before it, and one join more.
-pub fn record_join(
-    output: &mut [u8],
-    totals: Totals,
-    v: usize,
-    w: usize,
-    made: Switches,
-) -> Totals
+pub fn record_join(output: &mut [u8], totals: Totals, v: usize, w: usize, made: Switches) -> Totals
     requires { ⌜ Recordable (length (now output)) totals v w made ⌝ }
     ensures { λ r. ⌜ (r ≡ withJoin totals made) × WroteRecords (totals .joins) (r .joins) (now (output .entry)) (now (output .exit)) ⌝ }
     ensures { λ _. ⌜ now (output .exit) ≡ sets (now (output .entry)) (joinRecordSize * totals .joins) (joinRecord v w made) ⌝ }

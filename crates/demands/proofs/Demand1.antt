@@ -28,6 +28,8 @@ use Rattle.answer.specs.declared.CompleteAnswer.the-variants as Complete
 use Rattle.answer.specs.declared.WrittenAnswer.{WrittenAnswer}
 use Rattle.answer.specs.declared.ReadAnswer.{ReadAnswer}
 use Rattle.answer.specs.declared.WrittenAnswer.the-variants as Write
+use Rattle.answer.specs.declared.Finish.{Finish}
+use Rattle.answer.specs.declared.Finish.the-variants.{Lowest, Picked}
 use Rattle.graph.specs.Tests.{vertices}
 use Rattle.table.specs.Block.{blockLength}
 use Rattle.layout.specs.Layout.{layoutVerdict}
@@ -54,9 +56,9 @@ use Rattle.completion.specs.Complete.{Ran, completed, missing, finishLaid, fini
 use Rattle.completion.proofs.Entry.{completed-facts}
 use Rattle.shuffling.specs.Shuffle.{shuffled}
 use Rattle.shuffling.proofs.Answers.{with-x-refused, with-x-completed}
-use Rattle.demands.specs.Calls.{Finish, lowestPairs, pickedFrom, outcome}
+use Rattle.shuffling.specs.Finish.{outcome}
+use Rattle.shuffling.proofs.Works.{outcome-works}
 use Rattle.demands.specs.Demand1.{oneOf, Numbered, SamePast, Demand1}
-use Rattle.demands.proofs.Finishes.{outcome-works}
 use Rattle.demands.proofs.Chains.{OfClear, OfTake, OfLength, OfLayOut, OfFigures, OfAdd, OfRemove, OfComplete, OfWritten, OfRead, behind, state-numbers, phase-numbers, layout-numbers, clear-chain, takeLater, later-numbers, take-chain, length-chain, add-chain, remove-chain, complete-chain, fits-chain, list-numbers, survey-chain, read-chain}
 
 -- what was written stands at the start, and nothing behind it changes
@@ -118,7 +120,7 @@ finish-written : (f : Finish) (j g out : List ℕ) (joins switches n : ℕ)
 finish-written f j g out joins switches n e =
     let r = outcome f j g in
     let c = completed-facts j g r (length out) joins switches n e in
-    let x = outcome-works j g f (c .facts) in (
+    let x = outcome-works f j g (c .facts) in (
       omega (arith, c .length-is, c .joins-are, x .written),
       subst (SamePast n out) (sym (ap (λ (a : CompleteAnswer). finishOutput a r out) e))
           (past out (r .records) n (c .length-is) (omega (arith, c .room, x .made, x .written))),
@@ -164,10 +166,10 @@ demand-1 =
         ap (λ (a : RemoveAnswer). removeAdjacency a g v w) e,
       );
       complete = λ j g. finish-refused j g (completed j g);
-      complete-written = λ j g. finish-written lowestPairs j g;
+      complete-written = λ j g. finish-written Lowest j g;
       shuffle = λ j g out x q e. finish-refused j g (shuffled j g x .ran) out q (with-x-refused (shuffled j g x .x) _ q e);
       shuffle-written = λ j g out x joins switches n y e.
-          finish-written (pickedFrom x) j g out joins switches n (with-x-completed (shuffled j g x .x) _ joins switches n y e .0);
+          finish-written (Picked x) j g out joins switches n (with-x-completed (shuffled j g x .x) _ joins switches n y e .0);
       list = λ j g out r e. (
         subst (OfWritten (1 ∷ 2 ∷ 3 ∷ 18 ∷ []) (length (listBytes (vertexCount j) g)) (length out)) e (edges-numbers j g (length out)),
         ap (λ (a : WrittenAnswer). listOutput a j g out) e,

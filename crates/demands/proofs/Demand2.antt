@@ -19,6 +19,7 @@ use Rattle.answer.specs.declared.RemoveAnswer.{RemoveAnswer}
 use Rattle.answer.specs.declared.RemoveAnswer.the-variants as Remove
 use Rattle.answer.specs.declared.CompleteAnswer.{CompleteAnswer}
 use Rattle.answer.specs.declared.CompleteAnswer.the-variants.{Completed, Refused as CompleteRefused}
+use Rattle.answer.specs.declared.Finish.{Finish}
 use Rattle.finite.proofs.All.{and-left, and-right, and-false}
 use Rattle.graph.specs.Graph.{jdm, DegreeTable, noTable}
 use Rattle.graph.specs.Tests.{degrees, Table}
@@ -39,12 +40,14 @@ use Rattle.adding.specs.Add.{addAnswer, addAdjacency}
 use Rattle.removing.specs.Remove.{removeAnswer, removeAdjacency}
 use Rattle.completion.specs.Complete.{Ran, finishAnswer, finishAdjacency}
 use Rattle.completion.proofs.Entry.{completed-facts}
-use Rattle.demands.specs.Calls.{Call, take, layOut, add, remove, complete, readBack, list, figures, survey, writeGraph6, readGraph6, Finish, outcome, State, cleared, after, afterAll}
+use Rattle.shuffling.specs.Finish.{outcome}
+use Rattle.shuffling.proofs.Works.{outcome-works}
+use Rattle.demands.specs.Calls.{Call, take, layOut, add, remove, complete, readBack, list, figures, survey, writeGraph6, readGraph6, State, cleared, after, afterAll}
 use Rattle.demands.specs.Tally.{Tally, noTally, told, toldAdd, toldRemove, toldComplete, counts, withBlock, laysOut, nowLaid, tally, tallyAll}
 use Rattle.demands.specs.Matrix.{Short, HasTable}
 use Rattle.demands.specs.Accepted.{accepted}
 use Rattle.demands.specs.Demand2.{member, answered, answeredSum, addRefused, removeRefused, quiet, Demand2}
-use Rattle.demands.proofs.Finishes.{outcome-works, outcome-has, after-finish}
+use Rattle.demands.proofs.Finishes.{outcome-has, after-finish}
 use Rattle.demands.proofs.Reach.{Reach, reach, reach-cleared, after-call, same-next, after-append}
 use Rattle.demands.proofs.Kept.{accepted-once}
 
@@ -175,7 +178,7 @@ done-completed : (s : State) (f : Finish) (out : List ℕ) (joins switches n : �
     → Done (after s (complete f out))
 done-completed s f out joins switches n e =
     let facts = completed-facts (s .journal) (s .adjacency) (outcome f (s .journal) (s .adjacency)) (length out) joins switches n e .facts in
-    let x = outcome-works (s .journal) (s .adjacency) f facts in
+    let x = outcome-works f (s .journal) (s .adjacency) facts in
     subst Done (sym (after-finish s f out joins switches n e))
     (record { lengths = x .lengths; sound = x .sound; phased = facts .phased; has = outcome-has s f facts })
 

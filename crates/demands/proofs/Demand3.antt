@@ -17,6 +17,7 @@ use Rattle.answer.specs.declared.AddAnswer.{AddAnswer}
 use Rattle.answer.specs.declared.AddAnswer.the-variants.{Added}
 use Rattle.answer.specs.declared.CompleteAnswer.{CompleteAnswer}
 use Rattle.answer.specs.declared.CompleteAnswer.the-variants.{Completed}
+use Rattle.answer.specs.declared.Finish.{Finish}
 use Rattle.layout.specs.Layout.{wanted}
 use Rattle.journal.specs.Journal.{phase, jdmOf, tableOf}
 use Rattle.journal.proofs.Table.{jdm-table}
@@ -31,11 +32,13 @@ use Rattle.joining.specs.Join.{joinBytes, joinSwitches}
 use Rattle.join_records.specs.Record.{joinRecordSize}
 use Rattle.completion.specs.Complete.{Ran, missing, finishAnswer, finishAdjacency}
 use Rattle.completion.proofs.Entry.{CompleteFacts, short-refused, CompleteWorks}
-use Rattle.demands.specs.Calls.{Finish, outcome, State, cleared, afterAll}
+use Rattle.shuffling.specs.Finish.{outcome}
+use Rattle.shuffling.proofs.Works.{outcome-works}
+use Rattle.demands.specs.Calls.{State, cleared, afterAll}
 use Rattle.demands.specs.Tally.{Tally, noTally, missingEdges, tallyAll}
 use Rattle.demands.specs.Matrix.{Short}
 use Rattle.demands.specs.Demand3 as D
-use Rattle.demands.proofs.Finishes.{outcome-works, outcome-answer, after-finish, finish-has}
+use Rattle.demands.proofs.Finishes.{outcome-answer, after-finish, finish-has}
 use Rattle.demands.proofs.Reach.{Reach, reach, laid-counted, phase-0, phase-1}
 
 -- Everything is first said of the journal's own table, which is the tally's.
@@ -153,7 +156,7 @@ module _ (s : State) (lengths : Rattle.state.specs.Valid.lengthsOk (s .journal)
     completes : D.HasRoom t out → D.Completes t s f out
     completes room =
         subst (λ (u : DegreeTable). D.Completes (record { blocks = t .blocks; table = u; laid = t .laid; edges = t .edges }) s f out) same
-        (own (outcome-works (s .journal) (s .adjacency) f checked)
+        (own (outcome-works f (s .journal) (s .adjacency) checked)
         (outcome-answer (s .journal) (s .adjacency) f checked (length out) (omega (arith, same-missing, room))))
       where
         own : CompleteWorks (s .journal) (s .adjacency) r

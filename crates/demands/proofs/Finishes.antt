@@ -1,4 +1,4 @@
--- What holds of every finish (specs/Calls.antt), whichever pairs it joins: the laws of completing by any choice of open pairs, at the two that there are.
+-- What holds of every finish (crates/shuffling/specs/Finish.antt), whichever pairs it joins: the laws of completing by any choice of open pairs, at the two that there are.
 -- Assumes nothing.
 use mathlib.Core.Path.{_≡_, refl, sym, ap, subst, _∙_}
 use mathlib.Core.Bool.{true}
@@ -9,6 +9,8 @@ use lib.ListN.{length}
 use Rattle.finite.specs.Range.{iterate}
 use Rattle.answer.specs.declared.CompleteAnswer.{CompleteAnswer}
 use Rattle.answer.specs.declared.CompleteAnswer.the-variants.{Completed}
+use Rattle.answer.specs.declared.Finish.{Finish}
+use Rattle.answer.specs.declared.Finish.the-variants.{Lowest, Picked}
 use Rattle.graph.specs.Tests.{leastDegree, degrees, classCount}
 use Rattle.graph.proofs.Numbering.{classOf-rises}
 use Rattle.journal.specs.Journal.{jdmOf, tableOf}
@@ -17,10 +19,11 @@ use Rattle.join_records.specs.Record.{joinRecordSize}
 use Rattle.completion.specs.Complete.{Ran, fresh, mostEdges, missing, finishAnswer, finishAdjacency}
 use Rattle.completion.proofs.Works.{Good, Chooser, short, lowest-pair, next-rising}
 use Rattle.completion.proofs.Full.{full-run}
-use Rattle.completion.proofs.Entry.{CompleteFacts, CompleteWorks, facts-completed, complete-works}
+use Rattle.completion.proofs.Entry.{CompleteFacts, facts-completed}
 use Rattle.shuffling.specs.Shuffle.{Shuffled}
-use Rattle.shuffling.proofs.Works.{shuffled-pair, shuffled-rises, shuffled-works}
-use Rattle.demands.specs.Calls.{complete, Finish, lowestPairs, pickedFrom, outcome, State, after}
+use Rattle.shuffling.proofs.Works.{shuffled-pair, shuffled-rises, outcome-works}
+use Rattle.shuffling.specs.Finish.{outcome}
+use Rattle.demands.specs.Calls.{complete, State, after}
 use Rattle.demands.specs.Matrix.{HasTable}
 
 -- r is what one way to choose pairs, each named lower vertex first, ends in from the matrix g
@@ -35,7 +38,7 @@ pub record By (j g : List ℕ) (r : Ran) : Type 1 where
 
 module _ (j g : List ℕ) where
   pub by : (f : Finish) → By j g (outcome f j g)
-  by lowestPairs =
+  by Lowest =
       record {
         S = Ran;
         way = lowest-pair (vertexCount j) (degreeAt j) (jdmOf j);
@@ -44,7 +47,7 @@ module _ (j g : List ℕ) where
         begins = refl;
         ends = refl;
       }
-  by (pickedFrom x) =
+  by (Picked x) =
       record {
         S = Shuffled;
         way = shuffled-pair (vertexCount j) (degreeAt j) (jdmOf j);
@@ -54,17 +57,13 @@ module _ (j g : List ℕ) where
         ends = refl;
       }
 
-  pub outcome-works : (f : Finish) → CompleteFacts j g → CompleteWorks j g (outcome f j g)
-  outcome-works lowestPairs = complete-works j g
-  outcome-works (pickedFrom x) = shuffled-works j g x
-
   module _ (f : Finish) (facts : CompleteFacts j g) where
     -- the answer, for an output of m bytes with room
     pub outcome-answer : (m : ℕ) → joinRecordSize * missing j g ≤ m
         → finishAnswer (outcome f j g) j g m ≡ Completed (outcome f j g .joins) (outcome f j g .switches) (joinRecordSize * outcome f j g .joins)
     outcome-answer m h =
         facts-completed j g (outcome f j g) m facts h
-        ∙ ap (Completed (outcome f j g .joins) (outcome f j g .switches)) (outcome-works f facts .written)
+        ∙ ap (Completed (outcome f j g .joins) (outcome f j g .switches)) (outcome-works f j g facts .written)
 
     -- Where every cell is full, no join is missing: none is made, whatever the output, and the matrix stays as it is.
     module _ (full : (k l : ℕ) → leastDegree ≤ k → k < degrees → k ≤ l → l < degrees → jdmOf j k l ≤ cellAt j g k l) where
@@ -78,7 +77,7 @@ module _ (j g : List ℕ) where
       pub full-answer : (m : ℕ) → finishAnswer (outcome f j g) j g m ≡ Completed 0 0 0
       full-answer m =
           let none = ap (λ (r : Ran). r .joins) full-outcome in
-          outcome-answer m (omega (arith, none, outcome-works f facts .made))
+          outcome-answer m (omega (arith, none, outcome-works f j g facts .made))
           ∙ ap (λ (r : Ran). Completed (r .joins) (r .switches) (joinRecordSize * r .joins)) full-outcome
 
 -- the state that a finish which was not refused leaves
@@ -88,7 +87,7 @@ module _ (s : State) (f : Finish) where
 
   pub outcome-has : CompleteFacts (s .journal) (s .adjacency) → HasTable (tableOf (s .journal)) finishedState
   outcome-has facts =
-      let x = outcome-works (s .journal) (s .adjacency) f facts in
+      let x = outcome-works f (s .journal) (s .adjacency) facts in
       record { simple = x .simple; exact = x .table; exact-isolated = x .no-edge }
 
   pub after-finish : (out : List ℕ) (joins switches n : ℕ)

@@ -16,6 +16,7 @@ use Rattle.answer.specs.declared.AddAnswer.{AddAnswer}
 use Rattle.answer.specs.declared.AddAnswer.the-variants.{Added}
 use Rattle.answer.specs.declared.CompleteAnswer.{CompleteAnswer}
 use Rattle.answer.specs.declared.CompleteAnswer.the-variants.{Completed}
+use Rattle.answer.specs.declared.Finish.{Finish}
 use Rattle.journal.specs.Journal.{phase, jdmOf}
 use Rattle.state.specs.Valid.{lengthsOk, valid}
 use Rattle.state.specs.Laid.{vertexCount, degreeAt}
@@ -27,9 +28,10 @@ use Rattle.completion.specs.Complete.{Ran, fresh, mostEdges, missing, finishAns
 use Rattle.completion.proofs.Works.{Good, Chooser, short, next-good}
 use Rattle.completion.proofs.Records.{Recorded, next-recorded, Rising, records-rising}
 use Rattle.completion.proofs.Entry.{CompleteFacts, good-start, CompleteWorks}
-use Rattle.demands.specs.Calls.{Finish, outcome}
+use Rattle.shuffling.specs.Finish.{outcome}
+use Rattle.shuffling.proofs.Works.{outcome-works}
 use Rattle.demands.specs.Playback.{play, CompletingPlays, addedRecord, Playback}
-use Rattle.demands.proofs.Finishes.{By, by, outcome-works, outcome-answer}
+use Rattle.demands.proofs.Finishes.{By, by, outcome-answer}
 use Rattle.demands.proofs.Playing.{fits, playJoin, join-plays, play-none, play-more}
 
 -- a run's records, played onto the matrix it began with, give the matrix it has come to, whichever pairs are chosen
@@ -83,7 +85,7 @@ completing-plays f j g out lengths sound phased room =
     b = by j g f
 
     x : CompleteWorks j g (outcome f j g)
-    x = outcome-works j g f checked
+    x = outcome-works f j g checked
 
     -- a byte of the records, in the output
     there : (p : ℕ) → p < length (r .records) → getD (sets out 0 (r .records)) p 0 ≡ getD (r .records) p 0

@@ -18,6 +18,7 @@ use Rattle.answer.specs.declared.RemoveAnswer.{RemoveAnswer}
 use Rattle.answer.specs.declared.RemoveAnswer.the-variants as Remove
 use Rattle.answer.specs.declared.CompleteAnswer.{CompleteAnswer}
 use Rattle.answer.specs.declared.CompleteAnswer.the-variants as Complete
+use Rattle.answer.specs.declared.Finish.{Finish}
 use Rattle.graph.specs.Graph.{DegreeTable}
 use Rattle.graph.specs.Tests.{passes, vertices}
 use Rattle.table.specs.Block.{wellFormed, plus}
@@ -39,9 +40,10 @@ use Rattle.adding.proofs.Add.{added-facts, add-works}
 use Rattle.removing.proofs.Remove.{removed-facts, remove-works}
 use Rattle.completion.specs.Complete.{Ran, finishAnswer, finishAdjacency}
 use Rattle.completion.proofs.Entry.{completed-facts}
-use Rattle.demands.specs.Calls.{Call, take, layOut, add, remove, complete, readBack, list, figures, survey, writeGraph6, readGraph6, Finish, outcome, State, cleared, after, afterAll}
+use Rattle.shuffling.specs.Finish.{outcome}
+use Rattle.shuffling.proofs.Works.{outcome-works}
+use Rattle.demands.specs.Calls.{Call, take, layOut, add, remove, complete, readBack, list, figures, survey, writeGraph6, readGraph6, State, cleared, after, afterAll}
 use Rattle.demands.specs.Tally.{Tally, noTally, told, toldAdd, toldRemove, toldComplete, counts, withBlock, laysOut, nowLaid, withEdges, tally, tallyAll}
-use Rattle.demands.proofs.Finishes.{outcome-works}
 
 -- the phase that the tally says
 abbrev phaseOf : Bool → ℕ
@@ -216,7 +218,7 @@ module _ (s : State) (t : Tally) (r : Reach s t) where
           → Reach (record { journal = s .journal; adjacency = finishAdjacency a r₀ (s .adjacency) }) (tally t (toldComplete a))
       go (Complete.Completed joins switches n) e =
           let c = completed-facts (s .journal) (s .adjacency) r₀ (length out) joins switches n e in
-          let x = outcome-works (s .journal) (s .adjacency) f (c .facts) in
+          let x = outcome-works f (s .journal) (s .adjacency) (c .facts) in
           let l = laid-tally s t r (c .facts .phased) in
           with-edges s (r₀ .adjacency) t (t .edges + joins) r l (x .lengths) (x .sound)
           (omega (arith, x .more, c .joins-are, laid-counted s t r l))

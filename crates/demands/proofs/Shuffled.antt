@@ -7,16 +7,17 @@ use Prim.Native.Nat.{ℕ, _*_, _≤_}
 use lib.ListN.{length}
 use Rattle.answer.specs.declared.CompleteAnswer.the-variants as Complete
 use Rattle.answer.specs.declared.ShuffleAnswer.the-variants.{Completed}
+use Rattle.answer.specs.declared.Finish.the-variants.{Picked}
 use Rattle.journal.specs.Journal.{phase}
 use Rattle.state.specs.Valid.{lengthsOk, valid}
 use Rattle.completion.specs.Complete.{Ran, missing, finishAnswer}
 use Rattle.completion.proofs.Entry.{CompleteFacts}
 use Rattle.shuffling.specs.Shuffle.{shuffled, withX}
 use Rattle.shuffling.proofs.Answers.{with-x-refused}
-use Rattle.shuffling.proofs.Works.{shuffled-last}
-use Rattle.demands.specs.Calls.{pickedFrom, State}
+use Rattle.shuffling.proofs.Works.{shuffled-last, outcome-works}
+use Rattle.demands.specs.Calls.{State}
 use Rattle.demands.specs.Shuffled.{Shuffles, ShuffledFinishing}
-use Rattle.demands.proofs.Finishes.{outcome-works, outcome-answer, finish-has}
+use Rattle.demands.proofs.Finishes.{outcome-answer, finish-has}
 
 shuffles : (s : State) (x : ℕ) (out : List ℕ) → lengthsOk (s .journal) (s .adjacency) ≡ true → valid (s .journal) (s .adjacency) ≡ true
     → phase (s .journal) ≡ 1 → 8 * missing (s .journal) (s .adjacency) ≤ length out → Shuffles s x out
@@ -27,8 +28,8 @@ shuffles s x out lengths sound phased room =
       answer =
           ap (withX (shuffled (s .journal) (s .adjacency) x .x)) answered
           ∙ ap (Completed (r .joins) (r .switches) (8 * r .joins)) (shuffled-last (s .journal) (s .adjacency) x);
-      made = outcome-works (s .journal) (s .adjacency) (pickedFrom x) checked .made;
-      has-table = finish-has s (pickedFrom x) out (r .joins) (r .switches) (8 * r .joins) checked answered;
+      made = outcome-works (Picked x) (s .journal) (s .adjacency) checked .made;
+      has-table = finish-has s (Picked x) out (r .joins) (r .switches) (8 * r .joins) checked answered;
     }
   where
     checked : CompleteFacts (s .journal) (s .adjacency)
@@ -38,7 +39,7 @@ shuffles s x out lengths sound phased room =
     r = shuffled (s .journal) (s .adjacency) x .ran
 
     answered : finishAnswer r (s .journal) (s .adjacency) (length out) ≡ Complete.Completed (r .joins) (r .switches) (8 * r .joins)
-    answered = outcome-answer (s .journal) (s .adjacency) (pickedFrom x) checked (length out) room
+    answered = outcome-answer (s .journal) (s .adjacency) (Picked x) checked (length out) room
 
 pub shuffled-finishing : ShuffledFinishing
 shuffled-finishing =

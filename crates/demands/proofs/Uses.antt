@@ -18,6 +18,7 @@ use Rattle.answer.specs.declared.switches.Switches.the-variants.{None}
 use Rattle.answer.specs.declared.AddAnswer.{AddAnswer}
 use Rattle.answer.specs.declared.AddAnswer.the-variants.{Added, Refused as AddRefused}
 use Rattle.answer.specs.declared.CompleteAnswer.the-variants.{Completed, Refused}
+use Rattle.answer.specs.declared.Finish.{Finish}
 use Rattle.table.specs.Block.{wellFormed, blockIsolated}
 use Rattle.adjacency.specs.Adjacency.{edge, setEdge}
 use Rattle.journal.specs.Journal.{mostBlocks, tableOf}
@@ -29,7 +30,8 @@ use Rattle.adding.proofs.Add.{added-facts}
 use Rattle.join_records.specs.Record.{joinRecordSize}
 use Rattle.completion.specs.Complete.{finishAnswer}
 use Rattle.completion.proofs.Entry.{refused-not-completed}
-use Rattle.demands.specs.Calls.{Call, take, add, complete, Finish, outcome, State, emptyMatrix, cleared, after, afterAll}
+use Rattle.shuffling.specs.Finish.{outcome}
+use Rattle.demands.specs.Calls.{Call, take, add, complete, State, emptyMatrix, cleared, after, afterAll}
 use Rattle.demands.specs.Accepted.{accepted, AcceptedIn}
 use Rattle.demands.specs.Tally.{Tally, noTally, missingEdges, toldTake, counts, withBlock, tally, tallyAll}
 use Rattle.demands.specs.Demand2.{answered, answeredSum}

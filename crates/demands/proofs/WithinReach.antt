@@ -10,17 +10,21 @@ use lib.ListN.{length, replicate, length-replicate}
 use Rattle.graph.specs.Graph.{Graph, DegreeTable}
 use Rattle.graph.specs.Tests.{vertices}
 use Rattle.answer.specs.declared.CompleteAnswer.the-variants.{Completed}
+use Rattle.answer.specs.declared.Finish.{Finish}
+use Rattle.answer.specs.declared.Finish.the-variants.{Lowest}
 use Rattle.journal.specs.Journal.{phase, tableOf}
 use Rattle.adjacency.specs.Adjacency.{edge}
 use Rattle.state.specs.Laid.{vertexCount}
 use Rattle.join_records.specs.Record.{joinRecordSize}
 use Rattle.completion.specs.Complete.{finishAnswer}
 use Rattle.completion.proofs.Entry.{completed-facts}
-use Rattle.demands.specs.Calls.{Call, complete, Finish, lowestPairs, outcome, State, emptyMatrix, cleared, after, afterAll}
+use Rattle.shuffling.specs.Finish.{outcome}
+use Rattle.shuffling.proofs.Works.{outcome-works}
+use Rattle.demands.specs.Calls.{Call, complete, State, emptyMatrix, cleared, after, afterAll}
 use Rattle.demands.specs.Tally.{noTally, missingEdges, tallyAll}
 use Rattle.demands.specs.Demand3.{Completes}
 use Rattle.demands.specs.WithinReach.{Replica, Pair, Order, ascending, adds, removes, ValidLaid, NothingToComplete, Drawn, Redrawn, lacking, EveryReplicaWithinReach}
-use Rattle.demands.proofs.Finishes.{outcome-works, after-finish}
+use Rattle.demands.proofs.Finishes.{after-finish}
 use Rattle.demands.proofs.Reach.{Reach, reach, laid-tally, phase-1, after-append}
 use Rattle.demands.proofs.Demand3.{demand-3}
 use Rattle.demands.proofs.Orders.{order-length}
@@ -35,7 +39,7 @@ some : (s : State) (f : Finish) (out : List ℕ) (joins switches m : ℕ)
 some s f out joins switches m e =
     let j = s .journal in
     let g = s .adjacency in
-    let x = outcome-works j g f (completed-facts j g (outcome f j g) (length out) joins switches m e .facts) in
+    let x = outcome-works f j g (completed-facts j g (outcome f j g) (length out) joins switches m e .facts) in
     subst (λ (s′ : State). Replica (tableOf j) (edge (s′ .adjacency))) (sym (after-finish s f out joins switches m e))
     (record { simple = x .simple; degrees = x .degrees-exact; table = x .table })
 
@@ -76,7 +80,7 @@ module _ (s : State) (v : ValidLaid s) (H : Graph) (drawing : Replica (tableOf (
 -- Where completing a laid state has nothing to do, the tally misses nothing: demand 3 says that its joins are those missing.
 none-missing : (calls : List Call) → tallyAll cleared noTally calls .laid ≡ true → NothingToComplete (afterAll cleared calls)
     → missingEdges (tallyAll cleared noTally calls) ≡ 0
-none-missing calls e d = go (demand-3 calls .1 e .completes lowestPairs out (omega (arith, length-replicate {A = ℕ} room 0)))
+none-missing calls e d = go (demand-3 calls .1 e .completes Lowest out (omega (arith, length-replicate {A = ℕ} room 0)))
   where
     room : ℕ
     room = joinRecordSize * missingEdges (tallyAll cleared noTally calls)
@@ -84,10 +88,10 @@ none-missing calls e d = go (demand-3 calls .1 e .completes lowestPairs out (ome
     out : List ℕ
     out = replicate (joinRecordSize * missingEdges (tallyAll cleared noTally calls)) 0
 
-    go : Completes (tallyAll cleared noTally calls) (afterAll cleared calls) lowestPairs out
+    go : Completes (tallyAll cleared noTally calls) (afterAll cleared calls) Lowest out
         → missingEdges (tallyAll cleared noTally calls) ≡ 0
     go c =
-        let none : c .joins ≡ 0 = cc (c .answer, d .no-joins lowestPairs out) in
+        let none : c .joins ≡ 0 = cc (c .answer, d .no-joins Lowest out) in
         omega (arith, none, c .missing)
 
 -- after every list of calls

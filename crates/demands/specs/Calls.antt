@@ -3,28 +3,18 @@
 use mathlib.Core.List.{List, [], _∷_}
 use Prim.Native.Nat.{ℕ}
 use lib.ListN.{length, replicate}
+use Rattle.answer.specs.declared.Finish.{Finish}
 use Rattle.journal.specs.Journal.{journalSize}
 use Rattle.adjacency.specs.Adjacency.{adjacencySize}
 use Rattle.taking.specs.Take.{takeAnswer, takeJournal}
 use Rattle.laying_out.specs.LayOut.{layOutAnswer, layOutJournal}
 use Rattle.adding.specs.Add.{addAnswer, addAdjacency}
 use Rattle.removing.specs.Remove.{removeAnswer, removeAdjacency}
-use Rattle.completion.specs.Complete.{Ran, completed, finishAnswer, finishAdjacency}
-use Rattle.shuffling.specs.Shuffle.{shuffled}
-
--- Which open pair a finish joins next: the lowest one of the lowest short cell (the entry complete), or the one that x picks (document 02, P7: the
--- entry complete_shuffled).
-pub data Finish : Type 0 where
-  lowestPairs : Finish
-  pickedFrom : ℕ → Finish
-
--- what a finish ends in; the checks before it, its answer, its matrix and its records are the same for each
-abbrev pub outcome : Finish → List ℕ → List ℕ → Ran
-outcome lowestPairs j g = completed j g
-outcome (pickedFrom x) j g = shuffled j g x .ran
+use Rattle.completion.specs.Complete.{finishAnswer, finishAdjacency}
+use Rattle.shuffling.specs.Finish.{outcome}
 
 -- the calls that demand 3 lists: those that may change the state, with any arguments, and the reading ones between them; a survey, and
--- writing or reading graph6, which are lent no state, may stand there too. A list of bytes is a block, or an output as it is lent, with room or without.
+-- writing or reading graph6, which are lent no state, may stand there too. Completing is by either finish. A list of bytes is a block, or an output as it is lent, with room or without.
 pub data Call : Type 0 where
   take : ℕ → List ℕ → Call
   layOut : Call

@@ -13,6 +13,7 @@ use Rattle.answer.specs.declared.AddAnswer.the-variants as Add
 use Rattle.answer.specs.declared.RemoveAnswer.{RemoveAnswer}
 use Rattle.answer.specs.declared.RemoveAnswer.the-variants as Remove
 use Rattle.answer.specs.declared.CompleteAnswer.the-variants.{Completed}
+use Rattle.answer.specs.declared.Finish.{Finish}
 use Rattle.graph.specs.Graph.{DegreeTable}
 use Rattle.table.specs.Block.{blockCell, blockIsolated}
 use Rattle.journal.specs.Journal.{phase}
@@ -20,7 +21,8 @@ use Rattle.taking.specs.Take.{takeAnswer}
 use Rattle.adding.specs.Add.{addAnswer}
 use Rattle.removing.specs.Remove.{removeAnswer}
 use Rattle.completion.specs.Complete.{finishAnswer}
-use Rattle.demands.specs.Calls.{Call, take, layOut, add, remove, complete, readBack, list, figures, survey, writeGraph6, readGraph6, Finish, outcome, State, cleared, after, afterAll}
+use Rattle.shuffling.specs.Finish.{outcome}
+use Rattle.demands.specs.Calls.{Call, take, layOut, add, remove, complete, readBack, list, figures, survey, writeGraph6, readGraph6, State, cleared, after, afterAll}
 use Rattle.demands.specs.Matrix.{Short, HasTable}
 use Rattle.demands.specs.Accepted.{accepted, AcceptedIn}
 

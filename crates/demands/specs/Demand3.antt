@@ -16,13 +16,15 @@ use Rattle.answer.specs.declared.Cause.the-variants.{OutputLength}
 use Rattle.answer.specs.declared.switches.Switches.{Switches}
 use Rattle.answer.specs.declared.AddAnswer.the-variants.{Added}
 use Rattle.answer.specs.declared.CompleteAnswer.the-variants.{Completed, Refused}
+use Rattle.answer.specs.declared.Finish.{Finish}
 use Rattle.adjacency.specs.Adjacency.{edge}
 use Rattle.state.specs.Valid.{valid}
 use Rattle.laying_out.specs.LayOut.{layOutAnswer}
 use Rattle.adding.specs.Add.{addAnswer}
 use Rattle.join_records.specs.Record.{joinRecordSize}
 use Rattle.completion.specs.Complete.{finishAnswer}
-use Rattle.demands.specs.Calls.{Call, add, complete, Finish, outcome, State, cleared, after, afterAll}
+use Rattle.shuffling.specs.Finish.{outcome}
+use Rattle.demands.specs.Calls.{Call, add, complete, State, cleared, after, afterAll}
 use Rattle.demands.specs.Matrix.{Short, HasTable}
 use Rattle.demands.specs.Tally.{Tally, noTally, missingEdges, tallyAll}
 

@@ -12,13 +12,14 @@ use Rattle.answer.specs.Numbers.{addNumbers}
 use Rattle.answer.specs.declared.switches.Switches.{Switches}
 use Rattle.answer.specs.declared.AddAnswer.the-variants.{Added}
 use Rattle.answer.specs.declared.CompleteAnswer.the-variants.{Completed}
+use Rattle.answer.specs.declared.Finish.{Finish}
 use Rattle.journal.specs.Journal.{phase}
 use Rattle.adjacency.specs.Adjacency.{edge, setEdge}
 use Rattle.state.specs.Valid.{lengthsOk, valid}
 use Rattle.state.specs.Laid.{vertexCount}
 use Rattle.adding.specs.Add.{addAnswer, addAdjacency}
 use Rattle.completion.specs.Complete.{missing, finishAnswer, finishAdjacency, finishOutput}
-use Rattle.demands.specs.Calls.{Finish, outcome}
+use Rattle.shuffling.specs.Finish.{outcome}
 
 -- a matrix in play, and whether everything so far fitted it: an edge that was removed was there, one that was added was not
 pub record Played : Type 0 where

@@ -9,12 +9,14 @@ use lib.ListN.{length}
 use Rattle.answer.specs.declared.Refusal.{Refusal}
 use Rattle.answer.specs.declared.CompleteAnswer.the-variants as Complete
 use Rattle.answer.specs.declared.ShuffleAnswer.the-variants.{Completed, Refused}
+use Rattle.answer.specs.declared.Finish.the-variants.{Picked}
 use Rattle.journal.specs.Journal.{phase, tableOf}
 use Rattle.state.specs.Valid.{lengthsOk, valid}
 use Rattle.completion.specs.Complete.{missing, finishAnswer}
 use Rattle.shuffling.specs.Choice.{stepsX}
 use Rattle.shuffling.specs.Shuffle.{shuffleAnswer, shuffleAdjacency}
-use Rattle.demands.specs.Calls.{complete, pickedFrom, outcome, State, after}
+use Rattle.shuffling.specs.Finish.{outcome}
+use Rattle.demands.specs.Calls.{complete, State, after}
 use Rattle.demands.specs.Matrix.{HasTable}
 
 -- a valid laid state, from x on, into an output with room
@@ -23,7 +25,7 @@ pub record Shuffles (s : State) (x : ℕ) (out : List ℕ) : Type 0 where
   pub switches : ℕ
   pub answer : shuffleAnswer (s .journal) (s .adjacency) x (length out) ≡ Completed joins switches (8 * joins) (stepsX joins x)
   pub made : joins ≡ missing (s .journal) (s .adjacency)
-  pub has-table : HasTable (tableOf (s .journal)) (after s (complete (pickedFrom x) out))
+  pub has-table : HasTable (tableOf (s .journal)) (after s (complete (Picked x) out))
 
 pub record ShuffledFinishing : Type 0 where
   pub shuffles : (s : State) (x : ℕ) (out : List ℕ) → lengthsOk (s .journal) (s .adjacency) ≡ true → valid (s .journal) (s .adjacency) ≡ true →
@@ -31,5 +33,5 @@ pub record ShuffledFinishing : Type 0 where
   -- the entry is the finish of the list of calls that x picks: it is refused where that is, and leaves the matrix that that leaves
   pub refused : (s : State) (x : ℕ) (out : List ℕ) (r : Refusal) →
       shuffleAnswer (s .journal) (s .adjacency) x (length out) ≡ Refused r →
-      finishAnswer (outcome (pickedFrom x) (s .journal) (s .adjacency)) (s .journal) (s .adjacency) (length out) ≡ Complete.Refused r
-  pub same-matrix : (s : State) (x : ℕ) (out : List ℕ) → shuffleAdjacency (s .journal) (s .adjacency) x (length out) ≡ after s (complete (pickedFrom x) out) .adjacency
+      finishAnswer (outcome (Picked x) (s .journal) (s .adjacency)) (s .journal) (s .adjacency) (length out) ≡ Complete.Refused r
+  pub same-matrix : (s : State) (x : ℕ) (out : List ℕ) → shuffleAdjacency (s .journal) (s .adjacency) x (length out) ≡ after s (complete (Picked x) out) .adjacency

@@ -20,7 +20,8 @@ use Rattle.journal.specs.Journal.{mostBlocks}
 use Rattle.adding.specs.Add.{addAnswer}
 use Rattle.removing.specs.Remove.{removeAnswer}
 use Rattle.completion.specs.Complete.{finishAnswer}
-use Rattle.demands.specs.Calls.{Call, take, layOut, add, remove, complete, readBack, list, figures, survey, writeGraph6, readGraph6, outcome, State, after}
+use Rattle.shuffling.specs.Finish.{outcome}
+use Rattle.demands.specs.Calls.{Call, take, layOut, add, remove, complete, readBack, list, figures, survey, writeGraph6, readGraph6, State, after}
 
 -- what the tally is told of a call
 pub data Told : Type 0 where

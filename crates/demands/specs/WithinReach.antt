@@ -17,6 +17,7 @@ use Rattle.answer.specs.declared.AddAnswer.{AddAnswer}
 use Rattle.answer.specs.declared.AddAnswer.the-variants as Add
 use Rattle.answer.specs.declared.RemoveAnswer.the-variants.{Removed}
 use Rattle.answer.specs.declared.CompleteAnswer.the-variants.{Completed}
+use Rattle.answer.specs.declared.Finish.{Finish}
 use Rattle.journal.specs.Journal.{phase, tableOf}
 use Rattle.adjacency.specs.Adjacency.{side, adjacencySize, edge}
 use Rattle.state.specs.Valid.{lengthsOk, valid}
@@ -25,7 +26,8 @@ use Rattle.edgelist.specs.EdgeList.{listOf}
 use Rattle.adding.specs.Add.{addAnswer}
 use Rattle.removing.specs.Remove.{removeAnswer}
 use Rattle.completion.specs.Complete.{finishAnswer}
-use Rattle.demands.specs.Calls.{Call, add, remove, complete, Finish, outcome, State, emptyMatrix, cleared, after, afterAll}
+use Rattle.shuffling.specs.Finish.{outcome}
+use Rattle.demands.specs.Calls.{Call, add, remove, complete, State, emptyMatrix, cleared, after, afterAll}
 use Rattle.demands.specs.Tally.{noTally, missingEdges, tallyAll}
 
 -- "every simple graph on the laid boards with the table and the boards' degrees": on the N vertices of the table t, each with the degree laid out

@@ -6,7 +6,7 @@ use mathlib.Core.List.{List}
 use mathlib.Core.Logic.{_≢_}
 use Prim.Native.Nat.{ℕ, _<_}
 use native.Mathlib.Omega.{arith}
-use Rattle.answer.specs.Switches.{SwitchBelow, RowApart, Each}
+use Rattle.answer.specs.Inner.Moved.{SwitchBelow, RowApart, Each}
 use Rattle.answer.specs.declared.switches.Switch.{Switch}
 use Rattle.graph.specs.Switch.{unsaturated}
 use Rattle.adjacency.specs.Adjacency.{edge, setEdge}
@@ -17,7 +17,7 @@ use Rattle.joining.proofs.Relieving.{chosen, joinable-next, joinable-la
 
 -- of the switches of both ends, those that were made
 each-made : (P : Switch → Type 0) (p q : Bool) (x y : Switch) → (p ≡ false → P x) → (q ≡ false → P y) → Each P (inOrder p q x y)
-each-made P true true x y f h = omega arith
+each-made P true true x y f h = tt
 each-made P true false x y f h = h refl
 each-made P false true x y f h = f refl
 each-made P false false x y f h = (f refl, h refl)

@@ -2,7 +2,7 @@
 ghost use mathlib.Core.Path.{_≡_};
 ghost use Prim.Native.Nat.{_≤_, _<_};
 ghost use lib.ListN.{length};
-ghost use Rattle.answer.specs.Switches.{SwitchBelow};
+ghost use Rattle.answer.specs.Inner.Moved.{SwitchBelow};
 ghost use Rattle.graph.specs.Tests.{degrees};
 ghost use Rattle.adjacency.specs.Adjacency.{side};
 ghost use Rattle.open_pairs.specs.Inner.Rows.{flagsSize, Scannable, Summed};

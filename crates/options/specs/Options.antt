@@ -7,10 +7,10 @@ use Prim.Native.Nat.{ℕ, _+_, _-_, _*_}
 use lib.Dec.{eqb, leb, ltb}
 use lib.ListN.{length, getD}
 use Rattle.finite.specs.Range.{allTo, foldTo}
+use Rattle.answer.specs.declared.Finish.the-variants.{Lowest, Picked}
 use Rattle.slices.specs.Slices.{sameBytes}
 use Rattle.options.specs.declared.Form.{Form}
 use Rattle.options.specs.declared.Form.the-variants.{Lines, Graph6}
-use Rattle.options.specs.declared.Finish.the-variants.{Lowest, Shuffled}
 use Rattle.options.specs.declared.Number.{Number}
 use Rattle.options.specs.declared.Number.the-variants.{Value, NoNumber}
 use Rattle.options.specs.declared.Choice.{Choice}
@@ -49,14 +49,27 @@ numberOf word = cond (isNumber word) (Value (valueOf word)) NoNumber
 
 -- the form, shuffled from the word's number on
 abbrev pub shuffledBy : Form → Number → Choice
-shuffledBy form (Value x) = Show form (Shuffled x)
+shuffledBy form (Value x) = Show form (Picked x)
 shuffledBy form NoNumber = Usage
+
+-- `--graph6`
+abbrev pub oneWord : List ℕ → Choice
+oneWord first = cond (sameBytes first graph6Word) (Show Graph6 Lowest) Usage
+
+-- `--shuffle X`
+abbrev pub twoWords : List ℕ → List ℕ → Choice
+twoWords first second = cond (sameBytes first shuffleWord) (shuffledBy Lines (numberOf second)) Usage
+
+-- both, in either order
+abbrev pub threeWords : List ℕ → List ℕ → List ℕ → Choice
+threeWords first second third =
+    cond (sameBytes first graph6Word && sameBytes second shuffleWord) (shuffledBy Graph6 (numberOf third))
+    (cond (sameBytes first shuffleWord && sameBytes third graph6Word) (shuffledBy Graph6 (numberOf second)) Usage)
 
 -- of so many arguments, the program's name among them, and the three behind the name
 abbrev pub choiceOf : ℕ → List ℕ → List ℕ → List ℕ → Choice
 choiceOf count first second third =
     cond (leb count 1) (Show Lines Lowest)
-    (cond (eqb count 2 && sameBytes first graph6Word) (Show Graph6 Lowest)
-    (cond (eqb count 3 && sameBytes first shuffleWord) (shuffledBy Lines (numberOf second))
-    (cond (eqb count 4 && sameBytes first graph6Word && sameBytes second shuffleWord) (shuffledBy Graph6 (numberOf third))
-    (cond (eqb count 4 && sameBytes first shuffleWord && sameBytes third graph6Word) (shuffledBy Graph6 (numberOf second)) Usage))))
+    (cond (eqb count 2) (oneWord first)
+    (cond (eqb count 3) (twoWords first second)
+    (cond (eqb count 4) (threeWords first second third) Usage)))

@@ -1,7 +1,8 @@
 // What the program's arguments ask for.
 ghost use mathlib.Core.Path.{_≡_};
 ghost use Prim.Native.Nat.{_-_};
-ghost use Rattle.options.specs.Options.{isDigit, numberOf, shuffledBy, choiceOf};
+ghost use Rattle.options.specs.Options.{isDigit, numberOf, shuffledBy, oneWord, twoWords, threeWords, choiceOf};
+use answer::Finish;
 use slices::same_bytes;
 use slices::wide;
 
@@ -9,12 +10,6 @@ use slices::wide;
 pub enum Form {
     Lines,
     Graph6,
-}
-
-// Which open pair is joined next: the lowest one, or the one that x picks, from this x on.
-pub enum Finish {
-    Lowest,
-    Shuffled(u32),
 }
 
 // What the arguments ask for.
@@ -64,9 +59,42 @@ fn shuffled_by(form: Form, word: &[u8]) -> Choice
 {
     let number = number_of(word);
     match number {
-        Number::Value(x) => Choice::Show(form, Finish::Shuffled(x)),
+        Number::Value(x) => Choice::Show(form, Finish::Picked(x)),
         Number::NoNumber => Choice::Usage,
     }
+}
+
+// `--graph6`.
+fn one_word(first: &[u8]) -> Choice
+    ensures { λ r. ⌜ r ≡ oneWord (now (first .entry)) ⌝ }
+{
+    if same_bytes(first, b"--graph6") {
+        return Choice::Show(Form::Graph6, Finish::Lowest);
+    }
+    Choice::Usage
+}
+
+// `--shuffle X`.
+fn two_words(first: &[u8], second: &[u8]) -> Choice
+    ensures { λ r. ⌜ r ≡ twoWords (now (first .entry)) (now (second .entry)) ⌝ }
+{
+    if same_bytes(first, b"--shuffle") {
+        return shuffled_by(Form::Lines, second);
+    }
+    Choice::Usage
+}
+
+// Both, in either order.
+fn three_words(first: &[u8], second: &[u8], third: &[u8]) -> Choice
+    ensures { λ r. ⌜ r ≡ threeWords (now (first .entry)) (now (second .entry)) (now (third .entry)) ⌝ }
+{
+    if same_bytes(first, b"--graph6") & same_bytes(second, b"--shuffle") {
+        return shuffled_by(Form::Graph6, third);
+    }
+    if same_bytes(first, b"--shuffle") & same_bytes(third, b"--graph6") {
+        return shuffled_by(Form::Graph6, second);
+    }
+    Choice::Usage
 }
 
 // What so many arguments ask for, the program's name counted, of which these are the three behind the name.
@@ -76,17 +104,14 @@ pub fn choice_of(count: usize, first: &[u8], second: &[u8], third: &[u8]) -> Cho
     if count <= 1 {
         return Choice::Show(Form::Lines, Finish::Lowest);
     }
-    if (count == 2) & same_bytes(first, b"--graph6") {
-        return Choice::Show(Form::Graph6, Finish::Lowest);
+    if count == 2 {
+        return one_word(first);
     }
-    if (count == 3) & same_bytes(first, b"--shuffle") {
-        return shuffled_by(Form::Lines, second);
+    if count == 3 {
+        return two_words(first, second);
     }
-    if (count == 4) & same_bytes(first, b"--graph6") & same_bytes(second, b"--shuffle") {
-        return shuffled_by(Form::Graph6, third);
-    }
-    if (count == 4) & same_bytes(first, b"--shuffle") & same_bytes(third, b"--graph6") {
-        return shuffled_by(Form::Graph6, second);
+    if count == 4 {
+        return three_words(first, second, third);
     }
     Choice::Usage
 }

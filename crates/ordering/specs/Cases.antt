@@ -6,7 +6,8 @@ use mathlib.Core.Bool.{true}
 use mathlib.Core.List.{List, [], _∷_}
 use Prim.Native.Nat.{ℕ, zero, suc, _+_}
 use lib.ListN.{replicate}
-use Rattle.demands.specs.Calls.{take, layOut, add, remove, complete, readBack, list, figures, survey, lowestPairs}
+use Rattle.answer.specs.declared.Finish.the-variants.{Lowest}
+use Rattle.demands.specs.Calls.{take, layOut, add, remove, complete, readBack, list, figures, survey}
 use Rattle.worked.specs.Cases.{Step, _gives_, Case, allHold, taken, held, part, laidOut, finished, written, report, no, noInto, joined, noJoin, join, sevens, rec}
 
 -- The order of checks (document 01: "Checks run in table order, among those that concern the call"): calls in which refusals compete, and the
@@ -43,7 +44,7 @@ ordered =
       steps =
           take 0 pair gives taken 1 ∷ add 0 1 gives noJoin 3 0 0 ∷ add 1 1 gives noJoin 3 0 0 ∷ add 9 9 gives noJoin 3 0 0
           ∷ remove 0 1 gives no 3 0 0 ∷ remove 1 1 gives no 3 0 0 ∷ remove 9 9 gives no 3 0 0
-          ∷ complete lowestPairs [] gives no 3 0 0 ∷ list [] gives no 3 0 0 ∷ list (sevens 2) gives noInto 3 (sevens 2) ∷ [];
+          ∷ complete Lowest [] gives no 3 0 0 ∷ list [] gives no 3 0 0 ∷ list (sevens 2) gives noInto 3 (sevens 2) ∷ [];
       edges = [];
     }
     -- a block: 4 before 5, both before 6 (number too high), 7 and held (low number) and 3 (laid); 7 and held also when laid; laying out again is 3
@@ -122,7 +123,7 @@ withIsolated =
     }
     -- a table of them alone
     ∷ record {
-      steps = take 0 (rec 0 0 3 []) gives taken 1 ∷ layOut gives laidOut 3 ∷ complete lowestPairs [] gives finished 0 0 0 [] ∷ [];
+      steps = take 0 (rec 0 0 3 []) gives taken 1 ∷ layOut gives laidOut 3 ∷ complete Lowest [] gives finished 0 0 0 [] ∷ [];
       edges = [];
     }
     -- they are numbered first and never linked: 13 and 14 before 16, which names degree 0; 17; figures
@@ -130,7 +131,7 @@ withIsolated =
       steps =
           take 0 (rec 1 1 2 (rec 0 0 2 [])) gives taken 1 ∷ layOut gives laidOut 4
           ∷ add 0 4 gives noJoin 13 0 0 ∷ add 0 0 gives noJoin 14 0 0 ∷ add 1 0 gives noJoin 16 0 0 ∷ add 3 1 gives noJoin 16 0 1 ∷ remove 2 1 gives no 17 0 0
-          ∷ complete lowestPairs (sevens 8) gives finished 1 0 8 (join 2 3 []) ∷ figures gives report 1 1 4 1 1 ∷ [];
+          ∷ complete Lowest (sevens 8) gives finished 1 0 8 (join 2 3 []) ∷ figures gives report 1 1 4 1 1 ∷ [];
       edges = 2 ∷ 3 ∷ [];
     }
     -- 12 counts them; 9 to 11 come first and do not see them
@@ -170,7 +171,7 @@ withEmpty =
       edges = [];
     }
     -- no other block: no vertices
-    ∷ record { steps = take 0 [] gives taken 1 ∷ layOut gives laidOut 0 ∷ complete lowestPairs [] gives finished 0 0 0 [] ∷ []; edges = [] }
+    ∷ record { steps = take 0 [] gives taken 1 ∷ layOut gives laidOut 0 ∷ complete Lowest [] gives finished 0 0 0 [] ∷ []; edges = [] }
     -- 64 of them, then 8, for one with bytes too; 6, 7 and held before 8
     ∷ record {
       steps =

@@ -1,9 +1,9 @@
 // The program: builds the replica of the records on standard input and prints it.
+use answer::Finish;
 use libc::STDERR_FILENO;
 use libc::STDIN_FILENO;
 use libc::STDOUT_FILENO;
 use options::Choice;
-use options::Finish;
 use options::Form;
 use runner::INPUT_MOST;
 use runner::TEXT_MOST;

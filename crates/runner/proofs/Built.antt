@@ -22,6 +22,7 @@ use Rattle.answer.specs.declared.LayOutAnswer.{LayOutAnswer}
 use Rattle.answer.specs.declared.LayOutAnswer.the-variants.{LaidOut, Refused as LayOutRefused}
 use Rattle.answer.specs.declared.CompleteAnswer.{CompleteAnswer}
 use Rattle.answer.specs.declared.CompleteAnswer.the-variants.{Completed, Refused as CompleteRefused}
+use Rattle.answer.specs.declared.Finish.{Finish}
 use Rattle.table.specs.Block.{blockCell, blockIsolated, plus}
 use Rattle.journal.specs.Journal.{journalSize, phase, blocks, tableOf, laid}
 use Rattle.journal.proofs.Store.{phase-stored, blocks-stored, table-stored}
@@ -45,15 +46,16 @@ use Rattle.graph6.proofs.Text.{text-cong}
 use Rattle.graph6_writing.specs.Write.{writeText}
 use Rattle.completion.specs.Complete.{Ran, finishAnswer, finishAdjacency}
 use Rattle.completion.proofs.Entry.{CompleteFacts, completed-facts, facts-completed, missing-most}
+use Rattle.shuffling.specs.Finish.{outcome}
+use Rattle.shuffling.proofs.Works.{outcome-works}
 use Rattle.text.specs.Text.{newline, refusedLine, headLine, edgeLines}
 use Rattle.text.proofs.Lines.{lines-cat, lines-one}
 use Rattle.options.specs.declared.Form.{Form}
 use Rattle.options.specs.declared.Form.the-variants.{Lines, Graph6}
-use Rattle.options.specs.declared.Finish.{Finish}
-use Rattle.runner.specs.Program.{blocksIn, blockIn, Taking, takeVerdict, takeNext, takeAll, stateText, recordsMost, outcomeOf, completedText, laidText, takenText, textFrom}
+use Rattle.runner.specs.Program.{blocksIn, blockIn, Taking, takeVerdict, takeNext, takeAll, stateText, recordsMost, completedText, laidText, takenText, textFrom}
 use Rattle.runner.specs.Theorems.{CompletesAlways, inputTable, edgeText, shown, Built, ProgramSays}
 use Rattle.runner.proofs.Taking.{IsGo}
-use Rattle.runner.proofs.Room.{outcome-works, laid-count}
+use Rattle.runner.proofs.Room.{laid-count}
 
 -- the lines of a graph's edge list, v by v and w by w
 module _ (n : ℕ) (g : List ℕ) where
@@ -154,11 +156,11 @@ state-shown Graph6 n switches j g count simple =
 
 -- a completed state's text
 module _ (finish : Finish) (j g : List ℕ) (n joins switches written : ℕ) (count : n ≡ vertexCount j)
-    (e : finishAnswer (outcomeOf finish j g) j g recordsMost ≡ Completed joins switches written) where
-  built : (form : Form) → Built form (tableOf j) (stateText form n switches j (outcomeOf finish j g .adjacency))
+    (e : finishAnswer (outcome finish j g) j g recordsMost ≡ Completed joins switches written) where
+  built : (form : Form) → Built form (tableOf j) (stateText form n switches j (outcome finish j g .adjacency))
   built form =
-      let w = outcome-works finish j g (completed-facts j g (outcomeOf finish j g) recordsMost joins switches written e .facts) in
-      let h = outcomeOf finish j g .adjacency in
+      let w = outcome-works finish j g (completed-facts j g (outcome finish j g) recordsMost joins switches written e .facts) in
+      let h = outcome finish j g .adjacency in
       record {
         journal = j;
         adjacency = h;
@@ -176,10 +178,10 @@ Told form t text = ((r : Refusal) × (text ≡ refusedLine r)) ⊎ Built form t 
 
 told-completed : (form : Form) (finish : Finish) (j g : List ℕ) (n : ℕ) → n ≡ vertexCount j
     → Told form (tableOf j) (laidText form finish (LaidOut n) j g)
-told-completed form finish j g n count = go (finishAnswer (outcomeOf finish j g) j g recordsMost) refl
+told-completed form finish j g n count = go (finishAnswer (outcome finish j g) j g recordsMost) refl
   where
-    go : (a : CompleteAnswer) → finishAnswer (outcomeOf finish j g) j g recordsMost ≡ a
-        → Told form (tableOf j) (completedText form a n j (finishAdjacency a (outcomeOf finish j g) g))
+    go : (a : CompleteAnswer) → finishAnswer (outcome finish j g) j g recordsMost ≡ a
+        → Told form (tableOf j) (completedText form a n j (finishAdjacency a (outcome finish j g) g))
     go (Completed joins switches written) e = inr (built finish j g n joins switches written count e form)
     go (CompleteRefused r) e = inl (r, refl)
 
@@ -207,7 +209,7 @@ program-says form finish input = told form finish (replicate journalSize 0) (rep
 -- completing a laid state is not refused: no layout has more edges than there is room for
 laid-completes : (finish : Finish) (j g : List ℕ) (n : ℕ) → layOutAnswer j g ≡ LaidOut n
     → let j′ = layOutJournal (layOutAnswer j g) j in
-    (joins switches written : ℕ) × (finishAnswer (outcomeOf finish j′ g) j′ g recordsMost ≡ Completed joins switches written)
+    (joins switches written : ℕ) × (finishAnswer (outcome finish j′ g) j′ g recordsMost ≡ Completed joins switches written)
 laid-completes finish j g n e =
     (r .joins, r .switches, length (r .records), facts-completed j′ g r recordsMost f (omega (arith, missing-most j′ g f)))
   where
@@ -215,7 +217,7 @@ laid-completes finish j g n e =
     j′ = layOutJournal (layOutAnswer j g) j
 
     r : Ran
-    r = outcomeOf finish j′ g
+    r = outcome finish j′ g
 
     was : LaidOutFacts j g
     was = lay-out-facts j g n e

@@ -11,13 +11,13 @@ use lib.Seq.{take-all, getD-take, ext-getD}
 use Rattle.finite.proofs.Fold.{foldTo-none, foldTo-more}
 use Rattle.answer.specs.declared.Verdict.{Verdict}
 use Rattle.answer.specs.declared.Verdict.the-variants.{Go, Stop}
+use Rattle.answer.specs.declared.Finish.{Finish}
 use Rattle.slices.proofs.Part.{length-part, getD-part}
 use Rattle.table.specs.Block.{blockMost}
 use Rattle.journal.specs.Journal.{mostBlocks, journalSize}
 use Rattle.adjacency.specs.Adjacency.{adjacencySize}
 use Rattle.runner.specs.Program.{blocksIn, blockIn, Taking, takeNext, takeAll, takenText, textFrom, inputMost}
 use Rattle.options.specs.declared.Form.{Form}
-use Rattle.options.specs.declared.Finish.{Finish}
 use Rattle.runner.specs.Theorems.{ReadsEnough}
 use Rattle.runner.proofs.Taking.{after, stays, full}
 

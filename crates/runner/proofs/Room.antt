@@ -17,6 +17,7 @@ use Rattle.answer.specs.declared.CompleteAnswer.{CompleteAnswer}
 use Rattle.answer.specs.declared.CompleteAnswer.the-variants.{Completed, Refused as CompleteRefused}
 use Rattle.answer.specs.declared.WrittenAnswer.{WrittenAnswer}
 use Rattle.answer.specs.declared.WrittenAnswer.the-variants.{Written, Refused as WriteRefused}
+use Rattle.answer.specs.declared.Finish.{Finish}
 use Rattle.slices.proofs.Part.{take-sets}
 use Rattle.journal.specs.Journal.{phase, jdmOf}
 use Rattle.state.specs.Valid.{lengthsOk, valid}
@@ -39,15 +40,14 @@ use Rattle.graph6_writing.specs.Write.{writeText}
 use Rattle.completion.specs.Complete.{mostEdges, finishAnswer, finishAdjacency}
 use Rattle.completion.proofs.Cellwise.{room}
 use Rattle.completion.proofs.Works.{few-edges}
-use Rattle.completion.proofs.Entry.{CompleteFacts, CompleteWorks, completed-facts, complete-works}
-use Rattle.shuffling.proofs.Works.{shuffled-works}
+use Rattle.completion.proofs.Entry.{completed-facts}
+use Rattle.shuffling.specs.Finish.{outcome}
+use Rattle.shuffling.proofs.Works.{outcome-works}
 use Rattle.text.specs.Text.{newline, edgeLines, headLine, headMost, edgeMost}
 use Rattle.text.proofs.Decimal.{refused-length, head-length, edges-length}
 use Rattle.options.specs.declared.Form.{Form}
 use Rattle.options.specs.declared.Form.the-variants.{Lines, Graph6}
-use Rattle.options.specs.declared.Finish.{Finish}
-use Rattle.options.specs.declared.Finish.the-variants.{Lowest, Shuffled}
-use Rattle.runner.specs.Program.{stateText, recordsMost, outcomeOf, completedText, laidText, takenText, textMost}
+use Rattle.runner.specs.Program.{stateText, recordsMost, completedText, laidText, takenText, textMost}
 
 abbrev IsWritten : WrittenAnswer → Type 0
 IsWritten (Written n) = Unit {0}
@@ -136,21 +136,16 @@ module _ (j g : List ℕ) (lengths : lengthsOk j g ≡ true) (sound : valid j g 
 refused-fits : (r : Refusal) → length (Rattle.text.specs.Text.refusedLine r) ≤ textMost
 refused-fits r = omega (arith, refused-length r)
 
--- whichever pairs it joins, completing works
-pub outcome-works : (finish : Finish) (j g : List ℕ) → CompleteFacts j g → CompleteWorks j g (outcomeOf finish j g)
-outcome-works Lowest j g f = complete-works j g f
-outcome-works (Shuffled x) j g f = shuffled-works j g x f
-
 completed-fits : (form : Form) (finish : Finish) (j g : List ℕ) (n : ℕ) → n ≡ vertexCount j
     → length (laidText form finish (LaidOut n) j g) ≤ textMost
-completed-fits form finish j g n count = go (finishAnswer (outcomeOf finish j g) j g recordsMost) refl
+completed-fits form finish j g n count = go (finishAnswer (outcome finish j g) j g recordsMost) refl
   where
-    go : (a : CompleteAnswer) → finishAnswer (outcomeOf finish j g) j g recordsMost ≡ a
-        → length (completedText form a n j (finishAdjacency a (outcomeOf finish j g) g)) ≤ textMost
+    go : (a : CompleteAnswer) → finishAnswer (outcome finish j g) j g recordsMost ≡ a
+        → length (completedText form a n j (finishAdjacency a (outcome finish j g) g)) ≤ textMost
     go (Completed joins switches written) e =
-        let f = completed-facts j g (outcomeOf finish j g) recordsMost joins switches written e .facts in
+        let f = completed-facts j g (outcome finish j g) recordsMost joins switches written e .facts in
         let w = outcome-works finish j g f in
-        state-fits j (outcomeOf finish j g .adjacency) (w .lengths) (w .sound) (f .phased) form n switches count
+        state-fits j (outcome finish j g .adjacency) (w .lengths) (w .sound) (f .phased) form n switches count
     go (CompleteRefused r) e = refused-fits r
 
 -- what laying out answers is the N of the state

@@ -15,6 +15,7 @@ use Rattle.answer.specs.declared.LayOutAnswer.{LayOutAnswer}
 use Rattle.answer.specs.declared.LayOutAnswer.the-variants.{LaidOut, Refused as LayOutRefused}
 use Rattle.answer.specs.declared.CompleteAnswer.{CompleteAnswer}
 use Rattle.answer.specs.declared.CompleteAnswer.the-variants.{Completed, Refused as CompleteRefused}
+use Rattle.answer.specs.declared.Finish.{Finish}
 use Rattle.journal.specs.Journal.{phase}
 use Rattle.state.specs.Valid.{lengthsOk, valid}
 use Rattle.state.specs.Laid.{vertexCount}
@@ -22,12 +23,13 @@ use Rattle.laying_out.specs.LayOut.{layOutAnswer, layOutJournal}
 use Rattle.completion.specs.Complete.{Ran, finishAnswer, finishAdjacency}
 use Rattle.completion.proofs.Entry.{completed-facts}
 use Rattle.io.specs.Counts.{Counts}
+use Rattle.shuffling.specs.Finish.{outcome}
+use Rattle.shuffling.proofs.Works.{outcome-works}
 use Rattle.text.specs.Text.{refusedLine}
 use Rattle.text.proofs.Written.{Written}
 use Rattle.options.specs.declared.Form.{Form}
-use Rattle.options.specs.declared.Finish.{Finish}
-use Rattle.runner.specs.Program.{takeAll, stateText, recordsMost, outcomeOf, completedText, laidText, takenText, textFrom, textMost}
-use Rattle.runner.proofs.Room.{outcome-works, laid-count, text-fits}
+use Rattle.runner.specs.Program.{takeAll, stateText, recordsMost, completedText, laidText, takenText, textFrom, textMost}
+use Rattle.runner.proofs.Room.{laid-count, text-fits}
 
 -- the text t stands at the start of the list l, which is then m, and p is its length
 abbrev pub Says : List ℕ → List ℕ → ℕ → List ℕ → Type 0
@@ -47,26 +49,26 @@ ended r j g m a g′ answered left = (answered, left ∙ ap (λ (a : CompleteAns
 
 -- after completing, with m bytes for the records
 module _ (form : Form) (finish : Finish) (j g : List ℕ) (n m : ℕ) (room : m ≡ recordsMost) (a : CompleteAnswer) (g′ : List ℕ)
-    (answered : a ≡ finishAnswer (outcomeOf finish j g) j g m)
-    (left : g′ ≡ finishAdjacency a (outcomeOf finish j g) g) where
-  answer : a ≡ finishAnswer (outcomeOf finish j g) j g recordsMost
-  answer = answered ∙ ap (finishAnswer (outcomeOf finish j g) j g) room
+    (answered : a ≡ finishAnswer (outcome finish j g) j g m)
+    (left : g′ ≡ finishAdjacency a (outcome finish j g) g) where
+  answer : a ≡ finishAnswer (outcome finish j g) j g recordsMost
+  answer = answered ∙ ap (finishAnswer (outcome finish j g) j g) room
 
   pub said-refused : (r : Refusal) → a ≡ CompleteRefused r → laidText form finish (LaidOut n) j g ≡ refusedLine r
-  said-refused r h = ap (λ (a : CompleteAnswer). completedText form a n j (finishAdjacency a (outcomeOf finish j g) g)) (sym answer ∙ h)
+  said-refused r h = ap (λ (a : CompleteAnswer). completedText form a n j (finishAdjacency a (outcome finish j g) g)) (sym answer ∙ h)
 
   module _ (joins switches written : ℕ) (h : a ≡ Completed joins switches written) where
-    completed-is : g′ ≡ outcomeOf finish j g .adjacency
-    completed-is = left ∙ ap (λ (a : CompleteAnswer). finishAdjacency a (outcomeOf finish j g) g) h
+    completed-is : g′ ≡ outcome finish j g .adjacency
+    completed-is = left ∙ ap (λ (a : CompleteAnswer). finishAdjacency a (outcome finish j g) g) h
 
     pub said-completed : laidText form finish (LaidOut n) j g ≡ stateText form n switches j g′
     said-completed =
-        ap (λ (a : CompleteAnswer). completedText form a n j (finishAdjacency a (outcomeOf finish j g) g)) (sym answer ∙ h)
+        ap (λ (a : CompleteAnswer). completedText form a n j (finishAdjacency a (outcome finish j g) g)) (sym answer ∙ h)
         ∙ ap (λ (g : List ℕ). stateText form n switches j g) (sym completed-is)
 
     pub completed-laid : (lengthsOk j g′ ≡ true) × (valid j g′ ≡ true) × (phase j ≡ 1)
     completed-laid =
-        let f = completed-facts j g (outcomeOf finish j g) m joins switches written (sym answered ∙ h) .facts in
+        let f = completed-facts j g (outcome finish j g) m joins switches written (sym answered ∙ h) .facts in
         let w = outcome-works finish j g f in
         rw completed-is (w .lengths, w .sound, f .phased)
 

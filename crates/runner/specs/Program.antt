@@ -15,6 +15,7 @@ use Rattle.answer.specs.declared.LayOutAnswer.{LayOutAnswer}
 use Rattle.answer.specs.declared.LayOutAnswer.the-variants.{LaidOut, Refused as LayOutRefused}
 use Rattle.answer.specs.declared.CompleteAnswer.{CompleteAnswer}
 use Rattle.answer.specs.declared.CompleteAnswer.the-variants.{Completed, Refused as CompleteRefused}
+use Rattle.answer.specs.declared.Finish.{Finish}
 use Rattle.table.specs.Block.{blockMost}
 use Rattle.journal.specs.Journal.{mostBlocks, journalSize}
 use Rattle.adjacency.specs.Adjacency.{adjacencySize}
@@ -22,14 +23,12 @@ use Rattle.state.specs.Laid.{vertexCount}
 use Rattle.taking.specs.Take.{takeAnswer, takeJournal}
 use Rattle.laying_out.specs.LayOut.{layOutAnswer, layOutJournal}
 use Rattle.join_records.specs.Record.{joinRecordSize}
-use Rattle.completion.specs.Complete.{Ran, mostEdges, completed, finishAnswer, finishAdjacency}
-use Rattle.shuffling.specs.Shuffle.{shuffled}
+use Rattle.completion.specs.Complete.{mostEdges, finishAnswer, finishAdjacency}
+use Rattle.shuffling.specs.Finish.{outcome}
 use Rattle.listing.specs.List.{listBytes}
 use Rattle.graph6_writing.specs.Write.{writeText}
 use Rattle.options.specs.declared.Form.{Form}
 use Rattle.options.specs.declared.Form.the-variants.{Lines, Graph6}
-use Rattle.options.specs.declared.Finish.{Finish}
-use Rattle.options.specs.declared.Finish.the-variants.{Lowest, Shuffled}
 use Rattle.text.specs.Text.{newline, refusedLine, headLine, edgeLines, headMost, edgeMost}
 
 -- how many blocks the input has: none where it is empty, and the last may be shorter
@@ -75,11 +74,6 @@ stateText form n switches j g = listText form n switches (listBytes (vertexCount
 abbrev pub recordsMost : ℕ
 recordsMost = joinRecordSize * mostEdges
 
--- what completing ends in: the lowest open pair is joined next, or the one that x picks, from this x on
-abbrev pub outcomeOf : Finish → List ℕ → List ℕ → Ran
-outcomeOf Lowest j g = completed j g
-outcomeOf (Shuffled x) j g = shuffled j g x .ran
-
 -- after completing
 abbrev pub completedText : Form → CompleteAnswer → ℕ → List ℕ → List ℕ → List ℕ
 completedText form (Completed joins switches written) n j g = stateText form n switches j g
@@ -88,7 +82,7 @@ completedText form (CompleteRefused r) n j g = refusedLine r
 -- after laying out
 abbrev pub laidText : Form → Finish → LayOutAnswer → List ℕ → List ℕ → List ℕ
 laidText form finish (LaidOut n) j g =
-    let r = outcomeOf finish j g in
+    let r = outcome finish j g in
     let a = finishAnswer r j g recordsMost in
     completedText form a n j (finishAdjacency a r g)
 laidText form finish (LayOutRefused r) j g = refusedLine r

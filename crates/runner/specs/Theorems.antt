@@ -13,6 +13,7 @@ use Rattle.answer.specs.declared.Refusal.{Refusal}
 use Rattle.answer.specs.declared.Verdict.the-variants.{Go}
 use Rattle.answer.specs.declared.LayOutAnswer.the-variants.{LaidOut}
 use Rattle.answer.specs.declared.CompleteAnswer.the-variants.{Completed}
+use Rattle.answer.specs.declared.Finish.{Finish}
 use Rattle.table.specs.Block.{blockMost, blockCell, blockIsolated}
 use Rattle.graph.specs.Tests.{vertices}
 use Rattle.journal.specs.Journal.{journalSize, tableOf}
@@ -20,11 +21,11 @@ use Rattle.adjacency.specs.Adjacency.{adjacencySize, edge}
 use Rattle.laying_out.specs.LayOut.{layOutAnswer, layOutJournal}
 use Rattle.completion.specs.Complete.{finishAnswer}
 use Rattle.graph6.specs.Format.{graph6Text}
+use Rattle.shuffling.specs.Finish.{outcome}
 use Rattle.text.specs.Text.{newline, refusedLine, headLine, edgeLine}
 use Rattle.options.specs.declared.Form.{Form}
 use Rattle.options.specs.declared.Form.the-variants.{Lines, Graph6}
-use Rattle.options.specs.declared.Finish.{Finish}
-use Rattle.runner.specs.Program.{blocksIn, blockIn, takeAll, recordsMost, outcomeOf, programText, inputMost}
+use Rattle.runner.specs.Program.{blocksIn, blockIn, takeAll, recordsMost, programText, inputMost}
 
 -- "cuts them into blocks of 64 bytes (the last may be shorter)": an empty input is no block at all, one of m full blocks is m blocks; no block is
 -- empty, although an empty one would be taken; and the blocks, one behind the other, are the input
@@ -47,7 +48,7 @@ CompletesAlways =
     let a = layOutAnswer (t .journal) g in
     let j = layOutJournal a (t .journal) in
     t .verdict ≡ Go → a ≡ LaidOut n →
-    (joins switches written : ℕ) × (finishAnswer (outcomeOf finish j g) j g recordsMost ≡ Completed joins switches written)
+    (joins switches written : ℕ) × (finishAnswer (outcome finish j g) j g recordsMost ≡ Completed joins switches written)
 
 -- the sum of the input's blocks: in each cell, and of the isolated vertices
 abbrev pub inputTable : List ℕ → DegreeTable

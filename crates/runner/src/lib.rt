@@ -19,10 +19,12 @@ ghost use Rattle.state.specs.Laid.{vertexCount};
 ghost use Rattle.edgelist.specs.EdgeList.{listVerdict};
 ghost use Rattle.graph6_writing.specs.Write.{writeText};
 ghost use Rattle.completion.specs.Complete.{finishAnswer, finishAdjacency};
+ghost use Rattle.shuffling.specs.Finish.{outcome};
 ghost use Rattle.shuffling.specs.Shuffle.{withX};
-ghost use Rattle.runner.specs.Program.{blockIn, takeVerdict, takeAll, listText, stateText, outcomeOf, laidText, takenText, programText, inputMost, textMost};
+ghost use Rattle.runner.specs.Program.{blockIn, takeVerdict, takeAll, listText, stateText, laidText, takenText, programText, inputMost, textMost};
 use adjacency::ADJACENCY_SIZE;
 use answer::CompleteAnswer;
+use answer::Finish;
 use answer::LayOutAnswer;
 use answer::ShuffleAnswer;
 use answer::TakeAnswer;
@@ -33,7 +35,6 @@ use journal::JOURNAL_SIZE;
 use journal::MOST_BLOCKS;
 use layout::MOST_VERTICES;
 use libc::STDOUT_FILENO;
-use options::Finish;
 use options::Form;
 use shuffling::complete_shuffled;
 use slices::least;
@@ -196,12 +197,12 @@ fn finish_by(
     finish: Finish,
     records: &mut [u8],
 ) -> CompleteAnswer
-    ensures { λ r. ⌜ r ≡ finishAnswer (outcomeOf finish (now (journal .entry)) (now (adjacency .entry))) (now (journal .entry)) (now (adjacency .entry)) (length (now (records .entry))) ⌝ }
-    ensures { λ r. ⌜ now (adjacency .exit) ≡ finishAdjacency r (outcomeOf finish (now (journal .entry)) (now (adjacency .entry))) (now (adjacency .entry)) ⌝ }
+    ensures { λ r. ⌜ r ≡ finishAnswer (outcome finish (now (journal .entry)) (now (adjacency .entry))) (now (journal .entry)) (now (adjacency .entry)) (length (now (records .entry))) ⌝ }
+    ensures { λ r. ⌜ now (adjacency .exit) ≡ finishAdjacency r (outcome finish (now (journal .entry)) (now (adjacency .entry))) (now (adjacency .entry)) ⌝ }
 {
     match finish {
         Finish::Lowest => completion::complete(journal, adjacency, records),
-        Finish::Shuffled(x) => without_x(complete_shuffled(journal, adjacency, x, records)),
+        Finish::Picked(x) => without_x(complete_shuffled(journal, adjacency, x, records)),
     }
 }
 

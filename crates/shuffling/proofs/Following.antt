@@ -13,7 +13,7 @@ use lib.Seq.{getD-set-same, getD-set-other}
 use borrow.Author.Tests.{lt-ltb, ne-eqb}
 use Rattle.finite.specs.Range.{bit}
 use Rattle.finite.proofs.Sum.{sumTo-cong}
-use Rattle.answer.specs.Switches.{SwitchBelow, RowApart, Each}
+use Rattle.answer.specs.Inner.Moved.{SwitchBelow, RowApart, Each}
 use Rattle.answer.specs.declared.switches.Switch.{Switch}
 use Rattle.answer.specs.declared.switches.Switches.{Switches}
 use Rattle.answer.specs.declared.switches.Switches.the-variants.{None, One, Two}

@@ -1,19 +1,22 @@
--- Completing by shuffled choice is one way to choose open pairs, so that all that is said of completing by any choice holds of it; and the last x is
--- x after as many steps as joins.
+-- Completing by shuffled choice is one way to choose open pairs, so that all that is said of completing by any choice holds of it, and of both ways of
+-- completing; and the last x is x after as many steps as joins.
 -- Assumes nothing.
 use mathlib.Core.Path.{_≡_, refl, sym, ap, _∙_}
 use mathlib.Core.Bool.{true}
 use mathlib.Core.List.{List}
 use Prim.Native.Nat.{ℕ, _<_}
 use Rattle.finite.proofs.Fold.{foldTo-none, foldTo-more, iterate-keeps}
+use Rattle.answer.specs.declared.Finish.{Finish}
+use Rattle.answer.specs.declared.Finish.the-variants.{Lowest, Picked}
 use Rattle.journal.specs.Journal.{jdmOf}
 use Rattle.state.specs.Laid.{vertexCount, degreeAt}
 use Rattle.completion.specs.Complete.{fresh, mostEdges}
 use Rattle.completion.proofs.Works.{Good, Chooser, finishes-by}
 use Rattle.completion.proofs.Records.{records-length}
-use Rattle.completion.proofs.Entry.{CompleteFacts, CompleteWorks, good-start, finished-works}
+use Rattle.completion.proofs.Entry.{CompleteFacts, CompleteWorks, good-start, finished-works, complete-works}
 use Rattle.shuffling.specs.Choice.{nextX, stepsX, pairV, pairW, position}
 use Rattle.shuffling.specs.Shuffle.{Shuffled, nextShuffled, isShort, shuffled}
+use Rattle.shuffling.specs.Finish.{outcome}
 use Rattle.shuffling.proofs.Picked.{Picked, picked, position-below, passes-open, passes-rising}
 
 module _ (n : ℕ) (cls : ℕ → ℕ) (T : ℕ → ℕ → ℕ) where
@@ -63,3 +66,8 @@ module _ (j g : List ℕ) (x : ℕ) where
       (nextShuffled (vertexCount j) (degreeAt j) (jdmOf j)) mostEdges (record { ran = fresh g; x = x })
       (sym (foldTo-none (λ i. nextX) x))
       (λ s h t. ap nextX h ∙ sym (foldTo-more (λ i. nextX) x (s .ran .joins)))
+
+-- whichever pairs it joins, completing works
+pub outcome-works : (f : Finish) (j g : List ℕ) → CompleteFacts j g → CompleteWorks j g (outcome f j g)
+outcome-works Lowest j g = complete-works j g
+outcome-works (Picked x) j g = shuffled-works j g x

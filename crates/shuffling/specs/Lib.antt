@@ -1,3 +1,4 @@
 pub mod Choice
 pub mod Shuffle
+pub mod Finish
 pub mod Inner

@@ -25,6 +25,7 @@ use Rattle.answer.specs.declared.CompleteAnswer.{CompleteAnswer}
 use Rattle.answer.specs.declared.CompleteAnswer.the-variants as Complete
 use Rattle.answer.specs.declared.WrittenAnswer.{WrittenAnswer}
 use Rattle.answer.specs.declared.WrittenAnswer.the-variants as Write
+use Rattle.answer.specs.declared.Finish.the-variants.{Lowest, Picked}
 use Rattle.finite.specs.Range.{δ, sumTo, allTo, lowFrom, lowest, catTo, iterate}
 use Rattle.graph.specs.Graph.{jdm, edges}
 use Rattle.graph.specs.Tests.{vertices}
@@ -47,7 +48,8 @@ use Rattle.graph6_writing.specs.Write.{writeAnswer, writeOutput}
 use Rattle.graph6_reading.specs.Read.{readAnswer, readOutput}
 use Rattle.completion.specs.Complete.{Ran, completed, finishLaid, finishAdjacency, finishOutput}
 use Rattle.shuffling.specs.Shuffle.{shuffled, withX}
-use Rattle.demands.specs.Calls.{Call, take, layOut, add, remove, complete, readBack, list, figures, survey, writeGraph6, readGraph6, lowestPairs, pickedFrom, outcome, State, cleared, after}
+use Rattle.shuffling.specs.Finish.{outcome}
+use Rattle.demands.specs.Calls.{Call, take, layOut, add, remove, complete, readBack, list, figures, survey, writeGraph6, readGraph6, State, cleared, after}
 use Rattle.demands.specs.Tally.{Tally, noTally, told, tally}
 use Rattle.worked.specs.Cases.{six, nine, answerOf, Step, Case, sameList, edgesOf, holdsFrom, allHold, starred, StarredHold, moved, MovedHold, picked, PickedHold}
 use Rattle.demands.proofs.Reach.{Reach, reach-cleared, after-call}
@@ -79,11 +81,11 @@ answerRest s (take number b) = six (takeNumbers (takeOnValid (s .journal) number
 answerRest s layOut = six (layOutNumbers (layOutRest (s .journal)))
 answerRest s (add v w) = nine (addNumbers (addRest (s .journal) (s .adjacency) v w))
 answerRest s (remove v w) = six (removeNumbers (removeRest (s .journal) (s .adjacency) v w))
-answerRest s (complete lowestPairs out) =
+answerRest s (complete Lowest out) =
     let r = completed (s .journal) (s .adjacency) in
     let a = finishRest r (s .journal) (s .adjacency) (length out) in
     six (completeNumbers a) ++ finishOutput a r out
-answerRest s (complete (pickedFrom x) out) =
+answerRest s (complete (Picked x) out) =
     let r = shuffled (s .journal) (s .adjacency) x in
     let a = finishRest (r .ran) (s .journal) (s .adjacency) (length out) in
     six (shuffleNumbers (withX (r .x) a)) ++ finishOutput a (r .ran) out
@@ -123,8 +125,8 @@ module _ (s : State) (t : Tally) (r : Reach s t) where
   answer-rest layOut = rw checked
   answer-rest (add v w) = rw checked
   answer-rest (remove v w) = rw checked
-  answer-rest (complete lowestPairs out) = rw checked
-  answer-rest (complete (pickedFrom x) out) = rw checked
+  answer-rest (complete Lowest out) = rw checked
+  answer-rest (complete (Picked x) out) = rw checked
   answer-rest (readBack number) = rw checked
   answer-rest (list out) = rw checked
   answer-rest figures = rw checked

@@ -9,6 +9,7 @@ use Prim.Native.Nat.{ℕ}
 use lib.Dec.{eqb}
 use lib.ListN.{length, replicate}
 use Rattle.answer.specs.Numbers.{Numbers, JoinNumbers, done, takeNumbers, layOutNumbers, addNumbers, removeNumbers, completeNumbers, shuffleNumbers, lengthNumbers, writtenNumbers, readNumbers, figuresNumbers}
+use Rattle.answer.specs.declared.Finish.the-variants.{Lowest, Picked}
 use Rattle.state.specs.Laid.{vertexCount}
 use Rattle.taking.specs.Take.{takeAnswer}
 use Rattle.reading_back.specs.Held.{lengthAnswer, heldPart}
@@ -22,7 +23,7 @@ use Rattle.graph6_writing.specs.Write.{writeAnswer, writeOutput}
 use Rattle.graph6_reading.specs.Read.{readAnswer, readOutput}
 use Rattle.completion.specs.Complete.{completeAnswer, completeOutput}
 use Rattle.shuffling.specs.Shuffle.{shuffleAnswer, shuffleOutput}
-use Rattle.demands.specs.Calls.{Call, take, layOut, add, remove, complete, readBack, list, figures, survey, writeGraph6, readGraph6, lowestPairs, pickedFrom, State, cleared, after}
+use Rattle.demands.specs.Calls.{Call, take, layOut, add, remove, complete, readBack, list, figures, survey, writeGraph6, readGraph6, State, cleared, after}
 
 -- answers as lists of numbers
 abbrev pub six : Numbers → List ℕ
@@ -37,10 +38,10 @@ answerOf s (take number b) = six (takeNumbers (takeAnswer (s .journal) (s .adjac
 answerOf s layOut = six (layOutNumbers (layOutAnswer (s .journal) (s .adjacency)))
 answerOf s (add v w) = nine (addNumbers (addAnswer (s .journal) (s .adjacency) v w))
 answerOf s (remove v w) = six (removeNumbers (removeAnswer (s .journal) (s .adjacency) v w))
-answerOf s (complete lowestPairs out) =
+answerOf s (complete Lowest out) =
     let a = completeAnswer (s .journal) (s .adjacency) (length out) in
     six (completeNumbers a) ++ completeOutput a (s .journal) (s .adjacency) out
-answerOf s (complete (pickedFrom x) out) =
+answerOf s (complete (Picked x) out) =
     six (shuffleNumbers (shuffleAnswer (s .journal) (s .adjacency) x (length out))) ++ shuffleOutput (s .journal) (s .adjacency) x out
 answerOf s (readBack number) =
     let a = lengthAnswer (s .journal) (s .adjacency) number in
@@ -157,21 +158,21 @@ rec k l n rest = k ∷ l ∷ n ∷ 0 ∷ rest
 -- the ten starred lines, in document 01's order
 abbrev pub starred : List Case
 starred =
-    record { steps = layOut gives laidOut 0 ∷ complete lowestPairs [] gives finished 0 0 0 [] ∷ []; edges = [] }
+    record { steps = layOut gives laidOut 0 ∷ complete Lowest [] gives finished 0 0 0 [] ∷ []; edges = [] }
     ∷ record {
-      steps = take 0 (rec 1 1 2 []) gives taken 1 ∷ layOut gives laidOut 2 ∷ complete lowestPairs (sevens 8) gives finished 1 0 8 (join 0 1 []) ∷ [];
+      steps = take 0 (rec 1 1 2 []) gives taken 1 ∷ layOut gives laidOut 2 ∷ complete Lowest (sevens 8) gives finished 1 0 8 (join 0 1 []) ∷ [];
       edges = 0 ∷ 1 ∷ [];
     }
     ∷ record {
       steps =
           take 0 (rec 1 3 1 (rec 2 2 2 (rec 2 3 2 []))) gives taken 1 ∷ layOut gives laidOut 4
-          ∷ complete lowestPairs (sevens 32) gives finished 4 0 32 (join 0 3 (join 1 2 (join 1 3 (join 2 3 [])))) ∷ [];
+          ∷ complete Lowest (sevens 32) gives finished 4 0 32 (join 0 3 (join 1 2 (join 1 3 (join 2 3 [])))) ∷ [];
       edges = 0 ∷ 3 ∷ 1 ∷ 2 ∷ 1 ∷ 3 ∷ 2 ∷ 3 ∷ [];
     }
     ∷ record {
       steps =
           take 0 (rec 2 2 8 []) gives taken 1 ∷ layOut gives laidOut 4
-          ∷ complete lowestPairs (sevens 33) gives finished 4 2 32 (join 0 1 (join 0 2 (joinBy 0 3 0 1 2 (joinBy 0 2 0 3 1 (7 ∷ []))))) ∷ [];
+          ∷ complete Lowest (sevens 33) gives finished 4 2 32 (join 0 1 (join 0 2 (joinBy 0 3 0 1 2 (joinBy 0 2 0 3 1 (7 ∷ []))))) ∷ [];
       edges = 0 ∷ 2 ∷ 0 ∷ 3 ∷ 1 ∷ 2 ∷ 1 ∷ 3 ∷ [];
     }
     ∷ record {
@@ -186,13 +187,13 @@ starred =
     ∷ record {
       steps =
           take 0 (rec 2 2 6 []) gives taken 1 ∷ layOut gives laidOut 3
-          ∷ complete lowestPairs (sevens 24) gives finished 3 0 24 (join 0 1 (join 0 2 (join 1 2 []))) ∷ [];
+          ∷ complete Lowest (sevens 24) gives finished 3 0 24 (join 0 1 (join 0 2 (join 1 2 []))) ∷ [];
       edges = 0 ∷ 1 ∷ 0 ∷ 2 ∷ 1 ∷ 2 ∷ [];
     }
     ∷ record {
       steps =
           take 0 (rec 2 3 6 []) gives taken 1 ∷ layOut gives laidOut 5
-          ∷ complete lowestPairs (sevens 48) gives finished 6 0 48 (join 0 3 (join 0 4 (join 1 3 (join 1 4 (join 2 3 (join 2 4 [])))))) ∷ [];
+          ∷ complete Lowest (sevens 48) gives finished 6 0 48 (join 0 3 (join 0 4 (join 1 3 (join 1 4 (join 2 3 (join 2 4 [])))))) ∷ [];
       edges = 0 ∷ 3 ∷ 0 ∷ 4 ∷ 1 ∷ 3 ∷ 1 ∷ 4 ∷ 2 ∷ 3 ∷ 2 ∷ 4 ∷ [];
     }
     ∷ []
@@ -214,17 +215,17 @@ moved =
     -- the same joins by completing: 3 before 18, 18 for a byte too few, with every byte as it was; what is behind the records stays
     ∷ record {
       steps =
-          take 0 (rec 1 1 6 []) gives taken 1 ∷ complete lowestPairs [] gives no 3 0 0 ∷ layOut gives laidOut 6
-          ∷ complete lowestPairs (sevens 23) gives noInto 18 (sevens 23)
-          ∷ complete lowestPairs (sevens 25) gives finished 3 3 24 (join 0 1 (joinBy 0 2 0 3 1 (joinByTwo 0 1 0 4 2 1 5 3 (7 ∷ [])))) ∷ [];
+          take 0 (rec 1 1 6 []) gives taken 1 ∷ complete Lowest [] gives no 3 0 0 ∷ layOut gives laidOut 6
+          ∷ complete Lowest (sevens 23) gives noInto 18 (sevens 23)
+          ∷ complete Lowest (sevens 25) gives finished 3 3 24 (join 0 1 (joinBy 0 2 0 3 1 (joinByTwo 0 1 0 4 2 1 5 3 (7 ∷ [])))) ∷ [];
       edges = 0 ∷ 1 ∷ 2 ∷ 4 ∷ 3 ∷ 5 ∷ [];
     }
     -- room for the missing edges is enough, and none is needed where none is missing
     ∷ record {
       steps =
           take 0 (rec 1 1 4 []) gives taken 1 ∷ layOut gives laidOut 4 ∷ add 0 1 gives joined
-          ∷ complete lowestPairs (sevens 7) gives noInto 18 (sevens 7) ∷ complete lowestPairs (sevens 8) gives finished 1 1 8 (joinBy 0 2 0 3 1 [])
-          ∷ complete lowestPairs [] gives finished 0 0 0 [] ∷ complete lowestPairs (sevens 1) gives finished 0 0 0 (sevens 1) ∷ [];
+          ∷ complete Lowest (sevens 7) gives noInto 18 (sevens 7) ∷ complete Lowest (sevens 8) gives finished 1 1 8 (joinBy 0 2 0 3 1 [])
+          ∷ complete Lowest [] gives finished 0 0 0 [] ∷ complete Lowest (sevens 1) gives finished 0 0 0 (sevens 1) ∷ [];
       edges = 0 ∷ 2 ∷ 1 ∷ 3 ∷ [];
     }
     ∷ []
@@ -239,8 +240,8 @@ picked =
     record {
       steps =
           take 0 (rec 2 2 8 []) gives taken 1 ∷ layOut gives laidOut 4
-          ∷ complete (pickedFrom 0) (sevens 31) gives noInto 18 (sevens 31)
-          ∷ complete (pickedFrom 0) (sevens 33) gives finishedAt 4 1 32 2868466484 (join 0 3 (join 0 2 (joinBy 0 1 0 2 3 (join 1 3 (7 ∷ []))))) ∷ [];
+          ∷ complete (Picked 0) (sevens 31) gives noInto 18 (sevens 31)
+          ∷ complete (Picked 0) (sevens 33) gives finishedAt 4 1 32 2868466484 (join 0 3 (join 0 2 (joinBy 0 1 0 2 3 (join 1 3 (7 ∷ []))))) ∷ [];
       edges = 0 ∷ 1 ∷ 0 ∷ 2 ∷ 1 ∷ 3 ∷ 2 ∷ 3 ∷ [];
     }
     ∷ []

@@ -4,7 +4,7 @@ use mathlib.Core.List.{List}
 use Prim.Native.Nat.{ℕ, _+_, _-_, _*_, _<_, min}
 use lib.ListN.{getD, set}
 use Rattle.finite.specs.Range.{foldTo}
-use Rattle.answer.specs.Switches.{SwitchBelow, Each}
+use Rattle.answer.specs.Inner.Moved.{SwitchBelow, Each}
 use Rattle.answer.specs.declared.switches.Switch.{Switch}
 use Rattle.answer.specs.declared.switches.Switches.{Switches}
 use Rattle.answer.specs.declared.switches.Switches.the-variants.{None, One, Two}
