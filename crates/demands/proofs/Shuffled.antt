@@ -1,23 +1,32 @@
 -- Shuffled finishing (specs/Shuffled.antt): the laws of every finish at the one that x picks, and the last x.
 -- Assumes nothing.
-use mathlib.Core.Path.{_≡_, refl, ap, _∙_}
+use mathlib.Core.Path.{_≡_, refl, sym, ap, ap₂, _∙_}
 use mathlib.Core.Bool.{true}
 use mathlib.Core.List.{List}
-use Prim.Native.Nat.{ℕ, _*_, _≤_}
-use lib.ListN.{length}
+use Prim.Native.Nat.{ℕ, _*_, _≤_, _<_}
+use native.Mathlib.Omega.{arith}
+use lib.ListN.{length, take}
+use Rattle.finite.proofs.Fold.{foldTo-none}
+use Rattle.answer.specs.declared.CompleteAnswer.{CompleteAnswer}
 use Rattle.answer.specs.declared.CompleteAnswer.the-variants as Complete
 use Rattle.answer.specs.declared.ShuffleAnswer.the-variants.{Completed}
 use Rattle.answer.specs.declared.Finish.the-variants.{Picked}
-use Rattle.journal.specs.Journal.{phase}
+use Rattle.graph.specs.Tests.{leastDegree, degrees}
+use Rattle.journal.specs.Journal.{phase, jdmOf, tableOf}
 use Rattle.state.specs.Valid.{lengthsOk, valid}
-use Rattle.completion.specs.Complete.{Ran, missing, finishAnswer}
+use Rattle.state.specs.Laid.{cellAt}
+use Rattle.completion.specs.Complete.{Ran, fresh, missing, finishAnswer, finishAdjacency, finishOutput}
 use Rattle.completion.proofs.Entry.{CompleteFacts}
-use Rattle.shuffling.specs.Shuffle.{shuffled, withX}
+use Rattle.shuffling.specs.Choice.{nextX, stepsX}
+use Rattle.shuffling.specs.Shuffle.{shuffled, withX, shuffleOutput}
 use Rattle.shuffling.proofs.Answers.{with-x-refused}
 use Rattle.shuffling.proofs.Works.{shuffled-last, outcome-works}
 use Rattle.demands.specs.Calls.{State}
-use Rattle.demands.specs.Shuffled.{Shuffles, ShuffledFinishing}
-use Rattle.demands.proofs.Finishes.{outcome-answer, finish-has}
+use Rattle.demands.specs.Shuffled.{Shuffles, LeftAlone, ShuffledFinishing}
+use Rattle.demands.specs.Matrix.{Short}
+use Rattle.demands.specs.Playback.{play}
+use Rattle.demands.proofs.Finishes.{outcome-answer, full-outcome, full-answer, finish-has}
+use Rattle.demands.proofs.Playback.{playback}
 
 shuffles : (s : State) (x : ℕ) (out : List ℕ) → lengthsOk (s .journal) (s .adjacency) ≡ true → valid (s .journal) (s .adjacency) ≡ true
     → phase (s .journal) ≡ 1 → 8 * missing (s .journal) (s .adjacency) ≤ length out → Shuffles s x out
@@ -28,8 +37,12 @@ shuffles s x out lengths sound phased room =
       answer =
           ap (withX (shuffled (s .journal) (s .adjacency) x .x)) answered
           ∙ ap (Completed (r .joins) (r .switches) (8 * r .joins)) (shuffled-last (s .journal) (s .adjacency) x);
-      made = outcome-works (Picked x) (s .journal) (s .adjacency) checked .made;
+      made = made;
       has-table = finish-has s (Picked x) out (r .joins) (r .switches) (8 * r .joins) checked answered;
+      played =
+          let p = playback .completing (Picked x) (s .journal) (s .adjacency) out lengths sound phased room in
+          let e : p .joins ≡ r .joins = omega (arith, p .made, made) in
+          ap (λ (m : ℕ). play (take (8 * m) (shuffleOutput (s .journal) (s .adjacency) x out)) (s .adjacency)) (sym e) ∙ p .played;
     }
   where
     checked : CompleteFacts (s .journal) (s .adjacency)
@@ -38,13 +51,40 @@ shuffles s x out lengths sound phased room =
     r : Ran
     r = shuffled (s .journal) (s .adjacency) x .ran
 
+    made : shuffled (s .journal) (s .adjacency) x .ran .joins ≡ missing (s .journal) (s .adjacency)
+    made = outcome-works (Picked x) (s .journal) (s .adjacency) checked .made
+
     answered : finishAnswer r (s .journal) (s .adjacency) (length out) ≡ Complete.Completed (r .joins) (r .switches) (8 * r .joins)
     answered = outcome-answer (s .journal) (s .adjacency) (Picked x) checked (length out) room
+
+left-alone : (s : State) (x : ℕ) (out : List ℕ) → lengthsOk (s .journal) (s .adjacency) ≡ true → valid (s .journal) (s .adjacency) ≡ true
+    → phase (s .journal) ≡ 1 → ((k l : ℕ) → Short (tableOf (s .journal)) s k l → ⊥) → LeftAlone s x out
+left-alone s x out lengths sound phased none =
+    record {
+      answer =
+          ap (withX (shuffled (s .journal) (s .adjacency) x .x)) answered
+          ∙ ap (Completed 0 0 0) (shuffled-last (s .journal) (s .adjacency) x ∙ ap (λ (m : ℕ). stepsX m x) (ap (λ (r : Ran). r .joins) ended) ∙ foldTo-none (λ i. nextX) x);
+      same-matrix = ap₂ (λ (a : CompleteAnswer) (r : Ran). finishAdjacency a r (s .adjacency)) answered ended;
+      same-output = ap₂ (λ (a : CompleteAnswer) (r : Ran). finishOutput a r out) answered ended;
+    }
+  where
+    checked : CompleteFacts (s .journal) (s .adjacency)
+    checked = record { lengths = lengths; sound = sound; phased = phased }
+
+    full : (k l : ℕ) → leastDegree ≤ k → k < degrees → k ≤ l → l < degrees → jdmOf (s .journal) k l ≤ cellAt (s .journal) (s .adjacency) k l
+    full k l a b c d = omega (arith, none k l)
+
+    ended : shuffled (s .journal) (s .adjacency) x .ran ≡ fresh (s .adjacency)
+    ended = full-outcome (s .journal) (s .adjacency) (Picked x) checked full
+
+    answered : finishAnswer (shuffled (s .journal) (s .adjacency) x .ran) (s .journal) (s .adjacency) (length out) ≡ Complete.Completed 0 0 0
+    answered = full-answer (s .journal) (s .adjacency) (Picked x) checked full (length out)
 
 pub shuffled-finishing : ShuffledFinishing
 shuffled-finishing =
     record {
       shuffles = shuffles;
+      complete-already = left-alone;
       refused = λ s x out q e. with-x-refused (shuffled (s .journal) (s .adjacency) x .x) _ q e;
       same-matrix = λ s x out. refl;
     }

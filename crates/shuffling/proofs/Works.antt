@@ -7,7 +7,7 @@ use mathlib.Core.List.{List}
 use Prim.Native.Nat.{ℕ, _<_}
 use Rattle.finite.proofs.Fold.{foldTo-none, foldTo-more, iterate-keeps}
 use Rattle.answer.specs.declared.Finish.{Finish}
-use Rattle.answer.specs.declared.Finish.the-variants.{Lowest, Picked}
+use Rattle.answer.specs.declared.Finish.the-variants.{Lowest, Picked as PickedFrom}
 use Rattle.journal.specs.Journal.{jdmOf}
 use Rattle.state.specs.Laid.{vertexCount, degreeAt}
 use Rattle.completion.specs.Complete.{fresh, mostEdges}
@@ -70,4 +70,4 @@ module _ (j g : List ℕ) (x : ℕ) where
 -- whichever pairs it joins, completing works
 pub outcome-works : (f : Finish) (j g : List ℕ) → CompleteFacts j g → CompleteWorks j g (outcome f j g)
 outcome-works Lowest j g = complete-works j g
-outcome-works (Picked x) j g = shuffled-works j g x
+outcome-works (PickedFrom x) j g = shuffled-works j g x
