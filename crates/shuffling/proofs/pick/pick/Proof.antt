@@ -1,9 +1,12 @@
 -- `shuffling::pick::pick` meets its contract.
 -- Assumes nothing.
-use mathlib.Core.Path.{ap₂, _∙_}
+use mathlib.Core.Path.{ap, ap₂, _∙_}
 use Prim.Native.Nat.{ℕ, _/_, _%_}
 use native.Mathlib.Nat.{mod-lt}
 use native.Mathlib.Omega.{arith}
+use Rattle.table.specs.Inner.Cells.{matrixOf}
+use Rattle.classes.specs.Inner.Block.{classFrom}
+use Rattle.shuffling.specs.Choice.{pairV, pairW}
 use Rattle.shuffling.proofs.Seeking.{total-count, row-below, row-free, seek-row, seek-column}
 use Rattle.shuffling.proofs.pick.pick.Statement.{statement}
 use Rattle.shuffling.proofs.pick.pick.Tie as tie
@@ -42,7 +45,12 @@ pick-spec =
     let f = m .before .before .before in
     let picks = ap₂ (λ (a b : ℕ). a / 65536 % b) (x .wide32 .ensures .0) (m .total .ensures ∙ total-count (f .pre .0) (f .pre .1)) in
     let column = rw (k .wide .ensures .0) at (c .column-at .ensures) in
-    rw (← picks) (
-      seek-row (f .pre .0) (f .pre .1) _ _ _ (r .row-at .ensures .1) (r .row-at .ensures .2) _ (column .0) (column .1) (column .2) (column .3),
-      seek-column (f .pre .0) (f .pre .1) _ _ _ (r .row-at .ensures .1) (r .row-at .ensures .2) _ (column .0) (column .1) (column .2) (column .3),
+    let n = f .args .n in
+    let cls = classFrom (f .args .starts .now) in
+    let T = matrixOf (f .args .cells .now) in
+    let g = f .args .adjacency .now in (
+      seek-row (f .pre .0) (f .pre .1) _ _ _ (r .row-at .ensures .1) (r .row-at .ensures .2) _ (column .0) (column .1) (column .2) (column .3)
+          ∙ ap (λ (q : ℕ). pairV n cls T g q) picks,
+      seek-column (f .pre .0) (f .pre .1) _ _ _ (r .row-at .ensures .1) (r .row-at .ensures .2) _ (column .0) (column .1) (column .2) (column .3)
+          ∙ ap (λ (q : ℕ). pairW n cls T g q (r .row-at .result .at)) picks,
     )))  -- returns
