@@ -8,8 +8,8 @@ use Rattle.answer.specs.declared.LengthAnswer.the-variants.{Length}
 use Rattle.journal.specs.Journal.{mostBlocks}
 use Rattle.journal.proofs.Facts.{journal-facts}
 use Rattle.state.proofs.Facts.{valid-journal}
-use Rattle.reading_back.specs.Held.{lengthAnswer}
-use Rattle.reading_back.proofs.Held.{length-facts}
+use Rattle.held_block.specs.Held.{lengthAnswer}
+use Rattle.held_block.proofs.Held.{length-facts}
 
 pub held-low : (j g : List ℕ) (number n : ℕ) → lengthAnswer j g number ≡ Length n → number < mostBlocks
 held-low j g number n e =

@@ -2,19 +2,19 @@
 ghost use mathlib.Core.Path.{_≡_};
 ghost use lib.ListN.{length};
 ghost use Rattle.answer.specs.Numbers.{clearNumbers, takeNumbers, layOutNumbers, figuresNumbers, addNumbers, removeNumbers, completeNumbers, shuffleNumbers, writtenNumbers, readNumbers};
-ghost use Rattle.clearing.specs.Clear.{clearAnswer, clearBytes};
-ghost use Rattle.taking.specs.Take.{takeAnswer, takeJournal};
-ghost use Rattle.reading_back.specs.Held.{lengthAnswer};
-ghost use Rattle.laying_out.specs.LayOut.{layOutAnswer, layOutJournal};
+ghost use Rattle.clear.specs.Clear.{clearAnswer, clearBytes};
+ghost use Rattle.take_block.specs.Take.{takeAnswer, takeJournal};
+ghost use Rattle.held_block.specs.Held.{lengthAnswer};
+ghost use Rattle.lay_out.specs.LayOut.{layOutAnswer, layOutJournal};
 ghost use Rattle.figures.specs.Figures.{figuresAnswer};
-ghost use Rattle.adding.specs.Add.{addAnswer, addAdjacency};
-ghost use Rattle.removing.specs.Remove.{removeAnswer, removeAdjacency};
-ghost use Rattle.listing.specs.List.{listAnswer, listOutput};
-ghost use Rattle.survey.specs.Survey.{surveyAnswer, surveyOutput};
-ghost use Rattle.graph6_writing.specs.Write.{writeAnswer, writeOutput};
-ghost use Rattle.graph6_reading.specs.Read.{readAnswer, readOutput};
-ghost use Rattle.completion.specs.Complete.{completeAnswer, completeAdjacency, completeOutput};
-ghost use Rattle.shuffling.specs.Shuffle.{shuffleAnswer, shuffleAdjacency, shuffleOutput};
+ghost use Rattle.add_edge.specs.Add.{addAnswer, addAdjacency};
+ghost use Rattle.remove_edge.specs.Remove.{removeAnswer, removeAdjacency};
+ghost use Rattle.edge_list.specs.List.{listAnswer, listOutput};
+ghost use Rattle.jdm_of_edges.specs.Survey.{surveyAnswer, surveyOutput};
+ghost use Rattle.graph6_write.specs.Write.{writeAnswer, writeOutput};
+ghost use Rattle.graph6_read.specs.Read.{readAnswer, readOutput};
+ghost use Rattle.complete.specs.Complete.{completeAnswer, completeAdjacency, completeOutput};
+ghost use Rattle.complete_shuffled.specs.Shuffle.{shuffleAnswer, shuffleAdjacency, shuffleOutput};
 ghost use Rattle.numbers.specs.Flat.{flat, flatJoin, heldNumbers};
 use numbers::ReplicaAnswer;
 use numbers::ReplicaJoin;
@@ -25,7 +25,7 @@ pub extern "C" fn replica_clear(journal: &mut [u8], adjacency: &mut [u8]) -> Rep
     ensures { λ _. ⌜ now (journal .exit) ≡ clearBytes (clearAnswer (now (journal .entry)) (now (adjacency .entry))) (now (journal .entry)) ⌝ }
     ensures { λ _. ⌜ now (adjacency .exit) ≡ clearBytes (clearAnswer (now (journal .entry)) (now (adjacency .entry))) (now (adjacency .entry)) ⌝ }
 {
-    numbers::of_clear(clearing::clear(journal, adjacency))
+    numbers::of_clear(clear::clear(journal, adjacency))
 }
 
 #[no_mangle]
@@ -38,7 +38,7 @@ pub extern "C" fn replica_take_block(
     ensures { λ r. ⌜ r ≡ flat (takeNumbers (takeAnswer (now (journal .entry)) (now (adjacency .entry)) number (now (block .entry)))) ⌝ }
     ensures { λ _. ⌜ now (journal .exit) ≡ takeJournal (takeAnswer (now (journal .entry)) (now (adjacency .entry)) number (now (block .entry))) (now (journal .entry)) (now (block .entry)) ⌝ }
 {
-    numbers::of_take(taking::take_block(journal, adjacency, number, block))
+    numbers::of_take(take_block::take_block(journal, adjacency, number, block))
 }
 
 #[no_mangle]
@@ -51,7 +51,7 @@ pub extern "C" fn replica_held_block(
 {
     numbers::of_held(
         number,
-        reading_back::held_block_length(journal, adjacency, number),
+        held_block::held_block_length(journal, adjacency, number),
     )
 }
 
@@ -60,7 +60,7 @@ pub extern "C" fn replica_lay_out(journal: &mut [u8], adjacency: &[u8]) -> Repli
     ensures { λ r. ⌜ r ≡ flat (layOutNumbers (layOutAnswer (now (journal .entry)) (now (adjacency .entry)))) ⌝ }
     ensures { λ _. ⌜ now (journal .exit) ≡ layOutJournal (layOutAnswer (now (journal .entry)) (now (adjacency .entry))) (now (journal .entry)) ⌝ }
 {
-    numbers::of_lay_out(laying_out::lay_out(journal, adjacency))
+    numbers::of_lay_out(lay_out::lay_out(journal, adjacency))
 }
 
 #[no_mangle]
@@ -73,7 +73,7 @@ pub extern "C" fn replica_add_edge(
     ensures { λ r. ⌜ r ≡ flatJoin (addNumbers (addAnswer (now (journal .entry)) (now (adjacency .entry)) v w)) ⌝ }
     ensures { λ _. ⌜ now (adjacency .exit) ≡ addAdjacency (addAnswer (now (journal .entry)) (now (adjacency .entry)) v w) (now (journal .entry)) (now (adjacency .entry)) v w ⌝ }
 {
-    numbers::of_add(adding::add_edge(journal, adjacency, v, w))
+    numbers::of_add(add_edge::add_edge(journal, adjacency, v, w))
 }
 
 #[no_mangle]
@@ -86,7 +86,7 @@ pub extern "C" fn replica_remove_edge(
     ensures { λ r. ⌜ r ≡ flat (removeNumbers (removeAnswer (now (journal .entry)) (now (adjacency .entry)) v w)) ⌝ }
     ensures { λ _. ⌜ now (adjacency .exit) ≡ removeAdjacency (removeAnswer (now (journal .entry)) (now (adjacency .entry)) v w) (now (adjacency .entry)) v w ⌝ }
 {
-    numbers::of_remove(removing::remove_edge(journal, adjacency, v, w))
+    numbers::of_remove(remove_edge::remove_edge(journal, adjacency, v, w))
 }
 
 #[no_mangle]
@@ -99,7 +99,7 @@ pub extern "C" fn replica_complete(
     ensures { λ _. ⌜ now (adjacency .exit) ≡ completeAdjacency (completeAnswer (now (journal .entry)) (now (adjacency .entry)) (length (now (output .entry)))) (now (journal .entry)) (now (adjacency .entry)) ⌝ }
     ensures { λ _. ⌜ now (output .exit) ≡ completeOutput (completeAnswer (now (journal .entry)) (now (adjacency .entry)) (length (now (output .entry)))) (now (journal .entry)) (now (adjacency .entry)) (now (output .entry)) ⌝ }
 {
-    numbers::of_complete(completion::complete(journal, adjacency, output))
+    numbers::of_complete(complete::complete(journal, adjacency, output))
 }
 
 #[no_mangle]
@@ -113,7 +113,7 @@ pub extern "C" fn replica_complete_shuffled(
     ensures { λ _. ⌜ now (adjacency .exit) ≡ shuffleAdjacency (now (journal .entry)) (now (adjacency .entry)) x (length (now (output .entry))) ⌝ }
     ensures { λ _. ⌜ now (output .exit) ≡ shuffleOutput (now (journal .entry)) (now (adjacency .entry)) x (now (output .entry)) ⌝ }
 {
-    numbers::of_shuffle(shuffling::complete_shuffled(journal, adjacency, x, output))
+    numbers::of_shuffle(complete_shuffled::complete_shuffled(journal, adjacency, x, output))
 }
 
 #[no_mangle]
@@ -125,7 +125,7 @@ pub extern "C" fn replica_edge_list(
     ensures { λ r. ⌜ r ≡ flat (writtenNumbers (listAnswer (now (journal .entry)) (now (adjacency .entry)) (length (now (output .entry))))) ⌝ }
     ensures { λ _. ⌜ now (output .exit) ≡ listOutput (listAnswer (now (journal .entry)) (now (adjacency .entry)) (length (now (output .entry)))) (now (journal .entry)) (now (adjacency .entry)) (now (output .entry)) ⌝ }
 {
-    numbers::of_written(listing::edge_list(journal, adjacency, output))
+    numbers::of_written(edge_list::edge_list(journal, adjacency, output))
 }
 
 #[no_mangle]
@@ -137,7 +137,7 @@ pub extern "C" fn replica_jdm_of_edges(
     ensures { λ r. ⌜ r ≡ flat (writtenNumbers (surveyAnswer (now (edges .entry)) total (length (now (output .entry))))) ⌝ }
     ensures { λ _. ⌜ now (output .exit) ≡ surveyOutput (surveyAnswer (now (edges .entry)) total (length (now (output .entry)))) (now (edges .entry)) total (now (output .entry)) ⌝ }
 {
-    numbers::of_written(survey::jdm_of_edges(edges, total, output))
+    numbers::of_written(jdm_of_edges::jdm_of_edges(edges, total, output))
 }
 
 #[no_mangle]
@@ -149,7 +149,7 @@ pub extern "C" fn replica_graph6_write(
     ensures { λ r. ⌜ r ≡ flat (writtenNumbers (writeAnswer (now (edges .entry)) total (length (now (output .entry))))) ⌝ }
     ensures { λ _. ⌜ now (output .exit) ≡ writeOutput (writeAnswer (now (edges .entry)) total (length (now (output .entry)))) (now (edges .entry)) total (now (output .entry)) ⌝ }
 {
-    numbers::of_written(graph6_writing::graph6_write(edges, total, output))
+    numbers::of_written(graph6_write::graph6_write(edges, total, output))
 }
 
 #[no_mangle]
@@ -157,7 +157,7 @@ pub extern "C" fn replica_graph6_read(text: &[u8], output: &mut [u8]) -> Replica
     ensures { λ r. ⌜ r ≡ flat (readNumbers (readAnswer (now (text .entry)) (length (now (output .entry))))) ⌝ }
     ensures { λ _. ⌜ now (output .exit) ≡ readOutput (readAnswer (now (text .entry)) (length (now (output .entry)))) (now (text .entry)) (now (output .entry)) ⌝ }
 {
-    numbers::of_read(graph6_reading::graph6_read(text, output))
+    numbers::of_read(graph6_read::graph6_read(text, output))
 }
 
 #[no_mangle]

@@ -2,11 +2,11 @@
 use adjacency::ADJACENCY_SIZE;
 use answer::LengthAnswer;
 use journal::JOURNAL_SIZE;
-use laying_out::lay_out;
+use lay_out::lay_out;
 use libc::STDOUT_FILENO;
-use reading_back::held_block;
-use reading_back::held_block_length;
-use taking::take_block;
+use held_block::held_block;
+use held_block::held_block_length;
+use take_block::take_block;
 
 // An empty part is a block of no bytes, or there is none: the companion tells.
 fn tell_empty(journal: &[u8], adjacency: &[u8], number: usize) {

@@ -41,7 +41,7 @@ use Rattle.journal.specs.Journal.{mostBlocks, phase, blocks, sameBlock}
 use Rattle.state.specs.Checks.{stateVerdict, phaseVerdict}
 use Rattle.state.specs.Valid.{lengthsOk, valid}
 use Rattle.edgelist.specs.EdgeList.{listed, firstBadEdge, listVerdict}
-use Rattle.taking.specs.Take.{takeNumbered}
+use Rattle.take_block.specs.Take.{takeNumbered}
 use Rattle.demands.specs.Demand1.{oneOf, Numbered}
 
 -- What is claimed of an answer: a refusal's number is one of these; of a written length, that it is n and fits m bytes.

@@ -39,25 +39,25 @@ use Rattle.state.specs.Checks.{stateVerdict, phaseVerdict}
 use Rattle.state.specs.Valid.{lengthsOk}
 use Rattle.state.specs.Laid.{vertexCount, degreeAt, isShort}
 use Rattle.joining.specs.Join.{joinSwitches}
-use Rattle.clearing.specs.Clear.{clearBytes}
-use Rattle.taking.specs.Take.{takeOnValid, takeJournal}
-use Rattle.reading_back.specs.Held.{heldPart}
-use Rattle.laying_out.specs.LayOut.{layOutJournal}
-use Rattle.adding.specs.Add.{addLaid, addAdjacency}
-use Rattle.removing.specs.Remove.{removeLaid, removeAdjacency}
-use Rattle.listing.specs.List.{listBytes, listLaid, listAnswer, listOutput}
+use Rattle.clear.specs.Clear.{clearBytes}
+use Rattle.take_block.specs.Take.{takeOnValid, takeJournal}
+use Rattle.held_block.specs.Held.{heldPart}
+use Rattle.lay_out.specs.LayOut.{layOutJournal}
+use Rattle.add_edge.specs.Add.{addLaid, addAdjacency}
+use Rattle.remove_edge.specs.Remove.{removeLaid, removeAdjacency}
+use Rattle.edge_list.specs.List.{listBytes, listLaid, listAnswer, listOutput}
 use Rattle.edgelist.specs.EdgeList.{listVerdict}
-use Rattle.survey.specs.Survey.{firstAbove, surveyRecords, surveyListed, surveyAnswer, surveyOutput}
+use Rattle.jdm_of_edges.specs.Survey.{firstAbove, surveyRecords, surveyListed, surveyAnswer, surveyOutput}
 use Rattle.graph6.specs.Format.{sizeOf, tooLarge, wellFormed}
-use Rattle.graph6_writing.specs.Write.{writeText, writeListed, writeAnswer, writeOutput}
-use Rattle.graph6_reading.specs.Read.{readList, readAnswer, readOutput}
+use Rattle.graph6_write.specs.Write.{writeText, writeListed, writeAnswer, writeOutput}
+use Rattle.graph6_read.specs.Read.{readList, readAnswer, readOutput}
 use Rattle.join_records.specs.Record.{joinRecordSize}
-use Rattle.completion.specs.Complete.{Ran, completed, missing, finishLaid, finishAnswer, finishAdjacency, finishOutput}
-use Rattle.completion.proofs.Entry.{completed-facts}
-use Rattle.shuffling.specs.Shuffle.{shuffled}
-use Rattle.shuffling.proofs.Answers.{with-x-refused, with-x-completed}
-use Rattle.shuffling.specs.Finish.{outcome}
-use Rattle.shuffling.proofs.Works.{outcome-works}
+use Rattle.complete.specs.Complete.{Ran, completed, missing, finishLaid, finishAnswer, finishAdjacency, finishOutput}
+use Rattle.complete.proofs.Entry.{completed-facts}
+use Rattle.complete_shuffled.specs.Shuffle.{shuffled}
+use Rattle.complete_shuffled.proofs.Answers.{with-x-refused, with-x-completed}
+use Rattle.complete_shuffled.specs.Finish.{outcome}
+use Rattle.complete_shuffled.proofs.Works.{outcome-works}
 use Rattle.demands.specs.Demand1.{oneOf, Numbered, SamePast, Demand1}
 use Rattle.demands.proofs.Chains.{OfClear, OfTake, OfLength, OfLayOut, OfFigures, OfAdd, OfRemove, OfComplete, OfWritten, OfRead, behind, state-numbers, phase-numbers, layout-numbers, clear-chain, takeLater, later-numbers, take-chain, length-chain, add-chain, remove-chain, complete-chain, fits-chain, list-numbers, survey-chain, read-chain}
 

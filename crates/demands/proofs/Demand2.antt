@@ -33,15 +33,15 @@ use Rattle.adjacency.specs.Adjacency.{edge}
 use Rattle.state.specs.Valid.{lengthsOk, valid}
 use Rattle.state.specs.Laid.{vertexCount, degreeAt}
 use Rattle.state.proofs.Facts.{StateFacts, Laid, valid-facts}
-use Rattle.taking.specs.Take.{takeAnswer}
-use Rattle.taking.proofs.Take.{isTaken, taken-facts, held-facts, take-taken}
-use Rattle.laying_out.proofs.LayOut.{lay-out-laid-out}
-use Rattle.adding.specs.Add.{addAnswer, addAdjacency}
-use Rattle.removing.specs.Remove.{removeAnswer, removeAdjacency}
-use Rattle.completion.specs.Complete.{Ran, finishAnswer, finishAdjacency}
-use Rattle.completion.proofs.Entry.{completed-facts}
-use Rattle.shuffling.specs.Finish.{outcome}
-use Rattle.shuffling.proofs.Works.{outcome-works}
+use Rattle.take_block.specs.Take.{takeAnswer}
+use Rattle.take_block.proofs.Take.{isTaken, taken-facts, held-facts, take-taken}
+use Rattle.lay_out.proofs.LayOut.{lay-out-laid-out}
+use Rattle.add_edge.specs.Add.{addAnswer, addAdjacency}
+use Rattle.remove_edge.specs.Remove.{removeAnswer, removeAdjacency}
+use Rattle.complete.specs.Complete.{Ran, finishAnswer, finishAdjacency}
+use Rattle.complete.proofs.Entry.{completed-facts}
+use Rattle.complete_shuffled.specs.Finish.{outcome}
+use Rattle.complete_shuffled.proofs.Works.{outcome-works}
 use Rattle.demands.specs.Calls.{Call, take, layOut, add, remove, complete, readBack, list, figures, survey, writeGraph6, readGraph6, State, cleared, after, afterAll}
 use Rattle.demands.specs.Tally.{Tally, noTally, told, toldAdd, toldRemove, toldComplete, counts, withBlock, laysOut, nowLaid, tally, tallyAll}
 use Rattle.demands.specs.Matrix.{Short, HasTable}

@@ -25,15 +25,15 @@ use Rattle.adjacency.specs.Adjacency.{edge}
 use Rattle.state.specs.Valid.{valid}
 use Rattle.state.specs.Laid.{vertexCount, degreeAt}
 use Rattle.state.proofs.Facts.{edgeTotal, StateFacts, Laid, valid-facts}
-use Rattle.laying_out.proofs.LayOut.{lay-out-honest}
-use Rattle.adding.specs.Add.{addAnswer, addAdjacency}
-use Rattle.adding.proofs.Add.{AddFacts, facts-added, AddWorks, add-works}
+use Rattle.lay_out.proofs.LayOut.{lay-out-honest}
+use Rattle.add_edge.specs.Add.{addAnswer, addAdjacency}
+use Rattle.add_edge.proofs.Add.{AddFacts, facts-added, AddWorks, add-works}
 use Rattle.joining.specs.Join.{joinBytes, joinSwitches}
 use Rattle.join_records.specs.Record.{joinRecordSize}
-use Rattle.completion.specs.Complete.{Ran, missing, finishAnswer, finishAdjacency}
-use Rattle.completion.proofs.Entry.{CompleteFacts, short-refused, CompleteWorks}
-use Rattle.shuffling.specs.Finish.{outcome}
-use Rattle.shuffling.proofs.Works.{outcome-works}
+use Rattle.complete.specs.Complete.{Ran, missing, finishAnswer, finishAdjacency}
+use Rattle.complete.proofs.Entry.{CompleteFacts, short-refused, CompleteWorks}
+use Rattle.complete_shuffled.specs.Finish.{outcome}
+use Rattle.complete_shuffled.proofs.Works.{outcome-works}
 use Rattle.demands.specs.Calls.{State, cleared, afterAll}
 use Rattle.demands.specs.Tally.{Tally, noTally, missingEdges, tallyAll}
 use Rattle.demands.specs.Matrix.{Short}

@@ -22,12 +22,12 @@ use Rattle.state.specs.Laid.{vertexCount, degreeAt, cellAt}
 use Rattle.state.proofs.Facts.{StateFacts, Laid, valid-facts}
 use Rattle.joining.specs.Join.{joinBytes, joinSwitches}
 use Rattle.joining.proofs.Alone.{room-none, none-alone}
-use Rattle.adding.specs.Add.{addAnswer, addAdjacency}
-use Rattle.adding.proofs.Add.{AddFacts, facts-added, add-works}
-use Rattle.removing.specs.Remove.{removeAnswer, removeAdjacency}
-use Rattle.removing.proofs.Remove.{RemoveFacts, facts-removed, remove-works}
-use Rattle.completion.specs.Complete.{Ran}
-use Rattle.completion.proofs.Entry.{CompleteFacts}
+use Rattle.add_edge.specs.Add.{addAnswer, addAdjacency}
+use Rattle.add_edge.proofs.Add.{AddFacts, facts-added, add-works}
+use Rattle.remove_edge.specs.Remove.{removeAnswer, removeAdjacency}
+use Rattle.remove_edge.proofs.Remove.{RemoveFacts, facts-removed, remove-works}
+use Rattle.complete.specs.Complete.{Ran}
+use Rattle.complete.proofs.Entry.{CompleteFacts}
 use Rattle.demands.specs.Calls.{add, remove, State, emptyMatrix, after, afterAll}
 use Rattle.demands.specs.WithinReach.{Replica, Pair, named, Order, adds, removes, AddedAlone, AllAdded, AllRemoved, matrixOf, ValidLaid, NothingToComplete, Drawn, Redrawn, Emptied}
 use Rattle.demands.proofs.Finishes.{full-outcome, full-answer, after-finish}

@@ -18,8 +18,8 @@ use Rattle.journal.proofs.Store.{stored-empty}
 use Rattle.state.specs.Valid.{lengthsOk, valid}
 use Rattle.state.proofs.Checks.{state-go}
 use Rattle.state.proofs.Facts.{valid-journal}
-use Rattle.taking.specs.Take.{takeOnValid}
-use Rattle.taking.proofs.Take.{TakenFacts, facts-taken, taken-table}
+use Rattle.take_block.specs.Take.{takeOnValid}
+use Rattle.take_block.proofs.Take.{TakenFacts, facts-taken, taken-table}
 use Rattle.demands.specs.Calls.{State}
 use Rattle.demands.specs.Tally.{Tally, counts, withBlock}
 use Rattle.demands.specs.EmptyBlocks.{TakesEmpty, EmptyBlocks}

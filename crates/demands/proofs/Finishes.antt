@@ -1,4 +1,4 @@
--- What holds of every finish (crates/shuffling/specs/Finish.antt), whichever pairs it joins: the laws of completing by any choice of open pairs, at the two that there are.
+-- What holds of every finish (crates/complete_shuffled/specs/Finish.antt), whichever pairs it joins: the laws of completing by any choice of open pairs, at the two that there are.
 -- Assumes nothing.
 use mathlib.Core.Path.{_≡_, refl, sym, ap, subst, _∙_}
 use mathlib.Core.Bool.{true}
@@ -16,13 +16,13 @@ use Rattle.graph.proofs.Numbering.{classOf-rises}
 use Rattle.journal.specs.Journal.{jdmOf, tableOf}
 use Rattle.state.specs.Laid.{vertexCount, degreeAt, cellAt}
 use Rattle.join_records.specs.Record.{joinRecordSize}
-use Rattle.completion.specs.Complete.{Ran, fresh, mostEdges, missing, finishAnswer, finishAdjacency}
-use Rattle.completion.proofs.Works.{Good, Chooser, short, lowest-pair, next-rising}
-use Rattle.completion.proofs.Full.{full-run}
-use Rattle.completion.proofs.Entry.{CompleteFacts, facts-completed}
-use Rattle.shuffling.specs.Shuffle.{Shuffled}
-use Rattle.shuffling.proofs.Works.{shuffled-pair, shuffled-rises, outcome-works}
-use Rattle.shuffling.specs.Finish.{outcome}
+use Rattle.complete.specs.Complete.{Ran, fresh, mostEdges, missing, finishAnswer, finishAdjacency}
+use Rattle.complete.proofs.Works.{Good, Chooser, short, lowest-pair, next-rising}
+use Rattle.complete.proofs.Full.{full-run}
+use Rattle.complete.proofs.Entry.{CompleteFacts, facts-completed}
+use Rattle.complete_shuffled.specs.Shuffle.{Shuffled}
+use Rattle.complete_shuffled.proofs.Works.{shuffled-pair, shuffled-rises, outcome-works}
+use Rattle.complete_shuffled.specs.Finish.{outcome}
 use Rattle.demands.specs.Calls.{complete, State, after}
 use Rattle.demands.specs.Matrix.{HasTable}
 

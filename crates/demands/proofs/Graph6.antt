@@ -30,12 +30,12 @@ use Rattle.edgelist.proofs.List.{Passed, verdict-passed, list-simple}
 use Rattle.edgelist.proofs.Listing.{list-cong}
 use Rattle.edgelist.proofs.Listed.{list-passed, list-graph}
 use Rattle.edgelist.proofs.Unique.{list-back}
-use Rattle.listing.specs.List.{listBytes}
-use Rattle.survey.specs.Survey.{surveyRecords, surveyListed}
+use Rattle.edge_list.specs.List.{listBytes}
+use Rattle.jdm_of_edges.specs.Survey.{surveyRecords, surveyListed}
 use Rattle.graph6.specs.Format.{graph6Text, sizeOf, tooLarge, framed, zeroPadded, wellFormed, textGraph}
 use Rattle.graph6.proofs.Text.{framed-facts, framed-small, text-bit, text-size, text-well-formed, graph-up, graph-down, graph-loop, graph-simple, text-back, text-cong}
-use Rattle.graph6_writing.specs.Write.{writeText, writeListed, writeAnswer}
-use Rattle.graph6_reading.specs.Read.{readList, readAnswer}
+use Rattle.graph6_write.specs.Write.{writeText, writeListed, writeAnswer}
+use Rattle.graph6_read.specs.Read.{readList, readAnswer}
 use Rattle.finite.proofs.All.{and-left}
 use Rattle.demands.specs.Demand1.{oneOf, Numbered}
 use Rattle.demands.proofs.Chains.{OfWritten}

@@ -17,11 +17,11 @@ use Rattle.journal.specs.Journal.{blocks, blockAt}
 use Rattle.journal.proofs.Store.{blocks-stored, blockAt-stored}
 use Rattle.journal.proofs.Laid.{blocks-laid, blockAt-laid}
 use Rattle.state.proofs.Facts.{lengths-journal, valid-journal}
-use Rattle.taking.specs.Take.{takeAnswer, takeJournal}
-use Rattle.laying_out.specs.LayOut.{layOutAnswer, layOutJournal}
-use Rattle.clearing.proofs.Cleared.{cleared-state}
-use Rattle.taking.proofs.Take.{taken-facts, held-facts, facts-held, take-differs, stored-low, stored-same}
-use Rattle.reading_back.proofs.Held.{read-back}
+use Rattle.take_block.specs.Take.{takeAnswer, takeJournal}
+use Rattle.lay_out.specs.LayOut.{layOutAnswer, layOutJournal}
+use Rattle.clear.proofs.Cleared.{cleared-state}
+use Rattle.take_block.proofs.Take.{taken-facts, held-facts, facts-held, take-differs, stored-low, stored-same}
+use Rattle.held_block.proofs.Held.{read-back}
 use Rattle.demands.specs.Calls.{Call, take, layOut, add, remove, complete, readBack, list, figures, survey, writeGraph6, readGraph6, State, cleared, after, afterAll}
 use Rattle.demands.specs.Tally.{Tally, noTally, told, tally, tallyAll}
 use Rattle.demands.specs.Accepted.{accepted, AcceptedIn}

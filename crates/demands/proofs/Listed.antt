@@ -18,10 +18,10 @@ use Rattle.graph.proofs.Matrix.{jdm-classes}
 use Rattle.adjacency.specs.Adjacency.{edge}
 use Rattle.state.specs.Laid.{vertexCount}
 use Rattle.state.proofs.Facts.{Laid, valid-facts}
-use Rattle.listing.specs.List.{listBytes}
+use Rattle.edge_list.specs.List.{listBytes}
 use Rattle.edgelist.specs.EdgeList.{graphOf}
 use Rattle.edgelist.proofs.Listed.{list-passed, list-graph}
-use Rattle.survey.specs.Survey.{firstAbove, recordsOf, surveyRecords}
+use Rattle.jdm_of_edges.specs.Survey.{firstAbove, recordsOf, surveyRecords}
 use Rattle.demands.specs.Listed.{ListSurveyed}
 
 -- the same graph on n vertices has the same table

@@ -22,14 +22,14 @@ use Rattle.state.specs.Valid.{lengthsOk, valid}
 use Rattle.state.specs.Laid.{vertexCount, degreeAt}
 use Rattle.state.proofs.Facts.{StateFacts, Laid, valid-facts}
 use Rattle.joining.specs.Join.{joinSwitches}
-use Rattle.adding.specs.Add.{addAnswer, addAdjacency}
-use Rattle.adding.proofs.Add.{AddFacts, added-facts}
-use Rattle.completion.specs.Complete.{Ran, fresh, mostEdges, missing, finishAnswer, finishAdjacency, finishOutput}
-use Rattle.completion.proofs.Works.{Good, Chooser, short, next-good}
-use Rattle.completion.proofs.Records.{Recorded, next-recorded, Rising, records-rising}
-use Rattle.completion.proofs.Entry.{CompleteFacts, good-start, CompleteWorks}
-use Rattle.shuffling.specs.Finish.{outcome}
-use Rattle.shuffling.proofs.Works.{outcome-works}
+use Rattle.add_edge.specs.Add.{addAnswer, addAdjacency}
+use Rattle.add_edge.proofs.Add.{AddFacts, added-facts}
+use Rattle.complete.specs.Complete.{Ran, fresh, mostEdges, missing, finishAnswer, finishAdjacency, finishOutput}
+use Rattle.complete.proofs.Works.{Good, Chooser, short, next-good}
+use Rattle.complete.proofs.Records.{Recorded, next-recorded, Rising, records-rising}
+use Rattle.complete.proofs.Entry.{CompleteFacts, good-start, CompleteWorks}
+use Rattle.complete_shuffled.specs.Finish.{outcome}
+use Rattle.complete_shuffled.proofs.Works.{outcome-works}
 use Rattle.demands.specs.Playback.{play, CompletingPlays, addedRecord, Playback}
 use Rattle.demands.proofs.Finishes.{By, by, outcome-answer}
 use Rattle.demands.proofs.Playing.{fits, playJoin, join-plays, play-none, play-more}

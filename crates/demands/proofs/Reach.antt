@@ -29,19 +29,19 @@ use Rattle.journal.proofs.Laid.{blocks-laid, table-laid, phase-laid}
 use Rattle.adjacency.proofs.Empty.{no-edges}
 use Rattle.state.specs.Valid.{lengthsOk, valid}
 use Rattle.state.proofs.Facts.{edgeTotal, valid-facts, lengths-journal, valid-journal}
-use Rattle.taking.specs.Take.{takeAnswer, takeJournal}
-use Rattle.laying_out.specs.LayOut.{layOutAnswer, layOutJournal}
-use Rattle.clearing.proofs.Cleared.{cleared-state}
-use Rattle.taking.proofs.Take.{isTaken, isNext, TakenFacts, taken-facts, take-taken, take-lengths, take-valid}
-use Rattle.laying_out.proofs.LayOut.{isLaidOut, laysOut as laysOutNow, LaidOutFacts, lay-out-facts, lay-out-laid-out, lay-out-lengths, lay-out-valid}
-use Rattle.adding.specs.Add.{addAnswer, addAdjacency}
-use Rattle.removing.specs.Remove.{removeAnswer, removeAdjacency}
-use Rattle.adding.proofs.Add.{added-facts, add-works}
-use Rattle.removing.proofs.Remove.{removed-facts, remove-works}
-use Rattle.completion.specs.Complete.{Ran, finishAnswer, finishAdjacency}
-use Rattle.completion.proofs.Entry.{completed-facts}
-use Rattle.shuffling.specs.Finish.{outcome}
-use Rattle.shuffling.proofs.Works.{outcome-works}
+use Rattle.take_block.specs.Take.{takeAnswer, takeJournal}
+use Rattle.lay_out.specs.LayOut.{layOutAnswer, layOutJournal}
+use Rattle.clear.proofs.Cleared.{cleared-state}
+use Rattle.take_block.proofs.Take.{isTaken, isNext, TakenFacts, taken-facts, take-taken, take-lengths, take-valid}
+use Rattle.lay_out.proofs.LayOut.{isLaidOut, laysOut as laysOutNow, LaidOutFacts, lay-out-facts, lay-out-laid-out, lay-out-lengths, lay-out-valid}
+use Rattle.add_edge.specs.Add.{addAnswer, addAdjacency}
+use Rattle.remove_edge.specs.Remove.{removeAnswer, removeAdjacency}
+use Rattle.add_edge.proofs.Add.{added-facts, add-works}
+use Rattle.remove_edge.proofs.Remove.{removed-facts, remove-works}
+use Rattle.complete.specs.Complete.{Ran, finishAnswer, finishAdjacency}
+use Rattle.complete.proofs.Entry.{completed-facts}
+use Rattle.complete_shuffled.specs.Finish.{outcome}
+use Rattle.complete_shuffled.proofs.Works.{outcome-works}
 use Rattle.demands.specs.Calls.{Call, take, layOut, add, remove, complete, readBack, list, figures, survey, writeGraph6, readGraph6, State, cleared, after, afterAll}
 use Rattle.demands.specs.Tally.{Tally, noTally, told, toldAdd, toldRemove, toldComplete, counts, withBlock, laysOut, nowLaid, withEdges, tally, tallyAll}
 

@@ -15,12 +15,12 @@ use Rattle.graph.specs.Tests.{leastDegree, degrees}
 use Rattle.journal.specs.Journal.{phase, jdmOf, tableOf}
 use Rattle.state.specs.Valid.{lengthsOk, valid}
 use Rattle.state.specs.Laid.{cellAt}
-use Rattle.completion.specs.Complete.{Ran, fresh, missing, finishAnswer, finishAdjacency, finishOutput}
-use Rattle.completion.proofs.Entry.{CompleteFacts}
-use Rattle.shuffling.specs.Choice.{nextX, stepsX}
-use Rattle.shuffling.specs.Shuffle.{shuffled, withX, shuffleOutput}
-use Rattle.shuffling.proofs.Answers.{with-x-refused}
-use Rattle.shuffling.proofs.Works.{shuffled-last, outcome-works}
+use Rattle.complete.specs.Complete.{Ran, fresh, missing, finishAnswer, finishAdjacency, finishOutput}
+use Rattle.complete.proofs.Entry.{CompleteFacts}
+use Rattle.complete_shuffled.specs.Choice.{nextX, stepsX}
+use Rattle.complete_shuffled.specs.Shuffle.{shuffled, withX, shuffleOutput}
+use Rattle.complete_shuffled.proofs.Answers.{with-x-refused}
+use Rattle.complete_shuffled.proofs.Works.{shuffled-last, outcome-works}
 use Rattle.demands.specs.Calls.{State}
 use Rattle.demands.specs.Shuffled.{Shuffles, LeftAlone, ShuffledFinishing}
 use Rattle.demands.specs.Matrix.{Short}

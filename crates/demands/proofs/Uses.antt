@@ -23,14 +23,14 @@ use Rattle.table.specs.Block.{wellFormed, blockIsolated}
 use Rattle.adjacency.specs.Adjacency.{edge, setEdge}
 use Rattle.journal.specs.Journal.{mostBlocks, tableOf}
 use Rattle.state.specs.Laid.{vertexCount, degreeAt}
-use Rattle.taking.specs.Take.{takeAnswer}
+use Rattle.take_block.specs.Take.{takeAnswer}
 use Rattle.joining.proofs.Alone.{none-alone}
-use Rattle.adding.specs.Add.{addAnswer, addAdjacency}
-use Rattle.adding.proofs.Add.{added-facts}
+use Rattle.add_edge.specs.Add.{addAnswer, addAdjacency}
+use Rattle.add_edge.proofs.Add.{added-facts}
 use Rattle.join_records.specs.Record.{joinRecordSize}
-use Rattle.completion.specs.Complete.{finishAnswer}
-use Rattle.completion.proofs.Entry.{refused-not-completed}
-use Rattle.shuffling.specs.Finish.{outcome}
+use Rattle.complete.specs.Complete.{finishAnswer}
+use Rattle.complete.proofs.Entry.{refused-not-completed}
+use Rattle.complete_shuffled.specs.Finish.{outcome}
 use Rattle.demands.specs.Calls.{Call, take, add, complete, State, emptyMatrix, cleared, after, afterAll}
 use Rattle.demands.specs.Accepted.{accepted, AcceptedIn}
 use Rattle.demands.specs.Tally.{Tally, noTally, missingEdges, toldTake, counts, withBlock, tally, tallyAll}

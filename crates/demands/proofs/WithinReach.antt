@@ -16,10 +16,10 @@ use Rattle.journal.specs.Journal.{phase, tableOf}
 use Rattle.adjacency.specs.Adjacency.{edge}
 use Rattle.state.specs.Laid.{vertexCount}
 use Rattle.join_records.specs.Record.{joinRecordSize}
-use Rattle.completion.specs.Complete.{finishAnswer}
-use Rattle.completion.proofs.Entry.{completed-facts}
-use Rattle.shuffling.specs.Finish.{outcome}
-use Rattle.shuffling.proofs.Works.{outcome-works}
+use Rattle.complete.specs.Complete.{finishAnswer}
+use Rattle.complete.proofs.Entry.{completed-facts}
+use Rattle.complete_shuffled.specs.Finish.{outcome}
+use Rattle.complete_shuffled.proofs.Works.{outcome-works}
 use Rattle.demands.specs.Calls.{Call, complete, State, emptyMatrix, cleared, after, afterAll}
 use Rattle.demands.specs.Tally.{noTally, missingEdges, tallyAll}
 use Rattle.demands.specs.Demand3.{Completes}

@@ -6,7 +6,7 @@ use mathlib.Core.List.{List, _∷_, _++_}
 use Prim.Native.Nat.{ℕ}
 use Rattle.answer.specs.declared.TakeAnswer.{TakeAnswer}
 use Rattle.answer.specs.declared.TakeAnswer.the-variants.{Taken, Held, Refused}
-use Rattle.taking.specs.Take.{takeAnswer}
+use Rattle.take_block.specs.Take.{takeAnswer}
 use Rattle.demands.specs.Calls.{Call, take, cleared, afterAll}
 
 -- the block was taken, or held already

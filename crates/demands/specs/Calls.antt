@@ -6,12 +6,12 @@ use lib.ListN.{length, replicate}
 use Rattle.answer.specs.declared.Finish.{Finish}
 use Rattle.journal.specs.Journal.{journalSize}
 use Rattle.adjacency.specs.Adjacency.{adjacencySize}
-use Rattle.taking.specs.Take.{takeAnswer, takeJournal}
-use Rattle.laying_out.specs.LayOut.{layOutAnswer, layOutJournal}
-use Rattle.adding.specs.Add.{addAnswer, addAdjacency}
-use Rattle.removing.specs.Remove.{removeAnswer, removeAdjacency}
-use Rattle.completion.specs.Complete.{finishAnswer, finishAdjacency}
-use Rattle.shuffling.specs.Finish.{outcome}
+use Rattle.take_block.specs.Take.{takeAnswer, takeJournal}
+use Rattle.lay_out.specs.LayOut.{layOutAnswer, layOutJournal}
+use Rattle.add_edge.specs.Add.{addAnswer, addAdjacency}
+use Rattle.remove_edge.specs.Remove.{removeAnswer, removeAdjacency}
+use Rattle.complete.specs.Complete.{finishAnswer, finishAdjacency}
+use Rattle.complete_shuffled.specs.Finish.{outcome}
 
 -- the calls that demand 3 lists: those that may change the state, with any arguments, and the reading ones between them; a survey, and
 -- writing or reading graph6, which are lent no state, may stand there too. Completing is by either finish. A list of bytes is a block, or an output as it is lent, with room or without.

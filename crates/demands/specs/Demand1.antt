@@ -20,20 +20,20 @@ use Rattle.answer.specs.declared.CompleteAnswer.the-variants as Complete
 use Rattle.answer.specs.declared.ShuffleAnswer.the-variants as Shuffle
 use Rattle.answer.specs.declared.WrittenAnswer.the-variants as Write
 use Rattle.answer.specs.declared.ReadAnswer.the-variants as Read
-use Rattle.clearing.specs.Clear.{clearAnswer, clearBytes}
-use Rattle.taking.specs.Take.{takeAnswer, takeJournal}
-use Rattle.reading_back.specs.Held.{lengthAnswer, heldPart}
-use Rattle.laying_out.specs.LayOut.{layOutAnswer, layOutJournal}
+use Rattle.clear.specs.Clear.{clearAnswer, clearBytes}
+use Rattle.take_block.specs.Take.{takeAnswer, takeJournal}
+use Rattle.held_block.specs.Held.{lengthAnswer, heldPart}
+use Rattle.lay_out.specs.LayOut.{layOutAnswer, layOutJournal}
 use Rattle.figures.specs.Figures.{figuresAnswer}
-use Rattle.adding.specs.Add.{addAnswer, addAdjacency}
-use Rattle.removing.specs.Remove.{removeAnswer, removeAdjacency}
-use Rattle.listing.specs.List.{listAnswer, listOutput}
-use Rattle.survey.specs.Survey.{surveyAnswer, surveyOutput}
-use Rattle.graph6_writing.specs.Write.{writeAnswer, writeOutput}
-use Rattle.graph6_reading.specs.Read.{readAnswer, readOutput}
+use Rattle.add_edge.specs.Add.{addAnswer, addAdjacency}
+use Rattle.remove_edge.specs.Remove.{removeAnswer, removeAdjacency}
+use Rattle.edge_list.specs.List.{listAnswer, listOutput}
+use Rattle.jdm_of_edges.specs.Survey.{surveyAnswer, surveyOutput}
+use Rattle.graph6_write.specs.Write.{writeAnswer, writeOutput}
+use Rattle.graph6_read.specs.Read.{readAnswer, readOutput}
 use Rattle.join_records.specs.Record.{joinRecordSize}
-use Rattle.completion.specs.Complete.{completeAnswer, completeAdjacency, completeOutput}
-use Rattle.shuffling.specs.Shuffle.{shuffleAnswer, shuffleAdjacency, shuffleOutput}
+use Rattle.complete.specs.Complete.{completeAnswer, completeAdjacency, completeOutput}
+use Rattle.complete_shuffled.specs.Shuffle.{shuffleAnswer, shuffleAdjacency, shuffleOutput}
 
 -- n is one of the numbers
 abbrev pub oneOf : ℕ → List ℕ → Bool

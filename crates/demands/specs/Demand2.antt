@@ -17,11 +17,11 @@ use Rattle.answer.specs.declared.Finish.{Finish}
 use Rattle.graph.specs.Graph.{DegreeTable}
 use Rattle.table.specs.Block.{blockCell, blockIsolated}
 use Rattle.journal.specs.Journal.{phase}
-use Rattle.taking.specs.Take.{takeAnswer}
-use Rattle.adding.specs.Add.{addAnswer}
-use Rattle.removing.specs.Remove.{removeAnswer}
-use Rattle.completion.specs.Complete.{finishAnswer}
-use Rattle.shuffling.specs.Finish.{outcome}
+use Rattle.take_block.specs.Take.{takeAnswer}
+use Rattle.add_edge.specs.Add.{addAnswer}
+use Rattle.remove_edge.specs.Remove.{removeAnswer}
+use Rattle.complete.specs.Complete.{finishAnswer}
+use Rattle.complete_shuffled.specs.Finish.{outcome}
 use Rattle.demands.specs.Calls.{Call, take, layOut, add, remove, complete, readBack, list, figures, survey, writeGraph6, readGraph6, State, cleared, after, afterAll}
 use Rattle.demands.specs.Matrix.{Short, HasTable}
 use Rattle.demands.specs.Accepted.{accepted, AcceptedIn}

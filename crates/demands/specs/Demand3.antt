@@ -19,11 +19,11 @@ use Rattle.answer.specs.declared.CompleteAnswer.the-variants.{Completed, Refuse
 use Rattle.answer.specs.declared.Finish.{Finish}
 use Rattle.adjacency.specs.Adjacency.{edge}
 use Rattle.state.specs.Valid.{valid}
-use Rattle.laying_out.specs.LayOut.{layOutAnswer}
-use Rattle.adding.specs.Add.{addAnswer}
+use Rattle.lay_out.specs.LayOut.{layOutAnswer}
+use Rattle.add_edge.specs.Add.{addAnswer}
 use Rattle.join_records.specs.Record.{joinRecordSize}
-use Rattle.completion.specs.Complete.{finishAnswer}
-use Rattle.shuffling.specs.Finish.{outcome}
+use Rattle.complete.specs.Complete.{finishAnswer}
+use Rattle.complete_shuffled.specs.Finish.{outcome}
 use Rattle.demands.specs.Calls.{Call, add, complete, State, cleared, after, afterAll}
 use Rattle.demands.specs.Matrix.{Short, HasTable}
 use Rattle.demands.specs.Tally.{Tally, noTally, missingEdges, tallyAll}

@@ -14,8 +14,8 @@ use Rattle.answer.specs.declared.LengthAnswer.the-variants.{Length}
 use Rattle.table.specs.Block.{recordSize, blockMost, wellFormed}
 use Rattle.journal.specs.Journal.{mostBlocks, phase, blocks, tableOf}
 use Rattle.state.specs.Valid.{lengthsOk, valid}
-use Rattle.taking.specs.Take.{takeAnswer}
-use Rattle.reading_back.specs.Held.{lengthAnswer, heldPart}
+use Rattle.take_block.specs.Take.{takeAnswer}
+use Rattle.held_block.specs.Held.{lengthAnswer, heldPart}
 use Rattle.demands.specs.Calls.{Call, take, State, cleared, after, afterAll}
 use Rattle.demands.specs.Accepted.{AcceptedIn}
 use Rattle.demands.specs.Tally.{Tally, toldTake, tally}

@@ -18,11 +18,11 @@ use Rattle.adjacency.specs.Adjacency.{edge}
 use Rattle.state.specs.Valid.{lengthsOk, valid}
 use Rattle.state.specs.Laid.{vertexCount}
 use Rattle.edgelist.specs.EdgeList.{listVerdict, graphOf}
-use Rattle.listing.specs.List.{listBytes}
-use Rattle.survey.specs.Survey.{surveyAnswer}
+use Rattle.edge_list.specs.List.{listBytes}
+use Rattle.jdm_of_edges.specs.Survey.{surveyAnswer}
 use Rattle.graph6.specs.Format.{graph6Text, sizeOf, wellFormed, bitOf, textGraph}
-use Rattle.graph6_writing.specs.Write.{writeText, writeAnswer, writeOutput}
-use Rattle.graph6_reading.specs.Read.{readAnswer, readOutput}
+use Rattle.graph6_write.specs.Write.{writeText, writeAnswer, writeOutput}
+use Rattle.graph6_read.specs.Read.{readAnswer, readOutput}
 
 -- the n bytes written to an output
 abbrev pub textIn : List ℕ → ℕ → List ℕ → ℕ → List ℕ

@@ -12,8 +12,8 @@ use Rattle.journal.specs.Journal.{phase}
 use Rattle.adjacency.specs.Adjacency.{edge}
 use Rattle.state.specs.Valid.{lengthsOk, valid}
 use Rattle.state.specs.Laid.{vertexCount}
-use Rattle.listing.specs.List.{listBytes}
-use Rattle.survey.specs.Survey.{recordsOf, surveyRecords, surveyAnswer}
+use Rattle.edge_list.specs.List.{listBytes}
+use Rattle.jdm_of_edges.specs.Survey.{recordsOf, surveyRecords, surveyAnswer}
 
 abbrev pub ListSurveyed : Type 0
 ListSurveyed =

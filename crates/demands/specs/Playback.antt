@@ -17,9 +17,9 @@ use Rattle.journal.specs.Journal.{phase}
 use Rattle.adjacency.specs.Adjacency.{edge, setEdge}
 use Rattle.state.specs.Valid.{lengthsOk, valid}
 use Rattle.state.specs.Laid.{vertexCount}
-use Rattle.adding.specs.Add.{addAnswer, addAdjacency}
-use Rattle.completion.specs.Complete.{missing, finishAnswer, finishAdjacency, finishOutput}
-use Rattle.shuffling.specs.Finish.{outcome}
+use Rattle.add_edge.specs.Add.{addAnswer, addAdjacency}
+use Rattle.complete.specs.Complete.{missing, finishAnswer, finishAdjacency, finishOutput}
+use Rattle.complete_shuffled.specs.Finish.{outcome}
 
 -- a matrix in play, and whether everything so far fitted it: an edge that was removed was there, one that was added was not
 pub record Played : Type 0 where

@@ -11,8 +11,8 @@ use Rattle.answer.specs.declared.TakeAnswer.the-variants.{Held, Refused}
 use Rattle.answer.specs.declared.LengthAnswer.the-variants.{Length}
 use Rattle.table.specs.Block.{wellFormed}
 use Rattle.journal.specs.Journal.{blocks}
-use Rattle.taking.specs.Take.{takeAnswer}
-use Rattle.reading_back.specs.Held.{lengthAnswer, heldPart}
+use Rattle.take_block.specs.Take.{takeAnswer}
+use Rattle.held_block.specs.Held.{lengthAnswer, heldPart}
 use Rattle.demands.specs.Calls.{Call, State, cleared, afterAll}
 use Rattle.demands.specs.Accepted.{AcceptedIn}
 

@@ -12,10 +12,10 @@ use Rattle.answer.specs.declared.ShuffleAnswer.the-variants.{Completed, Refused
 use Rattle.answer.specs.declared.Finish.the-variants.{Picked}
 use Rattle.journal.specs.Journal.{phase, tableOf}
 use Rattle.state.specs.Valid.{lengthsOk, valid}
-use Rattle.completion.specs.Complete.{missing, finishAnswer}
-use Rattle.shuffling.specs.Choice.{stepsX}
-use Rattle.shuffling.specs.Shuffle.{shuffleAnswer, shuffleAdjacency, shuffleOutput}
-use Rattle.shuffling.specs.Finish.{outcome}
+use Rattle.complete.specs.Complete.{missing, finishAnswer}
+use Rattle.complete_shuffled.specs.Choice.{stepsX}
+use Rattle.complete_shuffled.specs.Shuffle.{shuffleAnswer, shuffleAdjacency, shuffleOutput}
+use Rattle.complete_shuffled.specs.Finish.{outcome}
 use Rattle.demands.specs.Calls.{complete, State, after}
 use Rattle.demands.specs.Matrix.{Short, HasTable}
 use Rattle.demands.specs.Playback.{play}

@@ -17,10 +17,10 @@ use Rattle.graph.specs.Tests.{passes, vertices}
 use Rattle.table.specs.Block.{wellFormed, plus}
 use Rattle.layout.specs.Layout.{mostVertices, wanted}
 use Rattle.journal.specs.Journal.{mostBlocks}
-use Rattle.adding.specs.Add.{addAnswer}
-use Rattle.removing.specs.Remove.{removeAnswer}
-use Rattle.completion.specs.Complete.{finishAnswer}
-use Rattle.shuffling.specs.Finish.{outcome}
+use Rattle.add_edge.specs.Add.{addAnswer}
+use Rattle.remove_edge.specs.Remove.{removeAnswer}
+use Rattle.complete.specs.Complete.{finishAnswer}
+use Rattle.complete_shuffled.specs.Finish.{outcome}
 use Rattle.demands.specs.Calls.{Call, take, layOut, add, remove, complete, readBack, list, figures, survey, writeGraph6, readGraph6, State, after}
 
 -- what the tally is told of a call

@@ -23,10 +23,10 @@ use Rattle.adjacency.specs.Adjacency.{side, adjacencySize, edge}
 use Rattle.state.specs.Valid.{lengthsOk, valid}
 use Rattle.state.specs.Laid.{vertexCount}
 use Rattle.edgelist.specs.EdgeList.{listOf}
-use Rattle.adding.specs.Add.{addAnswer}
-use Rattle.removing.specs.Remove.{removeAnswer}
-use Rattle.completion.specs.Complete.{finishAnswer}
-use Rattle.shuffling.specs.Finish.{outcome}
+use Rattle.add_edge.specs.Add.{addAnswer}
+use Rattle.remove_edge.specs.Remove.{removeAnswer}
+use Rattle.complete.specs.Complete.{finishAnswer}
+use Rattle.complete_shuffled.specs.Finish.{outcome}
 use Rattle.demands.specs.Calls.{Call, add, remove, complete, State, emptyMatrix, cleared, after, afterAll}
 use Rattle.demands.specs.Tally.{noTally, missingEdges, tallyAll}
 

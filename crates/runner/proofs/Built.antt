@@ -31,23 +31,23 @@ use Rattle.adjacency.specs.Adjacency.{adjacencySize, edge}
 use Rattle.state.specs.Valid.{lengthsOk, valid}
 use Rattle.state.specs.Laid.{vertexCount}
 use Rattle.state.proofs.Facts.{lengths-journal, valid-journal}
-use Rattle.taking.specs.Take.{takeAnswer, takeJournal}
-use Rattle.laying_out.specs.LayOut.{layOutAnswer, layOutJournal}
-use Rattle.clearing.specs.Clear.{ClearedState}
-use Rattle.clearing.proofs.Cleared.{cleared-state}
-use Rattle.taking.proofs.Take.{taken-facts, held-facts, take-lengths, take-valid}
-use Rattle.laying_out.proofs.LayOut.{LaidOutFacts, lay-out-facts, lay-out-lengths, lay-out-valid}
+use Rattle.take_block.specs.Take.{takeAnswer, takeJournal}
+use Rattle.lay_out.specs.LayOut.{layOutAnswer, layOutJournal}
+use Rattle.clear.specs.Clear.{ClearedState}
+use Rattle.clear.proofs.Cleared.{cleared-state}
+use Rattle.take_block.proofs.Take.{taken-facts, held-facts, take-lengths, take-valid}
+use Rattle.lay_out.proofs.LayOut.{LaidOutFacts, lay-out-facts, lay-out-lengths, lay-out-valid}
 use Rattle.edgelist.specs.EdgeList.{graphOf, edgeBytes, rowBytes}
 use Rattle.edgelist.proofs.Listing.{list-length}
 use Rattle.edgelist.proofs.Listed.{list-graph}
 use Rattle.edgelist.proofs.Pairs.{cat-sized, one-sized}
-use Rattle.listing.specs.List.{listBytes}
+use Rattle.edge_list.specs.List.{listBytes}
 use Rattle.graph6.proofs.Text.{text-cong}
-use Rattle.graph6_writing.specs.Write.{writeText}
-use Rattle.completion.specs.Complete.{Ran, finishAnswer, finishAdjacency}
-use Rattle.completion.proofs.Entry.{CompleteFacts, completed-facts, facts-completed, missing-most}
-use Rattle.shuffling.specs.Finish.{outcome}
-use Rattle.shuffling.proofs.Works.{outcome-works}
+use Rattle.graph6_write.specs.Write.{writeText}
+use Rattle.complete.specs.Complete.{Ran, finishAnswer, finishAdjacency}
+use Rattle.complete.proofs.Entry.{CompleteFacts, completed-facts, facts-completed, missing-most}
+use Rattle.complete_shuffled.specs.Finish.{outcome}
+use Rattle.complete_shuffled.proofs.Works.{outcome-works}
 use Rattle.text.specs.Text.{newline, refusedLine, headLine, edgeLines}
 use Rattle.text.proofs.Lines.{lines-cat, lines-one}
 use Rattle.options.specs.declared.Form.{Form}

@@ -16,7 +16,7 @@ use Rattle.answer.specs.declared.WrittenAnswer.the-variants.{Written, Refused}
 use Rattle.answer.proofs.Checks.{refused-not-written, written-length}
 use Rattle.edgelist.specs.EdgeList.{listVerdict}
 use Rattle.graph6.specs.Format.{bodyMost}
-use Rattle.graph6_writing.specs.Write.{writeText, writeAnswer, writeOutput}
+use Rattle.graph6_write.specs.Write.{writeText, writeAnswer, writeOutput}
 use Rattle.text.specs.Text.{newline}
 use Rattle.runner.specs.Program.{textMost}
 use Rattle.runner.proofs.Room.{text-fits-room}

@@ -27,22 +27,22 @@ use Rattle.state.proofs.Checks.{phase-go}
 use Rattle.graph.specs.Tests.{vertices}
 use Rattle.journal.proofs.Laid.{table-laid}
 use Rattle.adjacency.specs.Adjacency.{edge}
-use Rattle.laying_out.specs.LayOut.{layOutAnswer, layOutJournal}
-use Rattle.laying_out.proofs.LayOut.{lay-out-vertices}
-use Rattle.listing.specs.List.{listBytes, listAnswer, listOutput}
+use Rattle.lay_out.specs.LayOut.{layOutAnswer, layOutJournal}
+use Rattle.lay_out.proofs.LayOut.{lay-out-vertices}
+use Rattle.edge_list.specs.List.{listBytes, listAnswer, listOutput}
 use Rattle.edgelist.specs.EdgeList.{listVerdict, graphOf}
 use Rattle.edgelist.proofs.List.{verdict-passed, list-simple}
 use Rattle.edgelist.proofs.Listing.{list-length}
 use Rattle.edgelist.proofs.Listed.{list-rising, list-passed}
 use Rattle.graph6.specs.Format.{bodyMost}
 use Rattle.graph6.proofs.Text.{text-most}
-use Rattle.graph6_writing.specs.Write.{writeText}
-use Rattle.completion.specs.Complete.{mostEdges, finishAnswer, finishAdjacency}
-use Rattle.completion.proofs.Cellwise.{room}
-use Rattle.completion.proofs.Works.{few-edges}
-use Rattle.completion.proofs.Entry.{completed-facts}
-use Rattle.shuffling.specs.Finish.{outcome}
-use Rattle.shuffling.proofs.Works.{outcome-works}
+use Rattle.graph6_write.specs.Write.{writeText}
+use Rattle.complete.specs.Complete.{mostEdges, finishAnswer, finishAdjacency}
+use Rattle.complete.proofs.Cellwise.{room}
+use Rattle.complete.proofs.Works.{few-edges}
+use Rattle.complete.proofs.Entry.{completed-facts}
+use Rattle.complete_shuffled.specs.Finish.{outcome}
+use Rattle.complete_shuffled.proofs.Works.{outcome-works}
 use Rattle.text.specs.Text.{newline, edgeLines, headLine, headMost, edgeMost}
 use Rattle.text.proofs.Decimal.{refused-length, head-length, edges-length}
 use Rattle.options.specs.declared.Form.{Form}

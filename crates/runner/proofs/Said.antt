@@ -19,12 +19,12 @@ use Rattle.answer.specs.declared.Finish.{Finish}
 use Rattle.journal.specs.Journal.{phase}
 use Rattle.state.specs.Valid.{lengthsOk, valid}
 use Rattle.state.specs.Laid.{vertexCount}
-use Rattle.laying_out.specs.LayOut.{layOutAnswer, layOutJournal}
-use Rattle.completion.specs.Complete.{Ran, finishAnswer, finishAdjacency}
-use Rattle.completion.proofs.Entry.{completed-facts}
+use Rattle.lay_out.specs.LayOut.{layOutAnswer, layOutJournal}
+use Rattle.complete.specs.Complete.{Ran, finishAnswer, finishAdjacency}
+use Rattle.complete.proofs.Entry.{completed-facts}
 use Rattle.io.specs.Counts.{Counts}
-use Rattle.shuffling.specs.Finish.{outcome}
-use Rattle.shuffling.proofs.Works.{outcome-works}
+use Rattle.complete_shuffled.specs.Finish.{outcome}
+use Rattle.complete_shuffled.proofs.Works.{outcome-works}
 use Rattle.text.specs.Text.{refusedLine}
 use Rattle.text.proofs.Written.{Written}
 use Rattle.options.specs.declared.Form.{Form}

@@ -19,8 +19,8 @@ use Rattle.table.specs.Block.{blockMost}
 use Rattle.journal.specs.Journal.{mostBlocks}
 use Rattle.journal.proofs.Facts.{journal-facts}
 use Rattle.state.proofs.Facts.{valid-journal}
-use Rattle.taking.specs.Take.{takeAnswer, takeJournal}
-use Rattle.taking.proofs.Take.{taken-facts, held-facts}
+use Rattle.take_block.specs.Take.{takeAnswer, takeJournal}
+use Rattle.take_block.proofs.Take.{taken-facts, held-facts}
 use Rattle.runner.specs.Program.{blocksIn, blockIn, Taking, takeVerdict, takeNext, takeAll}
 
 abbrev pub IsGo : Verdict → Type 0

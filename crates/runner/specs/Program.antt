@@ -20,13 +20,13 @@ use Rattle.table.specs.Block.{blockMost}
 use Rattle.journal.specs.Journal.{mostBlocks, journalSize}
 use Rattle.adjacency.specs.Adjacency.{adjacencySize}
 use Rattle.state.specs.Laid.{vertexCount}
-use Rattle.taking.specs.Take.{takeAnswer, takeJournal}
-use Rattle.laying_out.specs.LayOut.{layOutAnswer, layOutJournal}
+use Rattle.take_block.specs.Take.{takeAnswer, takeJournal}
+use Rattle.lay_out.specs.LayOut.{layOutAnswer, layOutJournal}
 use Rattle.join_records.specs.Record.{joinRecordSize}
-use Rattle.completion.specs.Complete.{mostEdges, finishAnswer, finishAdjacency}
-use Rattle.shuffling.specs.Finish.{outcome}
-use Rattle.listing.specs.List.{listBytes}
-use Rattle.graph6_writing.specs.Write.{writeText}
+use Rattle.complete.specs.Complete.{mostEdges, finishAnswer, finishAdjacency}
+use Rattle.complete_shuffled.specs.Finish.{outcome}
+use Rattle.edge_list.specs.List.{listBytes}
+use Rattle.graph6_write.specs.Write.{writeText}
 use Rattle.options.specs.declared.Form.{Form}
 use Rattle.options.specs.declared.Form.the-variants.{Lines, Graph6}
 use Rattle.text.specs.Text.{newline, refusedLine, headLine, edgeLines, headMost, edgeMost}

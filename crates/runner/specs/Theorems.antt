@@ -18,10 +18,10 @@ use Rattle.table.specs.Block.{blockMost, blockCell, blockIsolated}
 use Rattle.graph.specs.Tests.{vertices}
 use Rattle.journal.specs.Journal.{journalSize, tableOf}
 use Rattle.adjacency.specs.Adjacency.{adjacencySize, edge}
-use Rattle.laying_out.specs.LayOut.{layOutAnswer, layOutJournal}
-use Rattle.completion.specs.Complete.{finishAnswer}
+use Rattle.lay_out.specs.LayOut.{layOutAnswer, layOutJournal}
+use Rattle.complete.specs.Complete.{finishAnswer}
 use Rattle.graph6.specs.Format.{graph6Text}
-use Rattle.shuffling.specs.Finish.{outcome}
+use Rattle.complete_shuffled.specs.Finish.{outcome}
 use Rattle.text.specs.Text.{newline, refusedLine, headLine, edgeLine}
 use Rattle.options.specs.declared.Form.{Form}
 use Rattle.options.specs.declared.Form.the-variants.{Lines, Graph6}

@@ -12,15 +12,15 @@ ghost use Rattle.state.specs.Valid.{lengthsOk, valid};
 ghost use Rattle.answer.specs.declared.Verdict.the-variants.{Go};
 ghost use Rattle.answer.specs.declared.CompleteAnswer.{CompleteAnswer};
 ghost use Rattle.answer.specs.declared.LayOutAnswer.the-variants.{LaidOut};
-ghost use Rattle.taking.specs.Take.{takeAnswer, takeJournal};
+ghost use Rattle.take_block.specs.Take.{takeAnswer, takeJournal};
 ghost use Rattle.io.specs.Counts.{Counts};
 ghost use Rattle.text.specs.Text.{newline, headLine, edgeLines, headMost};
 ghost use Rattle.state.specs.Laid.{vertexCount};
 ghost use Rattle.edgelist.specs.EdgeList.{listVerdict};
-ghost use Rattle.graph6_writing.specs.Write.{writeText};
-ghost use Rattle.completion.specs.Complete.{finishAnswer, finishAdjacency};
-ghost use Rattle.shuffling.specs.Finish.{outcome};
-ghost use Rattle.shuffling.specs.Shuffle.{withX};
+ghost use Rattle.graph6_write.specs.Write.{writeText};
+ghost use Rattle.complete.specs.Complete.{finishAnswer, finishAdjacency};
+ghost use Rattle.complete_shuffled.specs.Finish.{outcome};
+ghost use Rattle.complete_shuffled.specs.Shuffle.{withX};
 ghost use Rattle.runner.specs.Program.{blockIn, takeVerdict, takeAll, listText, stateText, laidText, takenText, programText, inputMost, textMost};
 use adjacency::ADJACENCY_SIZE;
 use answer::CompleteAnswer;
@@ -36,7 +36,7 @@ use journal::MOST_BLOCKS;
 use layout::MOST_VERTICES;
 use libc::STDOUT_FILENO;
 use options::Form;
-use shuffling::complete_shuffled;
+use complete_shuffled::complete_shuffled;
 use slices::least;
 use slices::put;
 use table::degree::DEGREES;
@@ -93,7 +93,7 @@ fn take_one(journal: &mut [u8], adjacency: &[u8], number: usize, block: &[u8]) -
     ensures { λ r. ⌜ r ≡ takeVerdict (takeAnswer (now (journal .entry)) (now (adjacency .entry)) number (now (block .entry))) ⌝ }
     ensures { λ _. ⌜ now (journal .exit) ≡ takeJournal (takeAnswer (now (journal .entry)) (now (adjacency .entry)) number (now (block .entry))) (now (journal .entry)) (now (block .entry)) ⌝ }
 {
-    let answer = taking::take_block(journal, adjacency, number, block);
+    let answer = take_block::take_block(journal, adjacency, number, block);
     match answer {
         TakeAnswer::Taken(_) => Verdict::Go,
         TakeAnswer::Held => Verdict::Go,
@@ -133,7 +133,7 @@ fn put_graph6(output: &mut [u8], n: usize, edges: &[u8]) -> usize
     ensures { λ r. ⌜ r ≡ length (writeText (now (edges .entry)) n ++ newline) ⌝ }
     ensures { λ _. ⌜ now (output .exit) ≡ sets (now (output .entry)) 0 (writeText (now (edges .entry)) n ++ newline) ⌝ }
 {
-    let answer = graph6_writing::graph6_write(edges, n, output);
+    let answer = graph6_write::graph6_write(edges, n, output);
     match answer {
         WrittenAnswer::Refused(r) => put_refused(output, 0, r),
         WrittenAnswer::Written(len) => {
@@ -169,7 +169,7 @@ fn put_state(
     ensures { λ _. ⌜ now (output .exit) ≡ sets (now (output .entry)) 0 (stateText form n switches (now (journal .entry)) (now (adjacency .entry))) ⌝ }
 {
     let mut list = [0u8; LIST_MOST];
-    let answer = listing::edge_list(journal, adjacency, &mut list);
+    let answer = edge_list::edge_list(journal, adjacency, &mut list);
     match answer {
         WrittenAnswer::Refused(r) => put_refused(output, 0, r),
         WrittenAnswer::Written(len) => put_form(output, form, n, switches, &list[..len]),
@@ -201,7 +201,7 @@ fn finish_by(
     ensures { λ r. ⌜ now (adjacency .exit) ≡ finishAdjacency r (outcome finish (now (journal .entry)) (now (adjacency .entry))) (now (adjacency .entry)) ⌝ }
 {
     match finish {
-        Finish::Lowest => completion::complete(journal, adjacency, records),
+        Finish::Lowest => complete::complete(journal, adjacency, records),
         Finish::Picked(x) => without_x(complete_shuffled(journal, adjacency, x, records)),
     }
 }
@@ -246,7 +246,7 @@ fn lay_out(
     ensures { λ r. ⌜ r ≡ length (takenText form finish Go (now (journal .entry)) (now (adjacency .entry))) ⌝ }
     ensures { λ _. ⌜ now (output .exit) ≡ sets (now (output .entry)) 0 (takenText form finish Go (now (journal .entry)) (now (adjacency .entry))) ⌝ }
 {
-    let answer = laying_out::lay_out(journal, adjacency);
+    let answer = lay_out::lay_out(journal, adjacency);
     match answer {
         LayOutAnswer::Refused(r) => put_refused(output, 0, r),
         LayOutAnswer::LaidOut(n) => complete(journal, adjacency, form, finish, n, output),

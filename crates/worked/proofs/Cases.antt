@@ -35,20 +35,20 @@ use Rattle.state.specs.Checks.{stateVerdict}
 use Rattle.state.specs.Laid.{vertexCount}
 use Rattle.state.proofs.Checks.{state-go}
 use Rattle.state.proofs.Facts.{valid-facts}
-use Rattle.taking.specs.Take.{takeOnValid, takeJournal}
-use Rattle.reading_back.specs.Held.{heldPart}
-use Rattle.laying_out.specs.LayOut.{laidOut, layOutJournal}
+use Rattle.take_block.specs.Take.{takeOnValid, takeJournal}
+use Rattle.held_block.specs.Held.{heldPart}
+use Rattle.lay_out.specs.LayOut.{laidOut, layOutJournal}
 use Rattle.figures.specs.Figures.{figuresOf}
-use Rattle.adding.specs.Add.{addLaid, addAdjacency}
-use Rattle.removing.specs.Remove.{removeLaid, removeAdjacency}
-use Rattle.listing.specs.List.{listLaid, listOutput}
-use Rattle.listing.proofs.List.{zeros-none}
-use Rattle.survey.specs.Survey.{surveyAnswer, surveyOutput}
-use Rattle.graph6_writing.specs.Write.{writeAnswer, writeOutput}
-use Rattle.graph6_reading.specs.Read.{readAnswer, readOutput}
-use Rattle.completion.specs.Complete.{Ran, completed, finishLaid, finishAdjacency, finishOutput}
-use Rattle.shuffling.specs.Shuffle.{shuffled, withX}
-use Rattle.shuffling.specs.Finish.{outcome}
+use Rattle.add_edge.specs.Add.{addLaid, addAdjacency}
+use Rattle.remove_edge.specs.Remove.{removeLaid, removeAdjacency}
+use Rattle.edge_list.specs.List.{listLaid, listOutput}
+use Rattle.edge_list.proofs.List.{zeros-none}
+use Rattle.jdm_of_edges.specs.Survey.{surveyAnswer, surveyOutput}
+use Rattle.graph6_write.specs.Write.{writeAnswer, writeOutput}
+use Rattle.graph6_read.specs.Read.{readAnswer, readOutput}
+use Rattle.complete.specs.Complete.{Ran, completed, finishLaid, finishAdjacency, finishOutput}
+use Rattle.complete_shuffled.specs.Shuffle.{shuffled, withX}
+use Rattle.complete_shuffled.specs.Finish.{outcome}
 use Rattle.demands.specs.Calls.{Call, take, layOut, add, remove, complete, readBack, list, figures, survey, writeGraph6, readGraph6, State, cleared, after}
 use Rattle.demands.specs.Tally.{Tally, noTally, told, tally}
 use Rattle.worked.specs.Cases.{six, nine, answerOf, Step, Case, sameList, edgesOf, holdsFrom, allHold, starred, StarredHold, moved, MovedHold, picked, PickedHold}

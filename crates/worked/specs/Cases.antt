@@ -11,18 +11,18 @@ use lib.ListN.{length, replicate}
 use Rattle.answer.specs.Numbers.{Numbers, JoinNumbers, done, takeNumbers, layOutNumbers, addNumbers, removeNumbers, completeNumbers, shuffleNumbers, lengthNumbers, writtenNumbers, readNumbers, figuresNumbers}
 use Rattle.answer.specs.declared.Finish.the-variants.{Lowest, Picked}
 use Rattle.state.specs.Laid.{vertexCount}
-use Rattle.taking.specs.Take.{takeAnswer}
-use Rattle.reading_back.specs.Held.{lengthAnswer, heldPart}
-use Rattle.laying_out.specs.LayOut.{layOutAnswer}
+use Rattle.take_block.specs.Take.{takeAnswer}
+use Rattle.held_block.specs.Held.{lengthAnswer, heldPart}
+use Rattle.lay_out.specs.LayOut.{layOutAnswer}
 use Rattle.figures.specs.Figures.{figuresAnswer}
-use Rattle.adding.specs.Add.{addAnswer}
-use Rattle.removing.specs.Remove.{removeAnswer}
-use Rattle.listing.specs.List.{listBytes, listAnswer, listOutput}
-use Rattle.survey.specs.Survey.{surveyAnswer, surveyOutput}
-use Rattle.graph6_writing.specs.Write.{writeAnswer, writeOutput}
-use Rattle.graph6_reading.specs.Read.{readAnswer, readOutput}
-use Rattle.completion.specs.Complete.{completeAnswer, completeOutput}
-use Rattle.shuffling.specs.Shuffle.{shuffleAnswer, shuffleOutput}
+use Rattle.add_edge.specs.Add.{addAnswer}
+use Rattle.remove_edge.specs.Remove.{removeAnswer}
+use Rattle.edge_list.specs.List.{listBytes, listAnswer, listOutput}
+use Rattle.jdm_of_edges.specs.Survey.{surveyAnswer, surveyOutput}
+use Rattle.graph6_write.specs.Write.{writeAnswer, writeOutput}
+use Rattle.graph6_read.specs.Read.{readAnswer, readOutput}
+use Rattle.complete.specs.Complete.{completeAnswer, completeOutput}
+use Rattle.complete_shuffled.specs.Shuffle.{shuffleAnswer, shuffleOutput}
 use Rattle.demands.specs.Calls.{Call, take, layOut, add, remove, complete, readBack, list, figures, survey, writeGraph6, readGraph6, State, cleared, after}
 
 -- answers as lists of numbers

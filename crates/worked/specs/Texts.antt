@@ -8,10 +8,10 @@ use Rattle.finite.specs.Range.{catTo}
 use Rattle.answer.specs.Numbers.{Numbers, refused, done, writtenNumbers, readNumbers}
 use Rattle.answer.specs.Refusals.{refusal}
 use Rattle.answer.specs.declared.Cause.the-variants.{EdgeList, DegreeAbove, OutputLength, Graph6Text, Graph6Size}
-use Rattle.survey.specs.Survey.{surveyAnswer}
+use Rattle.jdm_of_edges.specs.Survey.{surveyAnswer}
 use Rattle.graph6.specs.Format.{sizeBytes}
-use Rattle.graph6_writing.specs.Write.{writeText, writeAnswer}
-use Rattle.graph6_reading.specs.Read.{readList, readAnswer}
+use Rattle.graph6_write.specs.Write.{writeText, writeAnswer}
+use Rattle.graph6_read.specs.Read.{readList, readAnswer}
 
 -- the edges that document 01 lists for document 004's table, and "CN"
 abbrev pub links : List ℕ

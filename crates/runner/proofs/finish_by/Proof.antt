@@ -2,8 +2,8 @@
 -- Assumes nothing.
 use borrow.Author.Needs.{needs}
 use lib.ListN.{length}
-use Rattle.completion.specs.Complete.{completed, finishAnswer}
-use Rattle.shuffling.specs.Shuffle.{shuffled}
+use Rattle.complete.specs.Complete.{completed, finishAnswer}
+use Rattle.complete_shuffled.specs.Shuffle.{shuffled}
 use Rattle.runner.proofs.Said.{ended}
 use Rattle.runner.proofs.finish_by.Statement.{statement}
 use Rattle.runner.proofs.finish_by.Tie as tie

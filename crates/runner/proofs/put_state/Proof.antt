@@ -4,7 +4,7 @@ use Prim.Native.Nat.{ℕ, _*_}
 use native.Mathlib.Omega.{arith}
 use borrow.Author.Needs.{needs}
 use lib.ListN.{replicate, length-replicate}
-use Rattle.completion.specs.Complete.{mostEdges}
+use Rattle.complete.specs.Complete.{mostEdges}
 use Rattle.runner.proofs.Room.{never-refused, listed, passes, lines-fit}
 use Rattle.runner.proofs.put_state.Statement.{statement}
 use Rattle.runner.proofs.put_state.Tie as tie

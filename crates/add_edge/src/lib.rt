@@ -1,0 +1,129 @@
+// Adding an edge (document 01: join).
+ghost use mathlib.Core.Path.{_≡_};
+ghost use Prim.Native.Nat.{_+_, _<_, min, max};
+ghost use lib.Dec.{ltb};
+ghost use lib.ListN.{length, getD};
+ghost use Rattle.answer.specs.Refusals.{refusal};
+ghost use Rattle.answer.specs.declared.Cause.the-variants.{CellFull};
+ghost use Rattle.graph.specs.Tests.{degrees};
+ghost use Rattle.table.specs.Inner.Cells.{matrixOf, AtMost, cellSumMost};
+ghost use Rattle.answer.specs.declared.Verdict.the-variants.{Go};
+ghost use Rattle.layout.specs.Inner.Arrays.{countIn, tableIn, Counts};
+ghost use Rattle.adjacency.specs.Adjacency.{adjacencySize, edge};
+ghost use Rattle.state.specs.Checks.{phaseVerdict};
+ghost use Rattle.classes.specs.Inner.Block.{blockSum, BlockOf};
+ghost use Rattle.add_edge.specs.Add.{addLaid, addAnswer, addAdjacency};
+ghost use Rattle.add_edge.specs.Inner.Work.{Unlinked, addUnlinked, addedAdjacency};
+use adjacency::edge_at;
+use answer::AddAnswer;
+use answer::Cause;
+use answer::Refusal;
+use answer::Verdict;
+use answer::refuse;
+use classes::STARTS;
+use classes::block_sum;
+use classes::class_at;
+use classes::starts;
+use joining::End;
+use joining::once::join_once;
+use layout::vertex_count;
+use state::phase_check;
+use state::sum_table;
+use table::cells::CELLS;
+use table::cells::cell;
+use table::degree::DEGREES;
+
+// Cell (k, l) of the edges so far is below the table.
+fn is_short(
+    adjacency: &[u8],
+    cells: &[u32; CELLS],
+    starts: &[usize; STARTS],
+    k: usize,
+    l: usize,
+) -> bool
+    requires { ⌜ (length (now adjacency) ≡ adjacencySize) × (k < degrees) × (l < degrees) × BlockOf (now adjacency) (getD (now starts) k 0) (getD (now starts) (k + 1) 0) (getD (now starts) l 0) (getD (now starts) (l + 1) 0) ⌝ }
+    ensures { λ r. ⌜ r ≡ ltb (blockSum (edge (now (adjacency .entry))) (getD (now (starts .entry)) k 0) (getD (now (starts .entry)) (k + 1) 0) (getD (now (starts .entry)) l 0) (getD (now (starts .entry)) (l + 1) 0)) (matrixOf (now (cells .entry)) k l) ⌝ }
+{
+    let from_k = starts[k];
+    let to_k = starts[k + 1];
+    let from_l = starts[l];
+    let to_l = starts[l + 1];
+    block_sum(adjacency, from_k, to_k, from_l, to_l) < cell(cells, k, l)
+}
+
+// Cell (k, l) is not short: its degrees, lower first.
+fn full_cell(k: usize, l: usize) -> Refusal
+    ensures { λ r. ⌜ r ≡ refusal CellFull (min k l) (max k l) ⌝ }
+{
+    if k <= l {
+        return refuse(Cause::CellFull, k, l);
+    }
+    refuse(Cause::CellFull, l, k)
+}
+
+// On two unlinked vertices: the check 16, then the switches and the edge.
+fn add_unlinked(
+    adjacency: &mut [u8],
+    cells: &[u32; CELLS],
+    counts: &[usize; DEGREES],
+    v: usize,
+    w: usize,
+) -> AddAnswer
+    requires { ⌜ Unlinked (tableIn (now cells) (countIn (now counts) 0)) (now adjacency) v w × AtMost cellSumMost (now cells) × Counts (now cells) (now counts) ⌝ }
+    ensures { λ r. ⌜ r ≡ addUnlinked (tableIn (now (cells .entry)) (countIn (now (counts .entry)) 0)) (now (adjacency .entry)) v w ⌝ }
+    ensures { λ _. ⌜ now (adjacency .exit) ≡ (let t = tableIn (now (cells .entry)) (countIn (now (counts .entry)) 0) in addedAdjacency (addUnlinked t (now (adjacency .entry)) v w) t (now (adjacency .entry)) v w) ⌝ }
+{
+    let s = starts(counts);
+    let k = class_at(&s, v);
+    let l = class_at(&s, w);
+    if !is_short(adjacency, cells, &s, k, l) {
+        return AddAnswer::Refused(full_cell(k, l));
+    }
+    let n = vertex_count(cells, counts);
+    let x = End {
+        at: v,
+        class: k,
+        low: s[k],
+    };
+    let y = End {
+        at: w,
+        class: l,
+        low: s[l],
+    };
+    AddAnswer::Added(join_once(adjacency, &s, n, x, y))
+}
+
+// On a valid laid state: the checks 13 to 15, then the pair.
+fn add_laid(journal: &[u8], adjacency: &mut [u8], v: usize, w: usize) -> AddAnswer
+    requires { ⌜ phaseVerdict 1 (now journal) (now adjacency) ≡ Go ⌝ }
+    ensures { λ r. ⌜ r ≡ addLaid (now (journal .entry)) (now (adjacency .entry)) v w ⌝ }
+    ensures { λ _. ⌜ now (adjacency .exit) ≡ addAdjacency (addLaid (now (journal .entry)) (now (adjacency .entry)) v w) (now (journal .entry)) (now (adjacency .entry)) v w ⌝ }
+{
+    let mut cells = [0u32; CELLS];
+    let d = sum_table(journal, &mut cells);
+    let n = vertex_count(&cells, &d);
+    if n <= v {
+        return AddAnswer::Refused(refuse(Cause::VertexNumber, 0, 0));
+    }
+    if n <= w {
+        return AddAnswer::Refused(refuse(Cause::VertexNumber, 0, 0));
+    }
+    if v == w {
+        return AddAnswer::Refused(refuse(Cause::SameVertex, 0, 0));
+    }
+    if edge_at(adjacency, v, w) != 0 {
+        return AddAnswer::Refused(refuse(Cause::Linked, 0, 0));
+    }
+    add_unlinked(adjacency, &cells, &d, v, w)
+}
+
+pub fn add_edge(journal: &[u8], adjacency: &mut [u8], v: usize, w: usize) -> AddAnswer
+    ensures { λ r. ⌜ r ≡ addAnswer (now (journal .entry)) (now (adjacency .entry)) v w ⌝ }
+    ensures { λ _. ⌜ now (adjacency .exit) ≡ addAdjacency (addAnswer (now (journal .entry)) (now (adjacency .entry)) v w) (now (journal .entry)) (now (adjacency .entry)) v w ⌝ }
+{
+    let verdict = phase_check(journal, adjacency, 1);
+    match verdict {
+        Verdict::Stop(r) => AddAnswer::Refused(r),
+        Verdict::Go => add_laid(journal, adjacency, v, w),
+    }
+}

@@ -1,0 +1,21 @@
+// Clearing.
+ghost use mathlib.Core.Path.{_≡_};
+ghost use Rattle.clear.specs.Clear.{clearAnswer, clearBytes};
+use answer::Cause;
+use answer::ClearAnswer;
+use answer::refuse;
+use state::lengths_ok;
+
+// Both become zero; only their lengths are looked at.
+pub fn clear(journal: &mut [u8], adjacency: &mut [u8]) -> ClearAnswer
+    ensures { λ r. ⌜ r ≡ clearAnswer (now (journal .entry)) (now (adjacency .entry)) ⌝ }
+    ensures { λ _. ⌜ now (journal .exit) ≡ clearBytes (clearAnswer (now (journal .entry)) (now (adjacency .entry))) (now (journal .entry)) ⌝ }
+    ensures { λ _. ⌜ now (adjacency .exit) ≡ clearBytes (clearAnswer (now (journal .entry)) (now (adjacency .entry))) (now (adjacency .entry)) ⌝ }
+{
+    if !lengths_ok(journal, adjacency) {
+        return ClearAnswer::Refused(refuse(Cause::Length, 0, 0));
+    }
+    slices::clear_bytes(journal);
+    slices::clear_bytes(adjacency);
+    ClearAnswer::Cleared
+}

@@ -1,0 +1,135 @@
+-- What the arrays of a layout say: the vertices of a class are a range between two starts, and a cell is the sum of a block.
+-- Assumes nothing.
+use mathlib.Core.Path.{_≡_, refl, sym, ap, _∙_}
+use mathlib.Core.Bool.{Bool, true, false, cond}
+use mathlib.Core.List.{List}
+use Prim.Native.Nat.{ℕ, _+_, _-_, _*_, _/_, _≤_, _<_}
+use native.Mathlib.Nat.{mul-zero}
+use native.Mathlib.Omega.{arith}
+use lib.Dec.{eqb}
+use lib.ListN.{length, getD}
+use Rattle.finite.specs.Range.{foldTo, δ}
+use Rattle.graph.specs.Graph.{size}
+use Rattle.graph.specs.Tests.{leastDegree, mostDegree, degrees}
+use Rattle.table.specs.Inner.Cells.{matrixOf}
+use Rattle.finite.proofs.Delta.{δ-other}
+use Rattle.finite.proofs.Fold.{foldTo-keeps, foldTo-none}
+use Rattle.finite.proofs.Sum.{sumTo-zero, sumTo-term}
+use Rattle.adjacency.specs.Adjacency.{edge}
+use Rattle.joining.specs.Inner.Work.{degreesOf}
+use Rattle.classes.specs.Inner.Block.{Numbered, classFrom, blockSum}
+use Rattle.classes.proofs.Blocks.{start-rises, start-most, class-inside, class-only, block-cell}
+use Rattle.complete.specs.Complete.{Ran}
+use Rattle.complete.specs.Inner.Cellwise.{cellStep, cellMissing, fillCell, fillRow}
+use Rattle.complete.specs.Inner.Cursor.{ClassRange}
+use Rattle.complete.specs.Inner.Search.{Ranged}
+use Rattle.complete.specs.Inner.Work.{Sound, Fillable, Working, Countable, CellOf, cellIn}
+use Rattle.complete.proofs.Sound.{row-sound, rows-sound}
+
+-- a cell that the table has nothing in misses nothing
+pub none-missing : (want have : ℕ) (t : Bool) → want ≡ 0 → 0 ≡ (want - have) / cond t 2 1
+none-missing want have true e = omega arith
+none-missing want have false e = omega arith
+
+module _ (n : ℕ) (starts : List ℕ) (numbered : Numbered n starts) where
+  -- the vertices of class k
+  range : (k : ℕ) → k < degrees → ClassRange n (classFrom starts) k (getD starts k 0) (getD starts (k + 1) 0)
+  range k h =
+      record {
+        ordered = start-rises numbered k (k + 1) (omega arith) (omega arith);
+        within = start-most numbered (k + 1) (omega arith);
+        inside = λ v f t. class-inside numbered k v h f t;
+        only = λ v vn e. class-only numbered k v h vn e;
+      }
+
+  pub ranged : (k l : ℕ) → k < degrees → l < degrees → Ranged n (classFrom starts) (cellIn starts k l)
+  ranged k l kC lC = record { first = kC; second = lC; rows = range k kC; columns = range l lC }
+
+-- a state of the work, and a cell of it
+module _ {n : ℕ} {cells starts held : List ℕ} {room : ℕ} {s : Ran} (p : Working n cells starts held room s)
+    (k l : ℕ) (kC : k < degrees) (lC : l < degrees) where
+  pub countable : Countable (s .adjacency) cells (cellIn starts k l)
+  countable =
+      let r = ranged n starts (p .arranged .numbered) k l kC lC in
+      record {
+        first = kC;
+        second = lC;
+        block =
+            record {
+              n = n;
+              few = p .arranged .few;
+              simple = p .sound .filling .partial .simple;
+              rows = (r .rows .ordered, r .rows .within);
+              columns = (r .columns .ordered, r .columns .within);
+            };
+        within =
+            rw (block-cell (p .arranged .numbered) (edge (s .adjacency)) k l kC lC) (p .sound .filling .partial .within k l kC lC);
+      }
+
+  pub cell-of : CellOf n starts (cellIn starts k l)
+  cell-of = record { numbered = p .arranged .numbered; between = refl }
+
+  -- m: what the cell misses, by the sum of its block
+  module _ (m : ℕ)
+      (e : m ≡ (matrixOf cells k l - blockSum (edge (s .adjacency)) (getD starts k 0) (getD starts (k + 1) 0) (getD starts l 0) (getD starts (l + 1) 0))
+      / cond (eqb k l) 2 1) where
+    missing-count : m ≡ cellMissing n (classFrom starts) (matrixOf cells) (s .adjacency) k l
+    missing-count = rw (← (block-cell (p .arranged .numbered) (edge (s .adjacency)) k l kC lC)) e
+
+    pub fillable : Fillable n (classFrom starts) (cellIn starts k l) m room s held
+    fillable =
+        record {
+          table = matrixOf cells;
+          sound = p .sound;
+          missing = omega (arith, missing-count);
+          ranged = ranged n starts (p .arranged .numbered) k l kC lC;
+          degrees-held = p .degrees-held;
+        }
+
+    pub cell-filled : (r : Ran) → r ≡ foldTo m (λ i. cellStep n (classFrom starts) k l) s → r ≡ fillCell n (classFrom starts) (matrixOf cells) k l s
+    cell-filled r er = er ∙ ap (λ (i : ℕ). foldTo i (λ i. cellStep n (classFrom starts) k l) s) missing-count
+
+-- the work goes on from any state that is sound
+module _ {n : ℕ} {cells starts held : List ℕ} {room : ℕ} {s : Ran} (p : Working n cells starts held room s) where
+  pub working : (x : Ran) → Sound n (classFrom starts) (matrixOf cells) room x → (h : List ℕ) → h ≡ degreesOf n (x .adjacency)
+      → {left : ℕ} → left ≡ room → Working n cells starts h left x
+  working x sound h e er = record { arranged = p .arranged; sound = rw er sound; degrees-held = e }
+
+  pub working-sized : (x : Ran) → Sound n (classFrom starts) (matrixOf cells) room x → length (x .adjacency) ≡ length (s .adjacency)
+  working-sized x sound = sound .filling .sized ∙ sym (p .sound .filling .sized)
+
+  -- x: the state after the first i cells of row k, and after the first i rows
+  module _ (i : ℕ) (x : Ran) where
+    pub cells-sound : (k : ℕ) → k + i ≤ degrees → x ≡ foldTo i (λ i. fillCell n (classFrom starts) (matrixOf cells) k (k + i)) s
+        → Sound n (classFrom starts) (matrixOf cells) room x
+    cells-sound k h e = rw e (row-sound n (classFrom starts) (matrixOf cells) room s (p .sound) k i h)
+
+    pub all-sound : i ≤ mostDegree → x ≡ foldTo i (λ i. fillRow n (classFrom starts) (matrixOf cells) (leastDegree + i)) s
+        → Sound n (classFrom starts) (matrixOf cells) room x
+    all-sound h e = rw e (rows-sound n (classFrom starts) (matrixOf cells) room s (p .sound) i h)
+
+  -- a class without vertices has no cell to fill
+  module _ (k : ℕ) (kC : k < degrees) (empty : getD starts k 0 ≡ getD starts (k + 1) 0) where
+    no-vertices : size n (classFrom starts) k ≡ 0
+    no-vertices =
+        sumTo-zero n (λ v. δ (classFrom starts v) k)
+        (λ v vn. δ-other (classFrom starts v) k (λ e. omega (arith, class-only (p .arranged .numbered) k v kC vn e)))
+
+    no-cell : (l : ℕ) → l < degrees → matrixOf cells k l ≡ 0
+    no-cell l lC =
+        omega (
+          arith,
+          sumTo-term degrees (matrixOf cells k) l lC,
+          p .sound .filling .target .rows k kC ∙ ap (λ (m : ℕ). k * m) no-vertices ∙ mul-zero k,
+        )
+
+    pub row-empty : s ≡ fillRow n (classFrom starts) (matrixOf cells) k s
+    row-empty =
+        sym (foldTo-keeps (λ i x. x ≡ s) (λ i. fillCell n (classFrom starts) (matrixOf cells) k (k + i)) s (degrees - k) refl
+        (λ i x l e. same i x l ∙ e))
+      where
+        same : (i : ℕ) (x : Ran) → i < degrees - k → fillCell n (classFrom starts) (matrixOf cells) k (k + i) x ≡ x
+        same i x l =
+            ap (λ (m : ℕ). foldTo m (λ j. cellStep n (classFrom starts) k (k + i)) x)
+            (sym (none-missing (matrixOf cells k (k + i)) _ (eqb k (k + i)) (no-cell (k + i) (omega arith))))
+            ∙ foldTo-none (λ j. cellStep n (classFrom starts) k (k + i)) x

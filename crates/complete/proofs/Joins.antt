@@ -1,0 +1,59 @@
+-- The joins of one cell: before each of them the cell is short, and the cursor stands as it should.
+-- Assumes nothing.
+use mathlib.Core.Path.{_≡_, sym, _∙_}
+use mathlib.Core.List.{List}
+use Prim.Native.Nat.{ℕ, _≤_, _<_}
+use native.Mathlib.Omega.{arith}
+use lib.ListN.{length}
+use Rattle.finite.specs.Range.{foldTo}
+use Rattle.joining.specs.Inner.Work.{degreesOf}
+use Rattle.complete.specs.Complete.{Ran}
+use Rattle.complete.specs.Inner.Cellwise.{cellStep}
+use Rattle.complete.specs.Inner.Search.{Ranged}
+use Rattle.complete.specs.Inner.Work.{Sound, Resumes, Steppable, Fillable}
+use Rattle.complete.specs.declared.pair.Cell.{Cell}
+use Rattle.complete.specs.declared.cell.Cursor.{Cursor}
+use Rattle.complete.proofs.Cellwise.{part-short}
+use Rattle.complete.proofs.Sound.{part-sound}
+
+-- before the first vertices of its classes nothing is left to do in a cell
+pub start-resumes : (n : ℕ) (cls : ℕ → ℕ) (g : List ℕ) (c : Cell) → Ranged n cls c
+    → Resumes n cls g c (record { at = record { v = c .rows .from; w = 0 }; low = record { v = c .rows .from; w = c .columns .from } })
+start-resumes n cls g c r =
+    record {
+      row = omega arith;
+      column = omega arith;
+      rows = λ u x h xn e. absurd (before-rows u h e);
+      columns = λ x h. absurd (omega arith);
+      row-low = omega arith;
+      column-low = omega arith;
+      low-row = r .rows .ordered;
+      low-column = r .columns .ordered;
+      saturated-rows = λ i h e. absurd (before-rows i h e);
+      saturated-columns = λ i h e. absurd (omega (arith, r .columns .only i (omega (arith, r .columns .ordered, r .columns .within)) e));
+    }
+  where
+    before-rows : (u : ℕ) → u < c .rows .from → cls u ≡ c .k → ⊥
+    before-rows u h e = omega (arith, r .rows .only u (omega (arith, r .rows .ordered, r .rows .within)) e)
+
+-- x: the state after i of the joins
+module _ {n : ℕ} {cls : ℕ → ℕ} {c : Cell} {m room : ℕ} {s : Ran} {held₀ : List ℕ} (p : Fillable n cls c m room s held₀)
+    (i : ℕ) (x : Ran) (e : x ≡ foldTo i (λ i. cellStep n cls (c .k) (c .l)) s) where
+  fill-sound : i ≤ m → Sound n cls (p .table) room x
+  fill-sound h = rw e (part-sound n cls (p .table) room s (p .sound) (c .k) (c .l) (p .ranged .first) (p .ranged .second) i (omega (arith, p .missing)))
+
+  pub fill-sized : i ≤ m → length (x .adjacency) ≡ length (s .adjacency)
+  fill-sized h = fill-sound h .filling .sized ∙ sym (p .sound .filling .sized)
+
+  pub fill-steppable : i < m → (u : Cursor) (held : List ℕ) → Resumes n cls (x .adjacency) c u → held ≡ degreesOf n (x .adjacency)
+      → {left : ℕ} → left ≡ room → Steppable n cls c u left x held
+  fill-steppable h u held r d er =
+      record {
+        table = p .table;
+        sound = rw er (fill-sound (omega arith));
+        short =
+            rw e (part-short n cls (p .table) s (p .sound .filling) (c .k) (c .l) (p .ranged .first) (p .ranged .second) i (omega (arith, p .missing)));
+        ranged = p .ranged;
+        resumes = r;
+        degrees-held = d;
+      }

@@ -1,0 +1,64 @@
+-- `completion::cell::fill_step` meets its contract.
+-- Assumes nothing.
+use mathlib.Core.Path.{refl}
+use native.Mathlib.Omega.{arith}
+use borrow.Author.Needs.{needs}
+use Rattle.complete.proofs.Sound.{join-recordable}
+use Rattle.complete.proofs.Step.{step-searchable, step-joinable, step-room, step-ran, row-placed, column-placed, step-resumes}
+use Rattle.complete.proofs.cell.fill_step.Statement.{statement}
+use Rattle.complete.proofs.cell.fill_step.Tie as tie
+
+pub fill-step-spec : {M : Type 1} → statement M
+fill-step-spec =
+    tie.close (tie.spec
+    (λ c κs.
+    let f = c .before .before .before in
+    (f .pre .0 .sound .filling .sized, step-searchable (f .pre .0)))  -- open-pair-requires
+    (λ c κs.
+    let f = c .before .before .before .before .before in
+    omega (arith, f .pre .0 .ranged .rows .within, f .pre .0 .sound .filling .few))  -- advance-requires
+    (λ c κs.
+    let f = c .before .before .before .before .before .before .before in
+    omega (arith, f .pre .0 .ranged .columns .within, f .pre .0 .sound .filling .few))  -- advance-requires-2
+    (λ c κs.
+    let y = c .before .before in
+    let x = y .before .before in
+    let o = x .before .before in
+    let f = o .before .before .before .before in
+    let e = o .open-pair .ensures in (
+      step-joinable (f .pre .0) _ _ (e .0) (e .1),
+      f .pre .0 .degrees-held,
+      row-placed (f .pre .0) (f .pre .1) _ _ (e .0) (e .1) _ _ (x .advance .ensures) (y .advance2 .ensures),
+      column-placed (f .pre .0) (f .pre .1) _ _ (e .0) (e .1) _ _ (x .advance .ensures) (y .advance2 .ensures),
+    ))  -- join-requires
+    (λ c κs.
+    let j = c .before .before .before in
+    let o = j .before .before .before .before .before .before .before in
+    let f = o .before .before .before .before in
+    let joinable = step-joinable (f .pre .0) _ _ (o .open-pair .ensures .0) (o .open-pair .ensures .1) in
+    join-recordable (f .args .output .now) (f .pre .0 .sound) (step-room (f .pre .0)) joinable (j .join .ensures .0 .0))  -- record-join-requires
+    (λ c.
+    let o = c .before .before .before .before .before .before .before .before .before .before .before .before .before .before in
+    let f = o .before .before .before .before in
+    let joinable = step-joinable (f .pre .0) _ _ (o .open-pair .ensures .0) (o .open-pair .ensures .1) in
+    omega (arith, joinable .pair .second, f .pre .0 .sound .filling .few))  -- add-least
+    (λ c κs. tt)  -- least-requires
+    (λ c. search needs)  -- same-length
+    (λ c. search needs)  -- same-length-2
+    (λ c.
+    let w = c .before .before .before .before in
+    let j = w .before .before .before .before in
+    let y = j .before .before .before in
+    let x = y .before .before in
+    let o = x .before .before in
+    let f = o .before .before .before .before in
+    let e = o .open-pair .ensures in
+    let wrote = w .record-join .ensures in
+    rw (wrote .0 .0) (
+      (
+        step-ran (f .pre .0) _ _ (e .0) (e .1) (j .join .ensures .0 .0) _ _ _ refl refl (wrote .1) (j .join .ensures .1 .0),
+        step-resumes (f .pre .0) _ _ (e .0) (e .1) _ _ (x .advance .ensures) (y .advance2 .ensures) _ _ _
+            (j .join .ensures .1 .0) (j .join .ensures .0 .1) (c .least .ensures),
+      ),
+      (rw (wrote .0 .0) at (wrote .0 .1), rw (j .join .ensures .1 .0) (j .join .ensures .1 .1)),
+    )))  -- returns

@@ -1,0 +1,138 @@
+-- What the code of completing keeps from join to join, and what it may rely on.
+-- Assumes nothing.
+use mathlib.Core.Path.{_≡_}
+use mathlib.Core.Bool.{false}
+use mathlib.Core.List.{List}
+use Prim.Native.Nat.{ℕ, _+_, _*_, _≤_, _<_}
+use lib.ListN.{length, getD, take, drop}
+use Rattle.answer.specs.Switches.{switchCount, firstSwitch, secondSwitch}
+use Rattle.answer.specs.declared.switches.Switches.{Switches}
+use Rattle.graph.specs.Graph.{jdm, edges}
+use Rattle.graph.specs.Switch.{unsaturated}
+use Rattle.graph.specs.Tests.{degrees, vertices}
+use Rattle.graph.specs.Theorems.{allCells}
+use Rattle.adjacency.specs.Adjacency.{edge}
+use Rattle.table.specs.Inner.Cells.{matrixOf, AtMost, cellSumMost}
+use Rattle.layout.specs.Layout.{mostVertices}
+use Rattle.layout.specs.Inner.Arrays.{countIn, tableIn, Counts}
+use Rattle.journal.specs.Journal.{tableOf}
+use Rattle.joining.specs.Join.{own}
+use Rattle.joining.specs.Inner.Work.{degreesOf}
+use Rattle.classes.specs.Inner.Block.{Numbered, classFrom, blockSum, BlockOf}
+use Rattle.join_records.specs.Record.{joinRecordSize}
+use Rattle.join_records.specs.Inner.Bytes.{InBytes}
+use Rattle.complete.specs.Complete.{Ran, mostEdges, missing as missingEdges}
+use Rattle.complete.specs.Inner.Cellwise.{cellMissing, Filling}
+use Rattle.complete.specs.Inner.Cursor.{RowsDone, ColumnsDone}
+use Rattle.complete.specs.Inner.Search.{Ranged}
+use Rattle.complete.specs.declared.pair.Cell.{Cell}
+use Rattle.complete.specs.declared.cell.Cursor.{Cursor}
+use Rattle.complete.specs.declared.cell.Totals.{Totals}
+use Rattle.complete.specs.declared.start.Start.{Start}
+
+-- the matrix with the totals and the output beside it: as many records as joins stand at the output's start
+abbrev pub ran : List ℕ → List ℕ → Totals → Ran
+ran g out t = record { adjacency = g; joins = t .joins; switches = t .switches; records = take (joinRecordSize * t .joins) out }
+
+-- from the i-th join on up to the j-th, the output changed nowhere behind their records
+pub record WroteRecords (i j : ℕ) (out out′ : List ℕ) : Type 0 where
+  pub rises : i ≤ j
+  pub sized : length out′ ≡ length out
+  pub behind : drop (joinRecordSize * j) out′ ≡ drop (joinRecordSize * j) out
+
+-- one join more, with its switches
+abbrev pub withJoin : Totals → Switches → Totals
+withJoin t s = record { joins = t .joins + 1; switches = t .switches + switchCount s }
+
+-- the join of v and w with its switches can be recorded behind those made so far, in an output of `room` bytes
+pub record Recordable (room : ℕ) (t : Totals) (v w : ℕ) (s : Switches) : Type 0 where
+  pub few : t .joins ≤ mostEdges
+  pub switches-le : t .switches ≤ 2 * t .joins
+  pub fits : joinRecordSize * t .joins + joinRecordSize ≤ room
+  pub first : v < 256
+  pub second : w < 256
+  pub bytes : InBytes (firstSwitch s) × InBytes (secondSwitch s)
+
+-- a partial graph, with totals that its edges bound; an output of `room` bytes has room for the records made and those of the edges that are missing
+pub record Sound (n : ℕ) (cls : ℕ → ℕ) (T : ℕ → ℕ → ℕ) (room : ℕ) (s : Ran) : Type 0 where
+  pub filling : Filling n cls T (s .adjacency)
+  pub joins-le : s .joins ≤ edges n (edge (s .adjacency))
+  pub switches-le : s .switches ≤ 2 * s .joins
+  pub records-fit : joinRecordSize * (2 * s .joins + allCells degrees T) ≤ 2 * (room + joinRecordSize * edges n (edge (s .adjacency)))
+
+-- the vertices of class k below `low` are saturated
+abbrev pub Saturated : ℕ → (ℕ → ℕ) → List ℕ → ℕ → ℕ → Type 0
+Saturated n cls g k low = (i : ℕ) → i < low → cls i ≡ k → unsaturated n cls own (edge g) i ≡ false
+
+-- what the cursor has passed is done
+pub record Resumes (n : ℕ) (cls : ℕ → ℕ) (g : List ℕ) (c : Cell) (u : Cursor) : Type 0 where
+  pub row : c .rows .from ≤ u .at .v
+  pub column : u .at .w ≤ c .columns .to
+  pub rows : RowsDone n cls g (c .k) (c .l) (u .at .v)
+  pub columns : ColumnsDone cls g (c .k) (c .l) (u .at .v) (u .at .w)
+  pub row-low : c .rows .from ≤ u .low .v
+  pub column-low : c .columns .from ≤ u .low .w
+  pub low-row : u .low .v ≤ c .rows .to
+  pub low-column : u .low .w ≤ c .columns .to
+  pub saturated-rows : Saturated n cls g (c .k) (u .low .v)
+  pub saturated-columns : Saturated n cls g (c .l) (u .low .w)
+
+-- m joins may be made in the cell: it misses as many
+pub record Fillable (n : ℕ) (cls : ℕ → ℕ) (c : Cell) (m room : ℕ) (s : Ran) (held : List ℕ) : Type 0 where
+  pub table : ℕ → ℕ → ℕ
+  pub sound : Sound n cls table room s
+  pub missing : m ≤ cellMissing n cls table (s .adjacency) (c .k) (c .l)
+  pub ranged : Ranged n cls c
+  pub degrees-held : held ≡ degreesOf n (s .adjacency)
+
+-- one join may be made in the cell: it is short
+pub record Steppable (n : ℕ) (cls : ℕ → ℕ) (c : Cell) (u : Cursor) (room : ℕ) (s : Ran) (held : List ℕ) : Type 0 where
+  pub table : ℕ → ℕ → ℕ
+  pub sound : Sound n cls table room s
+  pub short : jdm n cls (edge (s .adjacency)) (c .k) (c .l) < table (c .k) (c .l)
+  pub ranged : Ranged n cls c
+  pub resumes : Resumes n cls (s .adjacency) c u
+  pub degrees-held : held ≡ degreesOf n (s .adjacency)
+
+-- cell (k, l) between the starts of its classes
+abbrev pub cellIn : List ℕ → ℕ → ℕ → Cell
+cellIn starts k l =
+    record {
+      k = k;
+      l = l;
+      rows = record { from = getD starts k 0; to = getD starts (k + 1) 0 };
+      columns = record { from = getD starts l 0; to = getD starts (l + 1) 0 };
+    }
+
+-- the cell of two of the classes that start there
+pub record CellOf (n : ℕ) (starts : List ℕ) (c : Cell) : Type 0 where
+  pub numbered : Numbered n starts
+  pub between : c ≡ cellIn starts (c .k) (c .l)
+
+-- the starts of a layout's classes
+pub record Arranged (n : ℕ) (starts : List ℕ) : Type 0 where
+  pub few : n ≤ mostVertices
+  pub numbered : Numbered n starts
+
+-- these, and beside them a partial graph of the table with its degrees
+pub record Working (n : ℕ) (cells starts held : List ℕ) (room : ℕ) (s : Ran) : Type 0 where
+  pub arranged : Arranged n starts
+  pub sound : Sound n (classFrom starts) (matrixOf cells) room s
+  pub degrees-held : held ≡ degreesOf n (s .adjacency)
+
+-- what a cell misses can be counted: its ranges are ranges of vertices, and it does not hold more than the table
+pub record Countable (g cells : List ℕ) (c : Cell) : Type 0 where
+  pub first : c .k < degrees
+  pub second : c .l < degrees
+  pub block : BlockOf g (c .rows .from) (c .rows .to) (c .columns .from) (c .columns .to)
+  pub within : blockSum (edge g) (c .rows .from) (c .rows .to) (c .columns .from) (c .columns .to) ≤ matrixOf cells (c .k) (c .l)
+
+-- what the work on a valid laid state begins with: the cells are those of the journal's table, and the rest is what they and the matrix say
+pub record Started (j g cells : List ℕ) (s : Start) : Type 0 where
+  pub said : tableIn cells (countIn (s .counts) 0) ≡ tableOf j
+  pub most : AtMost cellSumMost cells
+  pub counted : Counts cells (s .counts)
+  pub total : s .n ≡ vertices (tableIn cells (countIn (s .counts) 0))
+  pub degrees-held : s .held ≡ degreesOf (s .n) g
+  pub lacks : s .missing ≡ missingEdges j g
+  pub few : s .missing ≤ mostEdges

@@ -1,0 +1,71 @@
+// All joins, from x on.
+ghost use mathlib.Core.Path.{_≡_};
+ghost use lib.ListN.{length};
+ghost use Rattle.table.specs.Inner.Cells.{matrixOf};
+ghost use Rattle.classes.specs.Inner.Block.{classFrom};
+ghost use Rattle.complete.specs.Complete.{fresh, mostEdges};
+ghost use Rattle.complete.specs.Inner.Work.{Working, WroteRecords};
+ghost use Rattle.complete_shuffled.specs.Shuffle.{runShuffled};
+ghost use Rattle.complete_shuffled.specs.Inner.Track.{ClassArray, Lacks, shuffledAt, begins};
+use crate::step::Shuffle;
+use crate::step::shuffle_step;
+use crate::track::count_cells;
+use adjacency::SIDE;
+use classes::STARTS;
+use complete::cell::Totals;
+use layout::MOST_VERTICES;
+use open_pairs::refresh::refresh_range;
+use open_pairs::row::SUMS;
+use table::cells::CELLS;
+use table::degree::DEGREES;
+
+// One flag for each class and vertex.
+const FLAGS: usize = DEGREES * SIDE;
+
+// m joins: as many as are missing.
+pub fn shuffle_cells(
+    adjacency: &mut [u8],
+    output: &mut [u8],
+    held: &mut [usize; MOST_VERTICES],
+    cells: &[u32; CELLS],
+    starts: &[usize; STARTS],
+    classes: &[u8; MOST_VERTICES],
+    n: usize,
+    m: usize,
+    x: u32,
+) -> Shuffle
+    requires { ⌜ Working n (now cells) (now starts) (now held) (length (now output)) (fresh (now adjacency)) × ClassArray n (now starts) (now classes) × Lacks n (now cells) (now adjacency) m ⌝ }
+    ensures { λ r. ⌜ shuffledAt (now (adjacency .exit)) (now (output .exit)) r ≡ runShuffled mostEdges n (classFrom (now (starts .entry))) (matrixOf (now (cells .entry))) (begins (now (adjacency .entry)) x) ⌝ }
+    ensures { λ r. ⌜ WroteRecords 0 (r .totals .joins) (now (output .entry)) (now (output .exit)) ⌝ }
+{
+    let mut have = [0u32; CELLS];
+    let mut full = [0u8; FLAGS];
+    let mut counts = [0usize; MOST_VERTICES];
+    let mut sums = [0usize; SUMS];
+    count_cells(adjacency, cells, starts, &mut have, &mut full, n);
+    refresh_range(adjacency, &full, classes, &mut counts, &mut sums, n, 0, n);
+    let mut low = *starts;
+    let none = Totals {
+        joins: 0,
+        switches: 0,
+    };
+    let mut done = Shuffle { totals: none, x };
+    for _ in 0..m {
+        done = shuffle_step(
+            adjacency,
+            output,
+            held,
+            &mut low,
+            &mut have,
+            &mut full,
+            &mut counts,
+            &mut sums,
+            cells,
+            starts,
+            classes,
+            n,
+            done,
+        );
+    }
+    done
+}

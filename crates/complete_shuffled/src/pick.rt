@@ -1,0 +1,49 @@
+// The open pair that x picks, by its position.
+ghost use mathlib.Core.Path.{_≡_};
+ghost use Prim.Native.Nat.{_<_};
+ghost use Rattle.table.specs.Inner.Cells.{matrixOf};
+ghost use Rattle.classes.specs.Inner.Block.{classFrom};
+ghost use Rattle.complete.specs.Inner.Cellwise.{Filling};
+ghost use Rattle.complete_shuffled.specs.Choice.{openCount, pairV, pairW, position};
+ghost use Rattle.complete_shuffled.specs.Inner.Track.{Tracked};
+use classes::STARTS;
+use layout::MOST_VERTICES;
+use open_pairs::column::column_at;
+use open_pairs::row::SUMS;
+use open_pairs::row::row_at;
+use open_pairs::row::total;
+use slices::wide;
+use table::cells::CELLS;
+use table::cells::wide32;
+
+// x divided by this picks: its low 16 bits take no part.
+const LOW_PART: usize = 65536;
+
+// Two vertices, the lower one first.
+pub struct Pair {
+    pub v: usize,
+    pub w: usize,
+}
+
+pub fn pick(
+    adjacency: &[u8],
+    cells: &[u32; CELLS],
+    starts: &[usize; STARTS],
+    classes: &[u8; MOST_VERTICES],
+    have: &[u32; CELLS],
+    full: &[u8],
+    counts: &[usize; MOST_VERTICES],
+    sums: &[usize; SUMS],
+    n: usize,
+    x: u32,
+) -> Pair
+    requires { ⌜ Tracked n (now cells) (now starts) (now classes) (now adjacency) (now have) (now full) (now counts) (now sums) × Filling n (classFrom (now starts)) (matrixOf (now cells)) (now adjacency) × (0 < openCount n (classFrom (now starts)) (matrixOf (now cells)) (now adjacency)) ⌝ }
+    ensures { λ r. ⌜ r .v ≡ pairV n (classFrom (now (starts .entry))) (matrixOf (now (cells .entry))) (now (adjacency .entry)) (position n (classFrom (now (starts .entry))) (matrixOf (now (cells .entry))) (now (adjacency .entry)) x) ⌝ }
+    ensures { λ r. ⌜ r .w ≡ pairW n (classFrom (now (starts .entry))) (matrixOf (now (cells .entry))) (now (adjacency .entry)) (position n (classFrom (now (starts .entry))) (matrixOf (now (cells .entry))) (now (adjacency .entry)) x) (r .v) ⌝ }
+{
+    let m = total(counts, sums);
+    let place = row_at(counts, sums, wide32(x) / LOW_PART % m);
+    let v = place.at;
+    let w = column_at(adjacency, full, n, wide(classes[v]), v, place.rest);
+    Pair { v, w }
+}

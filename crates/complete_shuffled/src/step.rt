@@ -1,0 +1,141 @@
+// One join: x steps, the pair that it picks is joined, its record is written, and what is kept follows.
+ghost use mathlib.Core.Path.{_≡_};
+ghost use mathlib.Core.Bool.{true};
+ghost use Prim.Native.Nat.{_+_, _≤_, _<_};
+ghost use lib.ListN.{length, getD, set};
+ghost use Rattle.graph.specs.Tests.{degrees};
+ghost use Rattle.table.specs.Inner.Cells.{matrixOf};
+ghost use Rattle.adjacency.specs.Adjacency.{side};
+ghost use Rattle.classes.specs.Inner.Block.{classFrom};
+ghost use Rattle.joining.specs.Join.{joinBytes, joinSwitches};
+ghost use Rattle.joining.specs.Inner.Work.{degreesOf, Joinable};
+ghost use Rattle.complete.specs.Inner.Work.{ran, WroteRecords, Arranged};
+ghost use Rattle.complete_shuffled.specs.Shuffle.{nextShuffled, isShort};
+ghost use Rattle.complete_shuffled.specs.Inner.Track.{Lows, lowFrom, Shuffling, shuffledAt};
+use crate::pick::Pair;
+use crate::pick::pick;
+use crate::picker::next_x;
+use crate::track::update;
+use answer::switches::Switches;
+use classes::STARTS;
+use complete::cell::Totals;
+use complete::cell::advance;
+use complete::cell::record_join;
+use joining::End;
+use layout::MOST_VERTICES;
+use open_pairs::row::SUMS;
+use slices::wide;
+use table::cells::CELLS;
+
+// Edges added and switches made, and x.
+pub struct Shuffle {
+    pub totals: Totals,
+    pub x: u32,
+}
+
+// A vertex of class k before which all are saturated; the next search goes on from it.
+fn low_of(
+    held: &[usize; MOST_VERTICES],
+    starts: &[usize; STARTS],
+    low: &mut [usize; STARTS],
+    k: usize,
+) -> usize
+    requires { ⌜ (k < degrees) × (getD (now starts) (k + 1) 0 ≤ side) ⌝ }
+    ensures { λ r. ⌜ r ≡ lowFrom (now (held .entry)) (now (starts .entry)) (now (low .entry)) k ⌝ }
+    ensures { λ _. ⌜ now (low .exit) ≡ set (now (low .entry)) k (lowFrom (now (held .entry)) (now (starts .entry)) (now (low .entry)) k) ⌝ }
+{
+    let v = advance(held, low[k], starts[k + 1], k);
+    low[k] = v;
+    v
+}
+
+// The pair joined, its vertices being of class k and l.
+fn join_pair(
+    adjacency: &mut [u8],
+    held: &mut [usize; MOST_VERTICES],
+    low: &mut [usize; STARTS],
+    starts: &[usize; STARTS],
+    n: usize,
+    pair: Pair,
+    k: usize,
+    l: usize,
+) -> Switches
+    requires { ⌜ Joinable n (classFrom (now starts)) (now adjacency) (pair .v) (pair .w) × (now held ≡ degreesOf n (now adjacency)) × Lows n (now starts) (now adjacency) (now low) × Arranged n (now starts) × (k ≡ classFrom (now starts) (pair .v)) × (l ≡ classFrom (now starts) (pair .w)) ⌝ }
+    ensures { λ r. ⌜ r ≡ joinSwitches n (classFrom (now (starts .entry))) (now (adjacency .entry)) (pair .v) (pair .w) ⌝ }
+    ensures { λ _. ⌜ now (adjacency .exit) ≡ joinBytes n (classFrom (now (starts .entry))) (now (adjacency .entry)) (pair .v) (pair .w) ⌝ }
+    ensures { λ _. ⌜ now (held .exit) ≡ degreesOf n (joinBytes n (classFrom (now (starts .entry))) (now (adjacency .entry)) (pair .v) (pair .w)) ⌝ }
+    ensures { λ _. ⌜ Lows n (now (starts .entry)) (joinBytes n (classFrom (now (starts .entry))) (now (adjacency .entry)) (pair .v) (pair .w)) (now (low .exit)) ⌝ }
+{
+    let row = low_of(held, starts, low, k);
+    let column = low_of(held, starts, low, l);
+    let v = End {
+        at: pair.v,
+        class: k,
+        low: row,
+    };
+    let w = End {
+        at: pair.w,
+        class: l,
+        low: column,
+    };
+    let joined = joining::join(adjacency, held, starts, n, v, w);
+    joined.switches
+}
+
+// One join.
+pub fn shuffle_step(
+    adjacency: &mut [u8],
+    output: &mut [u8],
+    held: &mut [usize; MOST_VERTICES],
+    low: &mut [usize; STARTS],
+    have: &mut [u32; CELLS],
+    full: &mut [u8],
+    counts: &mut [usize; MOST_VERTICES],
+    sums: &mut [usize; SUMS],
+    cells: &[u32; CELLS],
+    starts: &[usize; STARTS],
+    classes: &[u8; MOST_VERTICES],
+    n: usize,
+    done: Shuffle,
+) -> Shuffle
+    requires { ⌜ Shuffling n (now cells) (now starts) (now classes) (now adjacency) (now have) (now full) (now counts) (now sums) (now low) (now held) (length (now output)) (ran (now adjacency) (now output) (done .totals)) × (isShort n (classFrom (now starts)) (matrixOf (now cells)) (shuffledAt (now adjacency) (now output) done) ≡ true) ⌝ }
+    ensures { λ r. ⌜ shuffledAt (now (adjacency .exit)) (now (output .exit)) r ≡ nextShuffled n (classFrom (now (starts .entry))) (matrixOf (now (cells .entry))) (shuffledAt (now (adjacency .entry)) (now (output .entry)) done) ⌝ }
+    ensures { λ r. ⌜ WroteRecords (done .totals .joins) (r .totals .joins) (now (output .entry)) (now (output .exit)) ⌝ }
+    ensures { λ r. ⌜ Shuffling n (now (cells .entry)) (now (starts .entry)) (now (classes .entry)) (now (adjacency .exit)) (now (have .exit)) (now (full .exit)) (now (counts .exit)) (now (sums .exit)) (now (low .exit)) (now (held .exit)) (length (now (output .entry))) (ran (now (adjacency .exit)) (now (output .exit)) (r .totals)) ⌝ }
+{
+    let stepped = next_x(done.x);
+    let pair = pick(
+        adjacency,
+        cells,
+        starts,
+        classes,
+        have,
+        full,
+        counts,
+        sums,
+        n,
+        stepped,
+    );
+    let v = pair.v;
+    let w = pair.w;
+    let k = wide(classes[v]);
+    let l = wide(classes[w]);
+    let made = join_pair(adjacency, held, low, starts, n, pair, k, l);
+    let totals = record_join(output, done.totals, v, w, made);
+    update(
+        adjacency,
+        cells,
+        starts,
+        classes,
+        have,
+        full,
+        counts,
+        sums,
+        n,
+        v,
+        k,
+        l,
+        made,
+    );
+    Shuffle { totals, x: stepped }
+}

@@ -1,0 +1,195 @@
+-- What counting edge by edge makes of the arrays: the degrees and the joint degree matrix of the edges so far. Each is bounded.
+-- Assumes nothing.
+use mathlib.Core.Path.{_≡_, sym, ap, _∙_}
+use mathlib.Core.List.{List}
+use mathlib.Core.Logic.{_≢_}
+use Prim.Native.Nat.{ℕ, zero, suc, _+_, _*_, _≤_, _<_}
+use native.Mathlib.Nat.{add-assoc, mul-one, mul-le-mul-left}
+use native.Mathlib.Numerals.{add-one}
+use native.Mathlib.Decide.{ℕ-discrete, decLt}
+use native.Mathlib.Omega.{arith}
+use lib.Dec.{ltb}
+use lib.ListN.{length, getD, replicate, length-set}
+use borrow.Author.Tests.{ltb-false, lt-ltb, le-ltb, eq-eqb, ne-eqb}
+use Rattle.finite.specs.Range.{δ}
+use Rattle.finite.proofs.All.{and-false}
+use Rattle.finite.proofs.Delta.{δ-self, δ-same, δ-other, δ-le}
+use Rattle.finite.proofs.Lowest.{lowest-before, lowest-cong}
+use Rattle.finite.proofs.Sum.{sumTo-none, sumTo-mono, sumTo-const, sumTo-cong, sumTo-zero}
+use Rattle.graph.specs.Graph.{degree, size, isolated, jdm, atEdge}
+use Rattle.graph.specs.Tests.{mostDegree, degrees}
+use Rattle.graph.proofs.Edge.{Place, forth, back, elsewhere, place as placed, atEdge-here, atEdge-back}
+use Rattle.graph.proofs.Matrix.{jdm-cong, jdm-empty}
+use Rattle.graph.proofs.Update.{handshake, degree-adds, jdm-adds}
+use Rattle.slices.proofs.Zero.{getD-zeros}
+use Rattle.table.specs.Inner.Cells.{cellsSize, place, matrixOf}
+use Rattle.table.proofs.Matrix.{noCells, add-here, add-apart, place-below, matrix-none}
+use Rattle.layout.specs.Layout.{mostVertices}
+use Rattle.edgelist.specs.EdgeList.{listed, endV, endW, firstBadEdge, graphOf}
+use Rattle.jdm_of_edges.specs.Survey.{firstAbove}
+use Rattle.edgelist.proofs.List.{graphTo, Good, good, graphTo-adds, simple-to, edges-to}
+use Rattle.jdm_of_edges.specs.Inner.Counting.{addAt, countEdge, degreeIn, timesCounted, countCell, HasDegrees, HasCells, firstAboveIn, isolatedIn, cellMostOwn, CellsSmall}
+
+-- 1. Degrees.
+
+-- one more at place p
+one-more : (t : List ℕ) (p q : ℕ) → p < length t → getD (addAt t p 1) q 0 ≡ getD t q 0 + δ q p
+one-more t p q l = go (ℕ-discrete q p)
+  where
+    go : Dec (q ≡ p) → getD (addAt t p 1) q 0 ≡ getD t q 0 + δ q p
+    go (yes h) = rw (δ-same q p h) (add-here t q p 1 l h)
+    go (no h) = rw (δ-other q p h) (add-apart t q p 1 h)
+
+pub length-countEdge : (x y : ℕ) (d : List ℕ) → length (countEdge x y d) ≡ length d
+length-countEdge x y d = length-set (addAt d x 1) y _ ∙ length-set d x _
+
+degree-countEdge : (x y : ℕ) (d : List ℕ) → x < length d → y < length d → (v : ℕ) → degreeIn (countEdge x y d) v ≡ degreeIn d v + (δ v x + δ v y)
+degree-countEdge x y d xl yl v =
+    one-more (addAt d x 1) y v (rw (length-set d x (getD d x 0 + 1)) yl)
+    ∙ ap (λ (m : ℕ). m + δ v y) (one-more d x v xl)
+    ∙ add-assoc (degreeIn d v) (δ v x) (δ v y)
+
+-- no edges, no degrees
+pub degrees-none : (e : List ℕ) (total : ℕ) → HasDegrees (replicate mostVertices 0) total (graphTo e 0)
+degrees-none e total v l = getD-zeros mostVertices v ∙ sym (sumTo-zero total (graphTo e 0 v) (λ w m. sumTo-none _))
+
+-- one edge more
+pub degrees-more : (e : List ℕ) (total i : ℕ) (d : List ℕ) → total ≤ mostVertices → Good e total i → length d ≡ mostVertices
+    → HasDegrees d total (graphTo e i) → HasDegrees (countEdge (endV e i) (endW e i) d) total (graphTo e (i + 1))
+degrees-more e total i d few g s h v l =
+    degree-countEdge (endV e i) (endW e i) d (omega (arith, g .ordered, g .vertex)) (omega (arith, g .vertex)) v
+    ∙ ap (λ (m : ℕ). m + (δ v (endV e i) + δ v (endW e i))) (h v l)
+    ∙ sym (degree-adds total (graphTo e i) (graphTo e (i + 1)) (endV e i) (endW e i) (graphTo-adds e total i)
+    (omega (arith, g .ordered, g .vertex)) (g .vertex) v l)
+
+-- 2. Cells.
+
+-- where an edge counts, it counts as equation (1) has it
+module _ (a b k l : ℕ) (ha : a < degrees) (hb : b < degrees) (hk : k < degrees) (hl : l < degrees) where
+  counted-here : place k l ≡ place a b → timesCounted a b ≡ atEdge a b k l
+  counted-here e = go (ℕ-discrete a b) (ℕ-discrete k a)
+    where
+      go : Dec (a ≡ b) → Dec (k ≡ a) → timesCounted a b ≡ atEdge a b k l
+      go (yes p) q =
+          let r : k ≡ b = omega arith in
+          let s : l ≡ b = omega arith in
+          rw (eq-eqb a b p, p, r, s, δ-self b)
+      go (no p) (yes q) =
+          let r : l ≡ b = omega arith in
+          rw (ne-eqb a b p, q, r) (sym (atEdge-here a b p))
+      go (no p) (no q) =
+          let r : k ≡ b = omega arith in
+          let s : l ≡ a = omega arith in
+          rw (ne-eqb a b p, r, s) (sym (atEdge-back a b p))
+
+  counted-apart : place k l ≢ place a b → atEdge a b k l ≡ 0
+  counted-apart h = go (placed a b k l)
+    where
+      go : Place a b k l → atEdge a b k l ≡ 0
+      go (forth p q) = absurd (h (omega arith))
+      go (back p q) = absurd (h (omega arith))
+      go (elsewhere z) = z
+
+  matrix-countCell : (c : List ℕ) → length c ≡ cellsSize → matrixOf (countCell a b c) k l ≡ matrixOf c k l + atEdge a b k l
+  matrix-countCell c s = rw (lt-ltb k degrees hk, lt-ltb l degrees hl) (go (ℕ-discrete (place k l) (place a b)))
+    where
+      go : Dec (place k l ≡ place a b) → getD (countCell a b c) (place k l) 0 ≡ getD c (place k l) 0 + atEdge a b k l
+      go (yes e) =
+          rw (← (counted-here e))
+          (add-here c (place k l) (place a b) (timesCounted a b) (omega (arith, place-below a b 0 0 ha hb (omega arith) (omega arith))) e)
+      go (no e) = rw (counted-apart e) (add-apart c (place k l) (place a b) (timesCounted a b) e)
+
+pub length-countCell : (a b : ℕ) (c : List ℕ) → length (countCell a b c) ≡ length c
+length-countCell a b c = length-set c (place a b) _
+
+pub cells-none : (cls : ℕ → ℕ) (e : List ℕ) (total : ℕ) → HasCells noCells total cls (graphTo e 0)
+cells-none cls e total k l hk hl =
+    ap (λ (T : ℕ → ℕ → ℕ). T k l) matrix-none
+    ∙ sym (jdm-cong total cls (graphTo e 0) (λ v w. 0) (λ v w p q. sumTo-none _) k l ∙ jdm-empty total cls k l)
+
+pub cells-more : (cls : ℕ → ℕ) (e : List ℕ) (total i : ℕ) (c : List ℕ) → Good e total i → cls (endV e i) < degrees → cls (endW e i) < degrees
+    → length c ≡ cellsSize → HasCells c total cls (graphTo e i)
+    → HasCells (countCell (cls (endV e i)) (cls (endW e i)) c) total cls (graphTo e (i + 1))
+cells-more cls e total i c g ha hb s h k l hk hl =
+    matrix-countCell (cls (endV e i)) (cls (endW e i)) k l ha hb hk hl c s
+    ∙ ap (λ (m : ℕ). m + atEdge (cls (endV e i)) (cls (endW e i)) k l) (h k l hk hl)
+    ∙ sym (jdm-adds total (graphTo e i) (graphTo e (i + 1)) (endV e i) (endW e i) (graphTo-adds e total i)
+    (omega (arith, g .ordered, g .vertex)) (g .vertex) cls k l)
+
+-- 3. Bounds.
+
+atEdge-le : (a b k l : ℕ) → atEdge a b k l ≤ 2
+atEdge-le a b k l = omega (arith, one k a l b, one k b l a)
+  where
+    one : (p q r s : ℕ) → δ p q * δ r s ≤ 1
+    one p q r s = omega (arith, mul-le-mul-left (δ p q) (δ-le r s), mul-one (δ p q), δ-le p q)
+
+-- no class has more vertices than there are
+pub class-most : (n : ℕ) (cls : ℕ → ℕ) (k : ℕ) → size n cls k ≤ n
+class-most n cls k = omega (arith, sumTo-mono n (λ v. δ (cls v) k) (λ v. 1) (λ v h. δ-le (cls v) k), sumTo-const 1 n)
+
+module _ (e : List ℕ) (total : ℕ) (well : firstBadEdge e total ≡ listed e) where
+  pub degree-most : (v n : ℕ) → v < total → n ≤ listed e → degree total (graphTo e n) v ≤ 2 * n
+  degree-most v zero l h = omega (arith, sumTo-zero total (graphTo e 0 v) (λ w m. sumTo-none _))
+  degree-most v (suc n) l h =
+      let g = good e total well n (omega arith) in
+      rw (← (add-one n))
+      (omega (
+        arith,
+        degree-adds total (graphTo e n) (graphTo e (n + 1)) (endV e n) (endW e n) (graphTo-adds e total n) (omega arith) (omega arith) v l,
+        δ-le v (endV e n),
+        δ-le v (endW e n),
+        degree-most v n l (omega arith),
+      ))
+
+  pub jdm-most : (cls : ℕ → ℕ) (k l n : ℕ) → n ≤ listed e → jdm total cls (graphTo e n) k l ≤ 2 * n
+  jdm-most cls k l zero h =
+      omega (arith, jdm-cong total cls (graphTo e 0) (λ v w. 0) (λ v w p q. sumTo-none _) k l, jdm-empty total cls k l)
+  jdm-most cls k l (suc n) h =
+      let g = good e total well n (omega arith) in
+      rw (← (add-one n))
+      (omega (
+        arith,
+        jdm-adds total (graphTo e n) (graphTo e (n + 1)) (endV e n) (endW e n) (graphTo-adds e total n) (omega arith) (omega arith) cls k l,
+        atEdge-le (cls (endV e n)) (cls (endW e n)) k l,
+        jdm-most cls k l n (omega arith),
+      ))
+
+  module _ (low : firstAbove e total ≡ total) where
+    pub degree-low : (v : ℕ) → v < total → degree total (graphOf e) v ≤ mostDegree
+    degree-low v l =
+        ltb-false mostDegree (degree total (graphOf e) v)
+        (lowest-before 0 total (λ v. ltb mostDegree (degree total (graphOf e) v)) (omega arith) v (omega arith) (rw low l))
+
+    -- 200 vertices of degree 40 have 4,000 edges
+    pub few-edges : total ≤ mostVertices → 2 * listed e ≤ cellMostOwn
+    few-edges few =
+        omega (
+          arith,
+          handshake total (graphOf e) (simple-to e total well (listed e) (omega arith)),
+          edges-to e total well (listed e) (omega arith),
+          sumTo-mono total (degree total (graphOf e)) (λ v. mostDegree) degree-low,
+          sumTo-const mostDegree total,
+        )
+
+    pub cells-small : total ≤ mostVertices → (cls : ℕ → ℕ) (c : List ℕ) (n : ℕ) → n ≤ listed e → HasCells c total cls (graphTo e n) → CellsSmall c
+    cells-small few cls c n h has k l = go (decLt k degrees) (decLt l degrees)
+      where
+        go : Dec (k < degrees) → Dec (l < degrees) → matrixOf c k l ≤ cellMostOwn
+        go (yes p) (yes q) = rw (has k l p q) (omega (arith, jdm-most cls k l n h, few-edges few))
+        go (yes p) (no q) = rw (le-ltb l degrees (omega arith), and-false (ltb k degrees)) (omega arith)
+        go (no p) q = rw (le-ltb k degrees (omega arith)) (omega arith)
+
+-- what the array says of the vertices is what the graph says
+module _ (e d : List ℕ) (total : ℕ) (has : HasDegrees d total (graphOf e)) where
+  pub above-same : firstAboveIn d total ≡ firstAbove e total
+  above-same =
+      lowest-cong 0 total (λ v. ltb mostDegree (degreeIn d v)) (λ v. ltb mostDegree (degree total (graphOf e) v))
+      (λ v m l. ap (ltb mostDegree) (has v l))
+
+  pub isolated-same : isolatedIn d total ≡ isolated total (graphOf e)
+  isolated-same = sumTo-cong total (λ v. δ (degreeIn d v) 0) (λ v. δ (degree total (graphOf e) v) 0) (λ v l. ap (λ (m : ℕ). δ m 0) (has v l))
+
+-- a small cell as it stands in the array
+pub cell-room : (c : List ℕ) (k l : ℕ) → CellsSmall c → k < degrees → l < degrees → getD c (place k l) 0 ≤ cellMostOwn
+cell-room c k l h hk hl = rw (lt-ltb k degrees hk, lt-ltb l degrees hl) at (h k l)

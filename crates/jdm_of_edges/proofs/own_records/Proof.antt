@@ -1,0 +1,33 @@
+-- `survey::own_records` meets its contract: what it counts has the records of the list's own table.
+-- Assumes nothing.
+use mathlib.Core.Path.{_∙_}
+use native.Mathlib.Omega.{arith}
+use Rattle.edgelist.proofs.List.{verdict-passed}
+use Rattle.jdm_of_edges.proofs.Counting.{isolated-same}
+use Rattle.jdm_of_edges.proofs.Survey.{own-records}
+use Rattle.jdm_of_edges.proofs.own_records.Statement.{statement}
+use Rattle.jdm_of_edges.proofs.own_records.Tie as tie
+
+pub own-records-spec : {M : Type 1} → statement M
+own-records-spec =
+    tie.close (tie.spec
+    (λ c κs. let s = c .before in verdict-passed (s .args .edges .now) (s .args .total) (s .pre .0) .few)  -- isolated-in-requires
+    (λ c κs.
+    let s = c .before .before in
+    let p = verdict-passed (s .args .edges .now) (s .args .total) (s .pre .0) in
+    (p .few, p .well, s .pre .1, s .pre .2))  -- cells-of-requires
+    (λ c κs.
+    let q = c .before .before in
+    let z = q .before in
+    let s = z .before .before in
+    let p = verdict-passed (s .args .edges .now) (s .args .total) (s .pre .0) in
+    (omega (arith, p .few), q .cells-of .ensures .1))  -- put-records-requires
+    (λ c.
+    let q = c .before .before .before in
+    let z = q .before in
+    let s = z .before .before in
+    let e = s .args .edges .now in
+    let t = s .args .total in
+    let counted = z .isolated-in .ensures .0 ∙ isolated-same e (s .args .counts .now) t (s .pre .2) in
+    let own = own-records e t (z .isolated-in .result) (q .cells-of .result) counted (q .cells-of .ensures .0) in
+    rw own at (c .put-records .ensures)))  -- returns

@@ -1,0 +1,77 @@
+// The degree table of an edge list and its total of vertices (document 01: survey).
+ghost use mathlib.Core.Path.{_≡_};
+ghost use Prim.Native.Nat.{_≤_};
+ghost use lib.ListN.{length};
+ghost use lib.Seq.{sets};
+ghost use Rattle.answer.specs.declared.Verdict.the-variants.{Go};
+ghost use Rattle.edgelist.specs.EdgeList.{listVerdict, graphOf};
+ghost use Rattle.jdm_of_edges.specs.Survey.{firstAbove, surveyRecords, surveyListed, surveyAnswer, surveyOutput};
+ghost use Rattle.jdm_of_edges.specs.Inner.Counting.{HasDegrees, recordsMost};
+use crate::count::cells_of;
+use crate::count::degrees_of;
+use crate::count::first_above;
+use crate::count::isolated_in;
+use crate::write::put_records;
+use answer::Cause;
+use answer::Verdict;
+use answer::WrittenAnswer;
+use answer::refuse;
+use edgelist::list_check;
+use layout::MOST_VERTICES;
+use slices::copy_in;
+use table::cells::CELLS;
+use table::record::RECORD_SIZE;
+
+mod count;
+mod write;
+
+// Room for a record of each cell and one of isolated vertices, so that the length is known before a byte of the output changes.
+const RECORDS_MOST: usize = RECORD_SIZE * (CELLS + 1);
+
+// The records of a list with these degrees, none over 40, at the start of the bytes. Their length.
+fn own_records(
+    edges: &[u8],
+    total: usize,
+    counts: &[usize; MOST_VERTICES],
+    records: &mut [u8; RECORDS_MOST],
+) -> usize
+    requires { ⌜ (listVerdict (now edges) total ≡ Go) × (firstAbove (now edges) total ≡ total) × HasDegrees (now counts) total (graphOf (now edges)) ⌝ }
+    ensures { λ r. ⌜ (r ≡ length (surveyRecords (now (edges .entry)) total)) × (r ≤ recordsMost) ⌝ }
+    ensures { λ _. ⌜ now (records .exit) ≡ sets (now (records .entry)) 0 (surveyRecords (now (edges .entry)) total) ⌝ }
+{
+    let isolated = isolated_in(counts, total);
+    let cells = cells_of(edges, total, counts);
+    put_records(isolated, &cells, records)
+}
+
+// Of a list that passes the checks 19: the checks 20 and 18, then the records.
+fn survey_listed(edges: &[u8], total: usize, output: &mut [u8]) -> WrittenAnswer
+    requires { ⌜ listVerdict (now edges) total ≡ Go ⌝ }
+    ensures { λ r. ⌜ r ≡ surveyListed (now (edges .entry)) total (length (now (output .entry))) ⌝ }
+    ensures { λ _. ⌜ now (output .exit) ≡ surveyOutput (surveyListed (now (edges .entry)) total (length (now (output .entry)))) (now (edges .entry)) total (now (output .entry)) ⌝ }
+{
+    let counts = degrees_of(edges, total);
+    let above = first_above(&counts, total);
+    if above != total {
+        return WrittenAnswer::Refused(refuse(Cause::DegreeAbove, above, 0));
+    }
+    let mut records = [0u8; RECORDS_MOST];
+    let length = own_records(edges, total, &counts, &mut records);
+    if output.len() < length {
+        return WrittenAnswer::Refused(refuse(Cause::OutputLength, 0, 0));
+    }
+    copy_in(output, 0, &records[..length]);
+    WrittenAnswer::Written(length)
+}
+
+// Writes the records of the list's own degree table, or refuses and changes no byte.
+pub fn jdm_of_edges(edges: &[u8], total: usize, output: &mut [u8]) -> WrittenAnswer
+    ensures { λ r. ⌜ r ≡ surveyAnswer (now (edges .entry)) total (length (now (output .entry))) ⌝ }
+    ensures { λ _. ⌜ now (output .exit) ≡ surveyOutput (surveyAnswer (now (edges .entry)) total (length (now (output .entry)))) (now (edges .entry)) total (now (output .entry)) ⌝ }
+{
+    let verdict = list_check(edges, total);
+    match verdict {
+        Verdict::Stop(r) => WrittenAnswer::Refused(r),
+        Verdict::Go => survey_listed(edges, total, output),
+    }
+}
