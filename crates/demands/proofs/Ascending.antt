@@ -11,9 +11,9 @@ use Rattle.finite.proofs.Sum.{sumTo-none, sumTo-zero}
 use Rattle.graph.specs.Graph.{Graph, Simple, atEdge}
 use Rattle.graph.proofs.Edge.{Place, forth, back, elsewhere, place}
 use Rattle.layout.specs.Layout.{mostVertices}
-use Rattle.edgelist.specs.EdgeList.{listed, endV, endW, graphOf, listOf}
-use Rattle.edgelist.proofs.Pairs.{over, over-append, one-over, Rising}
-use Rattle.edgelist.proofs.Listed.{list-rising, list-graph}
+use Rattle.edge_lists.specs.EdgeList.{listed, endV, endW, graphOf, listOf}
+use Rattle.edge_lists.proofs.Pairs.{over, over-append, one-over, Rising}
+use Rattle.edge_lists.proofs.Listed.{list-rising, list-graph}
 use Rattle.demands.specs.WithinReach.{named, Order, pairsIn, ascending}
 
 -- what the pairs of a list name is the graph of the list

@@ -40,7 +40,7 @@ use Rattle.table.specs.Block.{records, firstBad}
 use Rattle.journal.specs.Journal.{mostBlocks, phase, blocks, sameBlock}
 use Rattle.state.specs.Checks.{stateVerdict, phaseVerdict}
 use Rattle.state.specs.Valid.{lengthsOk, valid}
-use Rattle.edgelist.specs.EdgeList.{listed, firstBadEdge, listVerdict}
+use Rattle.edge_lists.specs.EdgeList.{listed, firstBadEdge, listVerdict}
 use Rattle.take_block.specs.Take.{takeNumbered}
 use Rattle.demands.specs.Demand1.{oneOf, Numbered}
 

@@ -46,7 +46,7 @@ use Rattle.lay_out.specs.LayOut.{layOutJournal}
 use Rattle.add_edge.specs.Add.{addLaid, addAdjacency}
 use Rattle.remove_edge.specs.Remove.{removeLaid, removeAdjacency}
 use Rattle.edge_list.specs.List.{listBytes, listLaid, listAnswer, listOutput}
-use Rattle.edgelist.specs.EdgeList.{listVerdict}
+use Rattle.edge_lists.specs.EdgeList.{listVerdict}
 use Rattle.jdm_of_edges.specs.Survey.{firstAbove, surveyRecords, surveyListed, surveyAnswer, surveyOutput}
 use Rattle.graph6.specs.Format.{sizeOf, tooLarge, wellFormed}
 use Rattle.graph6_write.specs.Write.{writeText, writeListed, writeAnswer, writeOutput}

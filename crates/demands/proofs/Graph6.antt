@@ -25,11 +25,11 @@ use Rattle.layout.specs.Layout.{mostVertices}
 use Rattle.adjacency.specs.Adjacency.{edge}
 use Rattle.state.specs.Laid.{vertexCount}
 use Rattle.state.proofs.Facts.{valid-facts}
-use Rattle.edgelist.specs.EdgeList.{listVerdict, graphOf, listOf}
-use Rattle.edgelist.proofs.List.{Passed, verdict-passed, list-simple}
-use Rattle.edgelist.proofs.Listing.{list-cong}
-use Rattle.edgelist.proofs.Listed.{list-passed, list-graph}
-use Rattle.edgelist.proofs.Unique.{list-back}
+use Rattle.edge_lists.specs.EdgeList.{listVerdict, graphOf, listOf}
+use Rattle.edge_lists.proofs.List.{Passed, verdict-passed, list-simple}
+use Rattle.edge_lists.proofs.Listing.{list-cong}
+use Rattle.edge_lists.proofs.Listed.{list-passed, list-graph}
+use Rattle.edge_lists.proofs.Unique.{list-back}
 use Rattle.edge_list.specs.List.{listBytes}
 use Rattle.jdm_of_edges.specs.Survey.{surveyRecords, surveyListed}
 use Rattle.graph6.specs.Format.{graph6Text, sizeOf, tooLarge, framed, zeroPadded, wellFormed, textGraph}

@@ -19,8 +19,8 @@ use Rattle.adjacency.specs.Adjacency.{edge}
 use Rattle.state.specs.Laid.{vertexCount}
 use Rattle.state.proofs.Facts.{Laid, valid-facts}
 use Rattle.edge_list.specs.List.{listBytes}
-use Rattle.edgelist.specs.EdgeList.{graphOf}
-use Rattle.edgelist.proofs.Listed.{list-passed, list-graph}
+use Rattle.edge_lists.specs.EdgeList.{graphOf}
+use Rattle.edge_lists.proofs.Listed.{list-passed, list-graph}
 use Rattle.jdm_of_edges.specs.Survey.{firstAbove, recordsOf, surveyRecords}
 use Rattle.demands.specs.Listed.{ListSurveyed}
 

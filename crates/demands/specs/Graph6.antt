@@ -17,7 +17,7 @@ use Rattle.layout.specs.Layout.{mostVertices}
 use Rattle.adjacency.specs.Adjacency.{edge}
 use Rattle.state.specs.Valid.{lengthsOk, valid}
 use Rattle.state.specs.Laid.{vertexCount}
-use Rattle.edgelist.specs.EdgeList.{listVerdict, graphOf}
+use Rattle.edge_lists.specs.EdgeList.{listVerdict, graphOf}
 use Rattle.edge_list.specs.List.{listBytes}
 use Rattle.jdm_of_edges.specs.Survey.{surveyAnswer}
 use Rattle.graph6.specs.Format.{graph6Text, sizeOf, wellFormed, bitOf, textGraph}

@@ -22,7 +22,7 @@ use Rattle.journal.specs.Journal.{phase, tableOf}
 use Rattle.adjacency.specs.Adjacency.{side, adjacencySize, edge}
 use Rattle.state.specs.Valid.{lengthsOk, valid}
 use Rattle.state.specs.Laid.{vertexCount}
-use Rattle.edgelist.specs.EdgeList.{listOf}
+use Rattle.edge_lists.specs.EdgeList.{listOf}
 use Rattle.add_edge.specs.Add.{addAnswer}
 use Rattle.remove_edge.specs.Remove.{removeAnswer}
 use Rattle.complete.specs.Complete.{finishAnswer}

@@ -8,8 +8,8 @@ use lib.ListN.{length, getD, take, drop}
 use Rattle.slices.proofs.Part.{length-part, getD-part}
 use Rattle.adjacency.specs.Adjacency.{adjacencySize, side, edge}
 use Rattle.adjacency.proofs.Empty.{no-edge}
-use Rattle.edgelist.specs.EdgeList.{rowBytes}
-use Rattle.edgelist.proofs.Listing.{row-cong, list-none}
+use Rattle.edge_lists.specs.EdgeList.{rowBytes}
+use Rattle.edge_lists.proofs.Listing.{row-cong, list-none}
 use Rattle.edge_list.specs.List.{listBytes}
 
 -- the first n bytes of row v, as a part of the matrix

@@ -12,7 +12,7 @@ use Rattle.answer.specs.declared.WrittenAnswer.the-variants.{Written, Refused}
 use Rattle.adjacency.specs.Adjacency.{edge}
 use Rattle.state.specs.Checks.{phaseVerdict}
 use Rattle.state.specs.Laid.{vertexCount}
-use Rattle.edgelist.specs.EdgeList.{listOf}
+use Rattle.edge_lists.specs.EdgeList.{listOf}
 
 -- the edge list of the first n vertices
 abbrev pub listBytes : ℕ → List ℕ → List ℕ

@@ -12,7 +12,7 @@ use answer::Cause;
 use answer::Verdict;
 use answer::WrittenAnswer;
 use answer::refuse;
-use edgelist::put_row;
+use edge_lists::put_row;
 use state::laid_vertices;
 use state::phase_check;
 

@@ -16,8 +16,8 @@ use Rattle.graph.specs.Graph.{edges}
 use Rattle.slices.specs.Slices.{allZero}
 use Rattle.slices.proofs.Zero.{all-zero-at, zeros-all-zero, getD-zeros}
 use Rattle.slices.proofs.Part.{getD-sets-in, getD-sets-after}
-use Rattle.edgelist.specs.EdgeList.{listOf}
-use Rattle.edgelist.proofs.Listing.{list-length, list-cong}
+use Rattle.edge_lists.specs.EdgeList.{listOf}
+use Rattle.edge_lists.proofs.Listing.{list-length, list-cong}
 use Rattle.graph6.specs.Format.{columnStart, bodyLength, sizeLength, sizeOf, bodyBits, zeroPadded, textGraph}
 use Rattle.graph6.proofs.Columns.{columns-most, columns-sum}
 use Rattle.graph6.proofs.Bits.{unpacked-length, unpacked-binary}

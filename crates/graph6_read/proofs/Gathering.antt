@@ -8,8 +8,8 @@ use native.Mathlib.Omega.{arith}
 use lib.ListN.{length, getD, set, take, length-take}
 use lib.Seq.{getD-take, getD-set-same, getD-set-other}
 use Rattle.layout.specs.Layout.{mostVertices}
-use Rattle.edgelist.specs.EdgeList.{rowBytes}
-use Rattle.edgelist.proofs.Listing.{row-cong}
+use Rattle.edge_lists.specs.EdgeList.{rowBytes}
+use Rattle.edge_lists.proofs.Listing.{row-cong}
 use Rattle.graph6.specs.Format.{columnStart}
 use Rattle.graph6.proofs.Starts.{columnStarts, column-start}
 use Rattle.graph6.proofs.Columns.{columns-most, place-before}

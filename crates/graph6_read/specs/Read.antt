@@ -10,7 +10,7 @@ use Rattle.answer.specs.Refusals.{refusal, unless}
 use Rattle.answer.specs.declared.Cause.the-variants.{OutputLength, Graph6Text, Graph6Size}
 use Rattle.answer.specs.declared.ReadAnswer.{ReadAnswer}
 use Rattle.answer.specs.declared.ReadAnswer.the-variants.{Read, Refused}
-use Rattle.edgelist.specs.EdgeList.{listOf}
+use Rattle.edge_lists.specs.EdgeList.{listOf}
 use Rattle.graph6.specs.Format.{sizeOf, tooLarge, wellFormed, textGraph}
 
 -- the list of the edges of the text's graph, ascending by v then w, although the text goes by w then v

@@ -16,8 +16,8 @@ use Rattle.finite.proofs.Fold.{foldTo-keeps}
 use Rattle.graph.specs.Graph.{atEdge}
 use Rattle.graph.proofs.Edge.{Place, forth, back, elsewhere, place, atEdge-here}
 use Rattle.layout.specs.Layout.{mostVertices}
-use Rattle.edgelist.specs.EdgeList.{listed, endV, endW, graphOf}
-use Rattle.edgelist.proofs.List.{Passed, good, list-simple}
+use Rattle.edge_lists.specs.EdgeList.{listed, endV, endW, graphOf}
+use Rattle.edge_lists.proofs.List.{Passed, good, list-simple}
 use Rattle.graph6.specs.Format.{plus, triangle, sixBits, packed, columnStart, bodyLength, bodyMost}
 use Rattle.graph6.proofs.Starts.{columnStarts, column-start}
 use Rattle.graph6.proofs.Columns.{columns-most, place-before, place-of, place-same}

@@ -7,8 +7,8 @@ use native.Mathlib.Nat.{zero-add}
 use lib.ListN.{length, take}
 use lib.Seq.{sets}
 use Rattle.finite.proofs.Fold.{sets-append}
-use Rattle.edgelist.specs.EdgeList.{listed, graphOf}
-use Rattle.edgelist.proofs.List.{Passed, list-simple}
+use Rattle.edge_lists.specs.EdgeList.{listed, graphOf}
+use Rattle.edge_lists.proofs.List.{Passed, list-simple}
 use Rattle.graph6.specs.Format.{sizeBytes, triangle, packed, bodyLength}
 use Rattle.graph6.proofs.Bits.{triangle-length, packed-length}
 use Rattle.graph6.proofs.Text.{text-length}

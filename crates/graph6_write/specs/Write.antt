@@ -9,7 +9,7 @@ use Rattle.answer.specs.Refusals.{refusal, unless, unlessStopped}
 use Rattle.answer.specs.declared.Cause.the-variants.{OutputLength}
 use Rattle.answer.specs.declared.WrittenAnswer.{WrittenAnswer}
 use Rattle.answer.specs.declared.WrittenAnswer.the-variants.{Written, Refused}
-use Rattle.edgelist.specs.EdgeList.{listVerdict, graphOf}
+use Rattle.edge_lists.specs.EdgeList.{listVerdict, graphOf}
 use Rattle.graph6.specs.Format.{graph6Text}
 
 -- the text of the graph with these edges on this total of vertices

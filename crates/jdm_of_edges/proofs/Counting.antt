@@ -25,9 +25,9 @@ use Rattle.slices.proofs.Zero.{getD-zeros}
 use Rattle.table.specs.Inner.Cells.{cellsSize, place, matrixOf}
 use Rattle.table.proofs.Matrix.{noCells, add-here, add-apart, place-below, matrix-none}
 use Rattle.layout.specs.Layout.{mostVertices}
-use Rattle.edgelist.specs.EdgeList.{listed, endV, endW, firstBadEdge, graphOf}
+use Rattle.edge_lists.specs.EdgeList.{listed, endV, endW, firstBadEdge, graphOf}
 use Rattle.jdm_of_edges.specs.Survey.{firstAbove}
-use Rattle.edgelist.proofs.List.{graphTo, Good, good, graphTo-adds, simple-to, edges-to}
+use Rattle.edge_lists.proofs.List.{graphTo, Good, good, graphTo-adds, simple-to, edges-to}
 use Rattle.jdm_of_edges.specs.Inner.Counting.{addAt, countEdge, degreeIn, timesCounted, countCell, HasDegrees, HasCells, firstAboveIn, isolatedIn, cellMostOwn, CellsSmall}
 
 -- 1. Degrees.

@@ -17,12 +17,12 @@ use Rattle.graph.proofs.Necessary.{necessary-always}
 use Rattle.slices.proofs.Part.{take-sets, drop-sets}
 use Rattle.layout.specs.Layout.{mostVertices}
 use Rattle.layout.specs.Inner.Arrays.{tableIn}
-use Rattle.edgelist.specs.EdgeList.{listed, firstBadEdge, listVerdict, graphOf}
+use Rattle.edge_lists.specs.EdgeList.{listed, firstBadEdge, listVerdict, graphOf}
 use Rattle.jdm_of_edges.specs.Survey.{firstAbove, recordsOf, surveyRecords, surveyListed, surveyAnswer}
 use Rattle.jdm_of_edges.specs.Inner.Counting.{HasCells, recordsMost}
 use Rattle.jdm_of_edges.specs.Theorem.{Ascending, SurveyExact}
 use Rattle.jdm_of_edges.proofs.Counting.{degree-low, jdm-most, few-edges, class-most}
-use Rattle.edgelist.proofs.List.{Passed, verdict-passed, list-simple, edges-to}
+use Rattle.edge_lists.proofs.List.{Passed, verdict-passed, list-simple, edges-to}
 use Rattle.jdm_of_edges.proofs.Records.{records-cong, records-whole, records-shown, records-rise}
 use Rattle.jdm_of_edges.proofs.ReadBack.{records-bytes, records-good, records-exact, records-isolated}
 

@@ -13,7 +13,7 @@ use Rattle.answer.specs.Refusals.{refusal, unless, unlessStopped}
 use Rattle.answer.specs.declared.Cause.the-variants.{DegreeAbove, OutputLength}
 use Rattle.answer.specs.declared.WrittenAnswer.{WrittenAnswer}
 use Rattle.answer.specs.declared.WrittenAnswer.the-variants.{Written, Refused}
-use Rattle.edgelist.specs.EdgeList.{listVerdict, graphOf}
+use Rattle.edge_lists.specs.EdgeList.{listVerdict, graphOf}
 
 -- the lowest vertex whose degree is over 40; the total where there is none
 abbrev pub firstAbove : List ℕ → ℕ → ℕ

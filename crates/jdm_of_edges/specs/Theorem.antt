@@ -12,7 +12,7 @@ use Rattle.graph.specs.Tests.{Table}
 use Rattle.answer.specs.declared.WrittenAnswer.the-variants.{Written}
 use Rattle.table.specs.Block.{recordSize, records, recordK, recordL, recordCount, goodRecord, blockCell, blockIsolated}
 use Rattle.layout.specs.Layout.{mostVertices}
-use Rattle.edgelist.specs.EdgeList.{listed, firstBadEdge, graphOf}
+use Rattle.edge_lists.specs.EdgeList.{listed, firstBadEdge, graphOf}
 use Rattle.jdm_of_edges.specs.Survey.{surveyRecords, surveyAnswer, surveyOutput}
 
 -- bytes of whole records: each one good, with a count that is not 0, ascending by k and then l, so that no pair comes twice

@@ -7,7 +7,7 @@ ghost use Rattle.graph.specs.Graph.{degree};
 ghost use Rattle.graph.specs.Tests.{degrees};
 ghost use Rattle.table.specs.Inner.Cells.{place};
 ghost use Rattle.layout.specs.Layout.{mostVertices};
-ghost use Rattle.edgelist.specs.EdgeList.{listed, endV, endW, firstBadEdge, graphOf};
+ghost use Rattle.edge_lists.specs.EdgeList.{listed, endV, endW, firstBadEdge, graphOf};
 ghost use Rattle.jdm_of_edges.specs.Survey.{firstAbove};
 ghost use Rattle.jdm_of_edges.specs.Inner.Counting.{countEdge, countCell, timesCounted, degreeIn, firstAboveIn, isolatedIn, HasRoom, HasDegrees, HasCells, cellMostOwn, CellsSmall};
 use layout::MOST_VERTICES;

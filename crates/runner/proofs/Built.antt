@@ -37,10 +37,10 @@ use Rattle.clear.specs.Clear.{ClearedState}
 use Rattle.clear.proofs.Cleared.{cleared-state}
 use Rattle.take_block.proofs.Take.{taken-facts, held-facts, take-lengths, take-valid}
 use Rattle.lay_out.proofs.LayOut.{LaidOutFacts, lay-out-facts, lay-out-lengths, lay-out-valid}
-use Rattle.edgelist.specs.EdgeList.{graphOf, edgeBytes, rowBytes}
-use Rattle.edgelist.proofs.Listing.{list-length}
-use Rattle.edgelist.proofs.Listed.{list-graph}
-use Rattle.edgelist.proofs.Pairs.{cat-sized, one-sized}
+use Rattle.edge_lists.specs.EdgeList.{graphOf, edgeBytes, rowBytes}
+use Rattle.edge_lists.proofs.Listing.{list-length}
+use Rattle.edge_lists.proofs.Listed.{list-graph}
+use Rattle.edge_lists.proofs.Pairs.{cat-sized, one-sized}
 use Rattle.edge_list.specs.List.{listBytes}
 use Rattle.graph6.proofs.Text.{text-cong}
 use Rattle.graph6_write.specs.Write.{writeText}

@@ -14,7 +14,7 @@ use Rattle.answer.specs.declared.Verdict.the-variants.{Go}
 use Rattle.answer.specs.declared.WrittenAnswer.{WrittenAnswer}
 use Rattle.answer.specs.declared.WrittenAnswer.the-variants.{Written, Refused}
 use Rattle.answer.proofs.Checks.{refused-not-written, written-length}
-use Rattle.edgelist.specs.EdgeList.{listVerdict}
+use Rattle.edge_lists.specs.EdgeList.{listVerdict}
 use Rattle.graph6.specs.Format.{bodyMost}
 use Rattle.graph6_write.specs.Write.{writeText, writeAnswer, writeOutput}
 use Rattle.text.specs.Text.{newline}

@@ -30,10 +30,10 @@ use Rattle.adjacency.specs.Adjacency.{edge}
 use Rattle.lay_out.specs.LayOut.{layOutAnswer, layOutJournal}
 use Rattle.lay_out.proofs.LayOut.{lay-out-vertices}
 use Rattle.edge_list.specs.List.{listBytes, listAnswer, listOutput}
-use Rattle.edgelist.specs.EdgeList.{listVerdict, graphOf}
-use Rattle.edgelist.proofs.List.{verdict-passed, list-simple}
-use Rattle.edgelist.proofs.Listing.{list-length}
-use Rattle.edgelist.proofs.Listed.{list-rising, list-passed}
+use Rattle.edge_lists.specs.EdgeList.{listVerdict, graphOf}
+use Rattle.edge_lists.proofs.List.{verdict-passed, list-simple}
+use Rattle.edge_lists.proofs.Listing.{list-length}
+use Rattle.edge_lists.proofs.Listed.{list-rising, list-passed}
 use Rattle.graph6.specs.Format.{bodyMost}
 use Rattle.graph6.proofs.Text.{text-most}
 use Rattle.graph6_write.specs.Write.{writeText}

@@ -16,7 +16,7 @@ ghost use Rattle.take_block.specs.Take.{takeAnswer, takeJournal};
 ghost use Rattle.io.specs.Counts.{Counts};
 ghost use Rattle.text.specs.Text.{newline, headLine, edgeLines, headMost};
 ghost use Rattle.state.specs.Laid.{vertexCount};
-ghost use Rattle.edgelist.specs.EdgeList.{listVerdict};
+ghost use Rattle.edge_lists.specs.EdgeList.{listVerdict};
 ghost use Rattle.graph6_write.specs.Write.{writeText};
 ghost use Rattle.complete.specs.Complete.{finishAnswer, finishAdjacency};
 ghost use Rattle.complete_shuffled.specs.Finish.{outcome};

@@ -10,7 +10,7 @@ use Rattle.answer.specs.declared.WrittenAnswer.the-variants.{Written, Refused}
 use Rattle.graph.specs.Graph.{edges}
 use Rattle.adjacency.specs.Adjacency.{edge}
 use Rattle.edge_list.specs.List.{listBytes}
-use Rattle.edgelist.proofs.Listing.{list-length, edges-few}
+use Rattle.edge_lists.proofs.Listing.{list-length, edges-few}
 use Rattle.state.proofs.Checks.{phase-facts}
 use Rattle.edge_list.proofs.list_laid.Statement.{statement}
 use Rattle.edge_list.proofs.list_laid.Tie as tie

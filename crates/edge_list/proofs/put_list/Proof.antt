@@ -8,7 +8,7 @@ use lib.Seq.{sets, length-sets}
 use Rattle.finite.specs.Range.{catTo}
 use Rattle.finite.proofs.Fold.{catTo-none, catTo-more, catTo-part, sets-append}
 use Rattle.adjacency.specs.Adjacency.{edge}
-use Rattle.edgelist.specs.EdgeList.{rowBytes}
+use Rattle.edge_lists.specs.EdgeList.{rowBytes}
 use Rattle.edge_list.proofs.List.{row-length, row-bytes}
 use Rattle.edge_list.proofs.put_list.Statement.{statement}
 use Rattle.edge_list.proofs.put_list.Tie as tie

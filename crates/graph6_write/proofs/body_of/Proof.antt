@@ -4,8 +4,8 @@ use mathlib.Core.Path.{_≡_, sym}
 use Prim.Native.Nat.{_-_, _≤_}
 use native.Mathlib.Omega.{arith}
 use Rattle.finite.proofs.Fold.{foldTo-none, foldTo-after}
-use Rattle.edgelist.specs.EdgeList.{listed}
-use Rattle.edgelist.proofs.List.{verdict-passed, good}
+use Rattle.edge_lists.specs.EdgeList.{listed}
+use Rattle.edge_lists.proofs.List.{verdict-passed, good}
 use Rattle.graph6_write.specs.Inner.Body.{bodyTo}
 use Rattle.graph6_write.proofs.Body.{place-read, place-room}
 use Rattle.graph6_write.proofs.body_of.Statement.{statement}

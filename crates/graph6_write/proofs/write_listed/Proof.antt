@@ -6,7 +6,7 @@ use lib.Seq.{length-sets}
 use borrow.Author.Needs.{needs}
 use borrow.Author.Tests.{le-leb, lt-leb}
 use Rattle.answer.specs.declared.WrittenAnswer.the-variants.{Written, Refused}
-use Rattle.edgelist.proofs.List.{verdict-passed}
+use Rattle.edge_lists.proofs.List.{verdict-passed}
 use Rattle.graph6_write.proofs.Text.{code-size, code-rest, code-text}
 use Rattle.graph6_write.proofs.write_listed.Statement.{statement}
 use Rattle.graph6_write.proofs.write_listed.Tie as tie

@@ -4,7 +4,7 @@ use mathlib.Core.List.{List, [], _∷_}
 use Prim.Native.Nat.{ℕ, _+_, _/_, _%_}
 use lib.ListN.{getD, set, replicate}
 use Rattle.finite.specs.Range.{foldTo}
-use Rattle.edgelist.specs.EdgeList.{endV, endW}
+use Rattle.edge_lists.specs.EdgeList.{endV, endW}
 use Rattle.graph6.specs.Format.{plus, columnStart, bodyMost}
 
 -- what the bit at each of six places is worth in its byte

@@ -2,7 +2,7 @@
 -- Assumes nothing.
 use mathlib.Core.Path.{_∙_}
 use native.Mathlib.Omega.{arith}
-use Rattle.edgelist.proofs.List.{verdict-passed}
+use Rattle.edge_lists.proofs.List.{verdict-passed}
 use Rattle.jdm_of_edges.proofs.Counting.{isolated-same}
 use Rattle.jdm_of_edges.proofs.Survey.{own-records}
 use Rattle.jdm_of_edges.proofs.own_records.Statement.{statement}

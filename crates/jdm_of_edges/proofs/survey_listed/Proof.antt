@@ -7,7 +7,7 @@ use lib.Seq.{length-sets}
 use borrow.Author.Needs.{needs}
 use borrow.Author.Tests.{le-leb, lt-leb, eq-eqb, ne-eqb}
 use Rattle.answer.specs.declared.WrittenAnswer.the-variants.{Written, Refused}
-use Rattle.edgelist.proofs.List.{verdict-passed}
+use Rattle.edge_lists.proofs.List.{verdict-passed}
 use Rattle.jdm_of_edges.proofs.Counting.{above-same}
 use Rattle.jdm_of_edges.proofs.Survey.{records-written}
 use Rattle.jdm_of_edges.proofs.survey_listed.Statement.{statement}

@@ -12,7 +12,7 @@ use Rattle.graph.specs.Tests.{mostDegree, degrees}
 use Rattle.table.specs.Block.{recordSize}
 use Rattle.table.specs.Inner.Cells.{cellsSize, matrixOf, place}
 use Rattle.layout.specs.Layout.{mostVertices}
-use Rattle.edgelist.specs.EdgeList.{endV, endW}
+use Rattle.edge_lists.specs.EdgeList.{endV, endW}
 
 -- n more at place p
 abbrev pub addAt : List ℕ → ℕ → ℕ → List ℕ

@@ -9,7 +9,7 @@ use lib.Seq.{sets, length-sets}
 use Rattle.finite.specs.Range.{catTo}
 use Rattle.finite.proofs.Fold.{catTo-none, catTo-more, catTo-part, sets-append}
 use Rattle.layout.specs.Layout.{mostVertices}
-use Rattle.edgelist.specs.EdgeList.{rowBytes}
+use Rattle.edge_lists.specs.EdgeList.{rowBytes}
 use Rattle.graph6_read.specs.Inner.Bits.{rowsOf}
 use Rattle.graph6_read.proofs.Gathering.{row-length, row-bytes}
 use Rattle.graph6_read.proofs.rows.put_list.Statement.{statement}

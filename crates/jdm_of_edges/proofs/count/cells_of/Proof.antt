@@ -6,8 +6,8 @@ use lib.ListN.{length, length-replicate}
 use Rattle.graph.specs.Graph.{degree}
 use Rattle.graph.specs.Tests.{degrees}
 use Rattle.table.specs.Inner.Cells.{cellsSize}
-use Rattle.edgelist.specs.EdgeList.{listed, endV, endW, graphOf}
-use Rattle.edgelist.proofs.List.{graphTo, good}
+use Rattle.edge_lists.specs.EdgeList.{listed, endV, endW, graphOf}
+use Rattle.edge_lists.proofs.List.{graphTo, good}
 use Rattle.jdm_of_edges.specs.Inner.Counting.{HasCells}
 use Rattle.jdm_of_edges.proofs.Counting.{length-countCell, cells-none, cells-more, cells-small, cell-room, degree-low}
 use native.Mathlib.Omega.{arith}

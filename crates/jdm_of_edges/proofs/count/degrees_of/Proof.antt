@@ -4,8 +4,8 @@ use mathlib.Core.Path.{_≡_}
 use Prim.Native.Nat.{ℕ, _*_, _-_, _≤_, _<_}
 use lib.ListN.{length, length-replicate}
 use Rattle.layout.specs.Layout.{mostVertices}
-use Rattle.edgelist.specs.EdgeList.{listed, endV, endW}
-use Rattle.edgelist.proofs.List.{graphTo, good}
+use Rattle.edge_lists.specs.EdgeList.{listed, endV, endW}
+use Rattle.edge_lists.proofs.List.{graphTo, good}
 use Rattle.jdm_of_edges.specs.Inner.Counting.{degreeIn, HasDegrees}
 use Rattle.jdm_of_edges.proofs.Counting.{length-countEdge, degrees-none, degrees-more, degree-most}
 use native.Mathlib.Omega.{arith}

@@ -3,9 +3,9 @@
 use mathlib.Core.Path.{sym, ap, _∙_}
 use borrow.Author.Tests.{le-leb, lt-leb, eq-eqb, ne-eqb}
 use Rattle.answer.specs.declared.Verdict.the-variants.{Stop}
-use Rattle.edgelist.proofs.List.{verdict-go}
-use Rattle.edgelist.proofs.list_check.Statement.{statement}
-use Rattle.edgelist.proofs.list_check.Tie as tie
+use Rattle.edge_lists.proofs.List.{verdict-go}
+use Rattle.edge_lists.proofs.list_check.Statement.{statement}
+use Rattle.edge_lists.proofs.list_check.Tie as tie
 
 pub list-check-spec : {M : Type 1} → statement M
 list-check-spec =

@@ -13,7 +13,7 @@ use lib.Seq.{getD-append-add}
 use Rattle.finite.specs.Range.{bit, sumTo, catTo}
 use Rattle.finite.proofs.Sum.{sumTo-cong, sumTo-split}
 use Rattle.layout.specs.Layout.{mostVertices}
-use Rattle.edgelist.specs.EdgeList.{endV, endW}
+use Rattle.edge_lists.specs.EdgeList.{endV, endW}
 
 -- a sum over the first m edges
 abbrev pub over : ℕ → (ℕ → ℕ → ℕ) → List ℕ → ℕ

@@ -21,7 +21,7 @@ use Rattle.graph.proofs.Update.{simple-adds, edges-adds}
 use Rattle.answer.specs.declared.Verdict.the-variants.{Go}
 use Rattle.answer.proofs.Checks.{unless-go}
 use Rattle.layout.specs.Layout.{mostVertices}
-use Rattle.edgelist.specs.EdgeList.{listed, endV, endW, rises, goodEdge, firstBadEdge, graphOf, listVerdict}
+use Rattle.edge_lists.specs.EdgeList.{listed, endV, endW, rises, goodEdge, firstBadEdge, graphOf, listVerdict}
 
 -- what a list that passes the checks 19 may go by, and back
 pub record Passed (e : List ℕ) (total : ℕ) : Type 0 where

@@ -6,10 +6,10 @@ use lib.ListN.{length, getD, length-append}
 use lib.Seq.{sets, length-sets}
 use Rattle.finite.specs.Range.{catTo}
 use Rattle.finite.proofs.Fold.{catTo-more, catTo-part, sets-append}
-use Rattle.edgelist.specs.EdgeList.{edgeBytes}
-use Rattle.edgelist.proofs.Listing.{row-starts}
-use Rattle.edgelist.proofs.put_row.Statement.{statement}
-use Rattle.edgelist.proofs.put_row.Tie as tie
+use Rattle.edge_lists.specs.EdgeList.{edgeBytes}
+use Rattle.edge_lists.proofs.Listing.{row-starts}
+use Rattle.edge_lists.proofs.put_row.Statement.{statement}
+use Rattle.edge_lists.proofs.put_row.Tie as tie
 
 abbrev Inv-loop : tie.InvT-loop
 Inv-loop row v output₀ at n a₀ w₀ output a w =

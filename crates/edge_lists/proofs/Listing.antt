@@ -14,7 +14,7 @@ use Rattle.finite.proofs.Sum.{sumTo-cong, sumTo-const, sumTo-mono, sumTo-mirror
 use Rattle.finite.proofs.Fold.{catTo-cong, catTo-empty, catTo-length}
 use Rattle.graph.specs.Graph.{Graph, Simple, edges}
 use Rattle.layout.specs.Layout.{mostVertices}
-use Rattle.edgelist.specs.EdgeList.{edgeBytes, rowBytes, listOf}
+use Rattle.edge_lists.specs.EdgeList.{edgeBytes, rowBytes, listOf}
 
 -- an edge is written at its lower end
 pub edge-below : (row : ℕ → ℕ) (v w : ℕ) → w ≤ v → edgeBytes row v w ≡ []

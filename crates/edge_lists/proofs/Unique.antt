@@ -11,10 +11,10 @@ use lib.Seq.{ext-getD}
 use Rattle.finite.proofs.Sum.{sumTo-zero, sumTo-less, sumTo-term}
 use Rattle.graph.specs.Graph.{Simple, atEdge, SameOn}
 use Rattle.graph.proofs.Edge.{Place, forth, back, elsewhere, place, atEdge-here, edges-same}
-use Rattle.edgelist.specs.EdgeList.{listed, endV, endW, graphOf, listOf}
-use Rattle.edgelist.proofs.List.{Passed, good, all-before, list-simple, edges-to}
-use Rattle.edgelist.proofs.Pairs.{place as placeOf}
-use Rattle.edgelist.proofs.Listed.{list-even, list-well, list-graph}
+use Rattle.edge_lists.specs.EdgeList.{listed, endV, endW, graphOf, listOf}
+use Rattle.edge_lists.proofs.List.{Passed, good, all-before, list-simple, edges-to}
+use Rattle.edge_lists.proofs.Pairs.{place as placeOf}
+use Rattle.edge_lists.proofs.Listed.{list-even, list-well, list-graph}
 
 -- two sequences that rise and have the same numbers are the same
 module _ (m : ℕ) (P Q : ℕ → ℕ)

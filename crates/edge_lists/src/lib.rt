@@ -4,7 +4,7 @@ ghost use Prim.Native.Nat.{_+_, _*_, _≤_, _<_};
 ghost use lib.ListN.{length, getD};
 ghost use lib.Seq.{sets};
 ghost use Rattle.layout.specs.Layout.{mostVertices};
-ghost use Rattle.edgelist.specs.EdgeList.{rises, goodEdge, firstBadEdge, listVerdict, edgeBytes, rowBytes};
+ghost use Rattle.edge_lists.specs.EdgeList.{rises, goodEdge, firstBadEdge, listVerdict, edgeBytes, rowBytes};
 use answer::Cause;
 use answer::Verdict;
 use answer::refuse;

@@ -17,9 +17,9 @@ use Rattle.answer.specs.declared.Verdict.the-variants.{Go}
 use Rattle.graph.specs.Graph.{Graph, Simple, atEdge, SameOn}
 use Rattle.graph.proofs.Edge.{atEdge-sum}
 use Rattle.layout.specs.Layout.{mostVertices}
-use Rattle.edgelist.specs.EdgeList.{listed, endV, endW, rises, goodEdge, firstBadEdge, graphOf, listVerdict, edgeBytes, rowBytes, listOf}
-use Rattle.edgelist.proofs.List.{verdict-go}
-use Rattle.edgelist.proofs.Pairs.{over, place, Rising, cat-sized, over-cat, rising-cat, one-sized, one-over, one-rising}
+use Rattle.edge_lists.specs.EdgeList.{listed, endV, endW, rises, goodEdge, firstBadEdge, graphOf, listVerdict, edgeBytes, rowBytes, listOf}
+use Rattle.edge_lists.proofs.List.{verdict-go}
+use Rattle.edge_lists.proofs.Pairs.{over, place, Rising, cat-sized, over-cat, rising-cat, one-sized, one-over, one-rising}
 
 module _ (n : ℕ) (E : Graph) where
   -- 1 where v – w is listed

@@ -5,9 +5,9 @@ use native.Mathlib.Numerals.{add-one}
 use native.Mathlib.Omega.{arith}
 use borrow.Author.Needs.{needs}
 use lib.ListN.{length-set, getD}
-use Rattle.edgelist.proofs.Listing.{edge-there, edge-none}
-use Rattle.edgelist.proofs.put_edge.Statement.{statement}
-use Rattle.edgelist.proofs.put_edge.Tie as tie
+use Rattle.edge_lists.proofs.Listing.{edge-there, edge-none}
+use Rattle.edge_lists.proofs.put_edge.Statement.{statement}
+use Rattle.edge_lists.proofs.put_edge.Tie as tie
 
 pub put-edge-spec : {M : Type 1} → statement M
 put-edge-spec =

@@ -5,10 +5,10 @@ use mathlib.Core.Bool.{not}
 use Prim.Native.Nat.{_≤_, _-_}
 use Rattle.finite.specs.Range.{lowest}
 use Rattle.finite.proofs.Lowest.{lowest-end, lowest-here, lowest-next}
-use Rattle.edgelist.specs.EdgeList.{listed, goodEdge, firstBadEdge}
+use Rattle.edge_lists.specs.EdgeList.{listed, goodEdge, firstBadEdge}
 use native.Mathlib.Omega.{arith}
-use Rattle.edgelist.proofs.first_bad_edge.Statement.{statement}
-use Rattle.edgelist.proofs.first_bad_edge.Tie as tie
+use Rattle.edge_lists.proofs.first_bad_edge.Statement.{statement}
+use Rattle.edge_lists.proofs.first_bad_edge.Tie as tie
 
 abbrev Inv-loop : tie.InvT-loop
 Inv-loop edges total n i₀ i = (i ≤ listed edges) × (firstBadEdge edges total ≡ lowest i (listed edges) (λ i. not (goodEdge edges total i)))

@@ -1,8 +1,8 @@
 -- `edgelist::good_edge` meets its contract.
 -- Assumes nothing.
 use native.Mathlib.Omega.{arith}
-use Rattle.edgelist.proofs.good_edge.Statement.{statement}
-use Rattle.edgelist.proofs.good_edge.Tie as tie
+use Rattle.edge_lists.proofs.good_edge.Statement.{statement}
+use Rattle.edge_lists.proofs.good_edge.Tie as tie
 
 pub good-edge-spec : {M : Type 1} → statement M
 good-edge-spec =

@@ -2,8 +2,8 @@
 -- Assumes nothing.
 use borrow.Author.Tests.{eq-eqb, ne-eqb}
 use native.Mathlib.Omega.{arith}
-use Rattle.edgelist.proofs.rises.Statement.{statement}
-use Rattle.edgelist.proofs.rises.Tie as tie
+use Rattle.edge_lists.proofs.rises.Statement.{statement}
+use Rattle.edge_lists.proofs.rises.Tie as tie
 
 pub rises-spec : {M : Type 1} → statement M
 rises-spec =
