@@ -166,17 +166,17 @@ struct ReplicaJoin {
 /* Why a call was refused. Places are in `first` and `second`; where none is named, both are 0. */
 enum {
     /* The journal or the adjacency matrix has another length than the two above. */
-    REPLICA_REFUSED_LENGTH = 1,
+    REPLICA_REFUSED_WRONG_LENGTH = 1,
     /* Journal and adjacency matrix are not a valid state: something other than these functions has
      * written them, or they were never cleared. */
-    REPLICA_REFUSED_INVALID = 2,
+    REPLICA_REFUSED_INVALID_STATE = 2,
     /* Not in this phase: laid out already, or not laid out yet. */
-    REPLICA_REFUSED_PHASE = 3,
+    REPLICA_REFUSED_WRONG_PHASE = 3,
     /* The block has more than 64 bytes, or not a multiple of 4. */
     REPLICA_REFUSED_BLOCK_LENGTH = 4,
     /* A record has a degree outside 1 to 40, or k > l; 0, 0 is the only pair with a zero that is
      * allowed. first: index of the first such record. */
-    REPLICA_REFUSED_RECORD = 5,
+    REPLICA_REFUSED_BAD_RECORD = 5,
     /* The block number is too high to come next, or no such block is held. */
     REPLICA_REFUSED_BLOCK_NUMBER = 6,
     /* A block with this number but other bytes is held. */
@@ -186,30 +186,30 @@ enum {
     /* A cell (k, k) is odd. first and second: k. */
     REPLICA_REFUSED_ODD_DIAGONAL = 9,
     /* The sum of row k is not divisible by k. first: k. */
-    REPLICA_REFUSED_ROW = 10,
+    REPLICA_REFUSED_ROW_NOT_DIVISIBLE = 10,
     /* A cell (k, l) is larger than any simple graph allows. first: k, second: l. */
-    REPLICA_REFUSED_CELL = 11,
+    REPLICA_REFUSED_CELL_TOO_LARGE = 11,
     /* There are more than 200 vertices, the isolated ones included. */
-    REPLICA_REFUSED_VERTICES = 12,
+    REPLICA_REFUSED_TOO_MANY_VERTICES = 12,
     /* A vertex number is not below the number of vertices. */
-    REPLICA_REFUSED_NO_VERTEX = 13,
+    REPLICA_REFUSED_NO_SUCH_VERTEX = 13,
     /* v and w are the same vertex. */
     REPLICA_REFUSED_SAME_VERTEX = 14,
     /* v and w are joined already. */
     REPLICA_REFUSED_EDGE_PRESENT = 15,
     /* The cell of the two vertices has all its edges, or one of them is isolated and takes none.
      * first, second: their degrees, lower first; the degree of an isolated vertex is 0. */
-    REPLICA_REFUSED_NOT_SHORT = 16,
+    REPLICA_REFUSED_CELL_NOT_SHORT = 16,
     /* v and w are not joined. */
     REPLICA_REFUSED_EDGE_ABSENT = 17,
     /* The output is too short. */
-    REPLICA_REFUSED_OUTPUT = 18,
+    REPLICA_REFUSED_OUTPUT_TOO_SHORT = 18,
     /* The total is over 200 (no place); or the edge list has an odd length (first: its number of
      * whole edges); or an edge has v >= w, a w not below the total, or is not above the edge before
      * it (first: index of the first such edge). */
-    REPLICA_REFUSED_EDGE_LIST = 19,
+    REPLICA_REFUSED_BAD_EDGE_LIST = 19,
     /* A vertex of the edge list has a degree over 40. first: the lowest such vertex. */
-    REPLICA_REFUSED_DEGREE = 20,
+    REPLICA_REFUSED_DEGREE_TOO_HIGH = 20,
     /* The text is not a graph6 text: it is empty, has a byte outside 63 to 126 (as a header and a
      * line end do), another length than its number of vertices asks for, a bit behind the last pair
      * that is not 0, or a number of vertices in the longer form without need. */

@@ -5,7 +5,7 @@ use mathlib.Core.List.{List}
 use Prim.Native.Nat.{ℕ, min, max}
 use lib.Dec.{eqb, ltb}
 use Rattle.answer.specs.Refusals.{refusal, unless, unlessStopped}
-use Rattle.answer.specs.declared.Cause.the-variants.{VertexNumber, SameVertex, Linked, CellFull}
+use Rattle.answer.specs.declared.Cause.the-variants.{NoSuchVertex, SameVertex, EdgePresent, CellNotShort}
 use Rattle.answer.specs.declared.AddAnswer.{AddAnswer}
 use Rattle.answer.specs.declared.AddAnswer.the-variants.{Added, Refused}
 use Rattle.adjacency.specs.Adjacency.{edge}
@@ -16,12 +16,12 @@ use Rattle.joining.specs.Join.{joinBytes, joinSwitches}
 -- on a valid laid state: the checks 13, 14, 15, 16
 abbrev pub addLaid : List ℕ → List ℕ → ℕ → ℕ → AddAnswer
 addLaid j g v w =
-    unless (ltb v (vertexCount j)) (Refused (refusal VertexNumber 0 0))
-    (unless (ltb w (vertexCount j)) (Refused (refusal VertexNumber 0 0))
+    unless (ltb v (vertexCount j)) (Refused (refusal NoSuchVertex 0 0))
+    (unless (ltb w (vertexCount j)) (Refused (refusal NoSuchVertex 0 0))
     (unless (not (eqb v w)) (Refused (refusal SameVertex 0 0))
-    (unless (eqb (edge g v w) 0) (Refused (refusal Linked 0 0))
+    (unless (eqb (edge g v w) 0) (Refused (refusal EdgePresent 0 0))
     (unless (isShort j g (degreeAt j v) (degreeAt j w))
-    (Refused (refusal CellFull (min (degreeAt j v) (degreeAt j w)) (max (degreeAt j v) (degreeAt j w))))
+    (Refused (refusal CellNotShort (min (degreeAt j v) (degreeAt j w)) (max (degreeAt j v) (degreeAt j w))))
     (Added (joinSwitches (vertexCount j) (degreeAt j) g v w))))))
 
 -- the checks 1, 2, 3, then 13, 14, 15, 16

@@ -4,7 +4,7 @@ ghost use Prim.Native.Nat.{_+_, _<_, min, max};
 ghost use lib.Dec.{ltb};
 ghost use lib.ListN.{length, getD};
 ghost use Rattle.answer.specs.Refusals.{refusal};
-ghost use Rattle.answer.specs.declared.Cause.the-variants.{CellFull};
+ghost use Rattle.answer.specs.declared.Cause.the-variants.{CellNotShort};
 ghost use Rattle.graph.specs.Tests.{degrees};
 ghost use Rattle.table.specs.Inner.Cells.{matrixOf, AtMost, cellSumMost};
 ghost use Rattle.answer.specs.declared.Verdict.the-variants.{Go};
@@ -53,12 +53,12 @@ fn is_short(
 
 // Cell (k, l) is not short: its degrees, lower first.
 fn full_cell(k: usize, l: usize) -> Refusal
-    ensures { λ r. ⌜ r ≡ refusal CellFull (min k l) (max k l) ⌝ }
+    ensures { λ r. ⌜ r ≡ refusal CellNotShort (min k l) (max k l) ⌝ }
 {
     if k <= l {
-        return refuse(Cause::CellFull, k, l);
+        return refuse(Cause::CellNotShort, k, l);
     }
-    refuse(Cause::CellFull, l, k)
+    refuse(Cause::CellNotShort, l, k)
 }
 
 // On two unlinked vertices: the check 16, then the switches and the edge.
@@ -103,16 +103,16 @@ fn add_laid(journal: &[u8], adjacency: &mut [u8], v: usize, w: usize) -> AddAnsw
     let d = sum_table(journal, &mut cells);
     let n = vertex_count(&cells, &d);
     if n <= v {
-        return AddAnswer::Refused(refuse(Cause::VertexNumber, 0, 0));
+        return AddAnswer::Refused(refuse(Cause::NoSuchVertex, 0, 0));
     }
     if n <= w {
-        return AddAnswer::Refused(refuse(Cause::VertexNumber, 0, 0));
+        return AddAnswer::Refused(refuse(Cause::NoSuchVertex, 0, 0));
     }
     if v == w {
         return AddAnswer::Refused(refuse(Cause::SameVertex, 0, 0));
     }
     if edge_at(adjacency, v, w) != 0 {
-        return AddAnswer::Refused(refuse(Cause::Linked, 0, 0));
+        return AddAnswer::Refused(refuse(Cause::EdgePresent, 0, 0));
     }
     add_unlinked(adjacency, &cells, &d, v, w)
 }

@@ -3,7 +3,7 @@
 use Prim.Native.Nat.{ℕ}
 use Rattle.answer.specs.Switches.{switchCount, firstSwitch, secondSwitch}
 use Rattle.answer.specs.declared.Cause.{Cause}
-use Rattle.answer.specs.declared.Cause.the-variants.{Length as LengthCause, Invalid, Phase, BlockLength, Record, BlockNumber, Conflict, JournalFull, OddDiagonal, UnevenRow, OverfullCell, TooManyVertices, VertexNumber, SameVertex, Linked, CellFull, NotLinked, OutputLength, EdgeList, DegreeAbove, Graph6Text, Graph6Size}
+use Rattle.answer.specs.declared.Cause.the-variants.{WrongLength, InvalidState, WrongPhase, BlockLength, BadRecord, BlockNumber, BlockDiffers, JournalFull, OddDiagonal, RowNotDivisible, CellTooLarge, TooManyVertices, NoSuchVertex, SameVertex, EdgePresent, CellNotShort, EdgeAbsent, OutputTooShort, BadEdgeList, DegreeTooHigh, Graph6Text, Graph6Size}
 use Rattle.answer.specs.declared.Refusal.{Refusal}
 use Rattle.answer.specs.declared.ClearAnswer.{ClearAnswer}
 use Rattle.answer.specs.declared.ClearAnswer.the-variants as Clear
@@ -30,26 +30,26 @@ use Rattle.answer.specs.declared.ReadAnswer.the-variants as Read
 
 -- the numbers of document 01's table, and those that document 02 adds to it
 abbrev pub numberOf : Cause → ℕ
-numberOf LengthCause = 1
-numberOf Invalid = 2
-numberOf Phase = 3
+numberOf WrongLength = 1
+numberOf InvalidState = 2
+numberOf WrongPhase = 3
 numberOf BlockLength = 4
-numberOf Record = 5
+numberOf BadRecord = 5
 numberOf BlockNumber = 6
-numberOf Conflict = 7
+numberOf BlockDiffers = 7
 numberOf JournalFull = 8
 numberOf OddDiagonal = 9
-numberOf UnevenRow = 10
-numberOf OverfullCell = 11
+numberOf RowNotDivisible = 10
+numberOf CellTooLarge = 11
 numberOf TooManyVertices = 12
-numberOf VertexNumber = 13
+numberOf NoSuchVertex = 13
 numberOf SameVertex = 14
-numberOf Linked = 15
-numberOf CellFull = 16
-numberOf NotLinked = 17
-numberOf OutputLength = 18
-numberOf EdgeList = 19
-numberOf DegreeAbove = 20
+numberOf EdgePresent = 15
+numberOf CellNotShort = 16
+numberOf EdgeAbsent = 17
+numberOf OutputTooShort = 18
+numberOf BadEdgeList = 19
+numberOf DegreeTooHigh = 20
 numberOf Graph6Text = 21
 numberOf Graph6Size = 22
 

@@ -7,7 +7,7 @@ use Prim.Native.Nat.{ℕ}
 use lib.ListN.{length, replicate}
 use Rattle.graph.specs.Graph.{noTable}
 use Rattle.answer.specs.Refusals.{refusal, unless}
-use Rattle.answer.specs.declared.Cause.the-variants.{Length}
+use Rattle.answer.specs.declared.Cause.the-variants.{WrongLength}
 use Rattle.answer.specs.declared.ClearAnswer.{ClearAnswer}
 use Rattle.answer.specs.declared.ClearAnswer.the-variants.{Cleared, Refused}
 use Rattle.journal.specs.Journal.{journalSize, phase, blocks, tableOf}
@@ -15,7 +15,7 @@ use Rattle.adjacency.specs.Adjacency.{adjacencySize}
 use Rattle.state.specs.Valid.{lengthsOk, valid}
 
 abbrev pub clearAnswer : List ℕ → List ℕ → ClearAnswer
-clearAnswer j g = unless (lengthsOk j g) (Refused (refusal Length 0 0)) Cleared
+clearAnswer j g = unless (lengthsOk j g) (Refused (refusal WrongLength 0 0)) Cleared
 
 -- a lent list afterwards
 abbrev pub clearBytes : ClearAnswer → List ℕ → List ℕ

@@ -13,7 +13,7 @@ pub fn clear(journal: &mut [u8], adjacency: &mut [u8]) -> ClearAnswer
     ensures { λ _. ⌜ now (adjacency .exit) ≡ clearBytes (clearAnswer (now (journal .entry)) (now (adjacency .entry))) (now (adjacency .entry)) ⌝ }
 {
     if !lengths_ok(journal, adjacency) {
-        return ClearAnswer::Refused(refuse(Cause::Length, 0, 0));
+        return ClearAnswer::Refused(refuse(Cause::WrongLength, 0, 0));
     }
     slices::clear_bytes(journal);
     slices::clear_bytes(adjacency);

@@ -11,7 +11,7 @@ use lib.Dec.{leb}
 use lib.ListN.{length}
 use borrow.Author.Tests.{leb-true, le-leb, lt-leb}
 use Rattle.answer.specs.Refusals.{refusal}
-use Rattle.answer.specs.declared.Cause.the-variants.{OutputLength}
+use Rattle.answer.specs.declared.Cause.the-variants.{OutputTooShort}
 use Rattle.answer.specs.declared.Refusal.{Refusal}
 use Rattle.answer.specs.declared.Verdict.the-variants.{Go}
 use Rattle.answer.specs.declared.CompleteAnswer.{CompleteAnswer}
@@ -83,14 +83,14 @@ module _ (j g : List ℕ) where
       pub laid-roomy : joinRecordSize * missing j g ≤ m → finishLaid r j g m ≡ Completed (r .joins) (r .switches) (length (r .records))
       laid-roomy h = rw (le-leb (joinRecordSize * missing j g) m h)
 
-      pub laid-short : m < joinRecordSize * missing j g → finishLaid r j g m ≡ Refused (refusal OutputLength 0 0)
+      pub laid-short : m < joinRecordSize * missing j g → finishLaid r j g m ≡ Refused (refusal OutputTooShort 0 0)
       laid-short h = rw (lt-leb (joinRecordSize * missing j g) m h)
 
       pub facts-completed : CompleteFacts j g → joinRecordSize * missing j g ≤ m
           → finishAnswer r j g m ≡ Completed (r .joins) (r .switches) (length (r .records))
       facts-completed f h = rw (phase-go 1 j g (f .lengths) (f .sound) (f .phased)) (laid-roomy h)
 
-      pub short-refused : CompleteFacts j g → m < joinRecordSize * missing j g → finishAnswer r j g m ≡ Refused (refusal OutputLength 0 0)
+      pub short-refused : CompleteFacts j g → m < joinRecordSize * missing j g → finishAnswer r j g m ≡ Refused (refusal OutputTooShort 0 0)
       short-refused f h = rw (phase-go 1 j g (f .lengths) (f .sound) (f .phased)) (laid-short h)
 
   -- a valid laid state is where a run may begin

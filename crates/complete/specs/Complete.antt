@@ -9,7 +9,7 @@ use lib.Seq.{sets}
 use Rattle.finite.specs.Range.{iterate}
 use Rattle.answer.specs.Refusals.{refusal, unless, unlessStopped}
 use Rattle.answer.specs.Switches.{switchCount}
-use Rattle.answer.specs.declared.Cause.the-variants.{OutputLength}
+use Rattle.answer.specs.declared.Cause.the-variants.{OutputTooShort}
 use Rattle.answer.specs.declared.CompleteAnswer.{CompleteAnswer}
 use Rattle.answer.specs.declared.CompleteAnswer.the-variants.{Completed, Refused}
 use Rattle.graph.specs.Graph.{edges}
@@ -77,7 +77,7 @@ missing j g = wanted (jdmOf j) - edges (vertexCount j) (edge g)
 -- anything is joined
 abbrev pub finishLaid : Ran → List ℕ → List ℕ → ℕ → CompleteAnswer
 finishLaid r j g m =
-    unless (leb (joinRecordSize * missing j g) m) (Refused (refusal OutputLength 0 0))
+    unless (leb (joinRecordSize * missing j g) m) (Refused (refusal OutputTooShort 0 0))
     (Completed (r .joins) (r .switches) (length (r .records)))
 
 -- the checks 1, 2, 3, then 18

@@ -32,7 +32,7 @@ fn complete_laid(journal: &[u8], adjacency: &mut [u8], output: &mut [u8]) -> Com
     let mut cells = [0u32; CELLS];
     let begun = begin(journal, adjacency, &mut cells);
     if output.len() < JOIN_RECORD_SIZE * begun.missing {
-        return CompleteAnswer::Refused(refuse(Cause::OutputLength, 0, 0));
+        return CompleteAnswer::Refused(refuse(Cause::OutputTooShort, 0, 0));
     }
     let counts = begun.counts;
     let s = classes::starts(&counts);

@@ -34,7 +34,7 @@ fn shuffle_laid(journal: &[u8], adjacency: &mut [u8], x: u32, output: &mut [u8])
     let begun = begin(journal, adjacency, &mut cells);
     let missing = begun.missing;
     if output.len() < JOIN_RECORD_SIZE * missing {
-        return ShuffleAnswer::Refused(refuse(Cause::OutputLength, 0, 0));
+        return ShuffleAnswer::Refused(refuse(Cause::OutputTooShort, 0, 0));
     }
     let counts = begun.counts;
     let starts = classes::starts(&counts);

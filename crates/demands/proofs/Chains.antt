@@ -8,7 +8,7 @@ use lib.Dec.{leb, ltb, eqb}
 use lib.ListN.{length}
 use Rattle.answer.specs.Refusals.{refusal, stop, unless, unlessStopped}
 use Rattle.answer.specs.Numbers.{numberOf}
-use Rattle.answer.specs.declared.Cause.the-variants.{Length, Invalid, Phase, BlockLength, Record, BlockNumber, Conflict, JournalFull, OddDiagonal, UnevenRow, OverfullCell, TooManyVertices, VertexNumber, SameVertex, Linked, CellFull, NotLinked, OutputLength, EdgeList, DegreeAbove, Graph6Text, Graph6Size}
+use Rattle.answer.specs.declared.Cause.the-variants.{WrongLength, InvalidState, WrongPhase, BlockLength, BadRecord, BlockNumber, BlockDiffers, JournalFull, OddDiagonal, RowNotDivisible, CellTooLarge, TooManyVertices, NoSuchVertex, SameVertex, EdgePresent, CellNotShort, EdgeAbsent, OutputTooShort, BadEdgeList, DegreeTooHigh, Graph6Text, Graph6Size}
 use Rattle.answer.specs.declared.Refusal.{Refusal}
 use Rattle.answer.specs.declared.Verdict.{Verdict}
 use Rattle.answer.specs.declared.Verdict.the-variants.{Go, Stop}
@@ -100,7 +100,7 @@ behind Of ns (Stop r) refused rest f h x = f r h
 pub state-numbers : (j g ns : List ℕ) → OfVerdict (1 ∷ 2 ∷ ns) (stateVerdict j g)
 state-numbers j g ns = go (lengthsOk j g) (valid j g)
   where
-    go : (a b : Bool) → OfVerdict (1 ∷ 2 ∷ ns) (unless a (stop Length) (unless b (stop Invalid) Go))
+    go : (a b : Bool) → OfVerdict (1 ∷ 2 ∷ ns) (unless a (stop WrongLength) (unless b (stop InvalidState) Go))
     go false b = refl
     go true false = refl
     go true true = tt
@@ -109,22 +109,22 @@ pub phase-numbers : (p : ℕ) (j g ns : List ℕ) → OfVerdict (1 ∷ 2 ∷ 3 �
 phase-numbers p j g ns =
     behind OfVerdict (1 ∷ 2 ∷ 3 ∷ ns) (stateVerdict j g) Stop _ (λ r h. h) (state-numbers j g (3 ∷ ns)) (go (eqb (phase j) p))
   where
-    go : (c : Bool) → OfVerdict (1 ∷ 2 ∷ 3 ∷ ns) (unless c (stop Phase) Go)
+    go : (c : Bool) → OfVerdict (1 ∷ 2 ∷ 3 ∷ ns) (unless c (stop WrongPhase) Go)
     go false = refl
     go true = tt
 
 -- Each entry's own checks, test by test: whatever the tests say, what comes out is one of its answers.
-pub clear-chain : (a : Bool) → OfClear (1 ∷ []) (unless a (Clear.Refused (refusal Length 0 0)) Clear.Cleared)
+pub clear-chain : (a : Bool) → OfClear (1 ∷ []) (unless a (Clear.Refused (refusal WrongLength 0 0)) Clear.Cleared)
 clear-chain false = refl
 clear-chain true = tt
 
 -- .. of taking, those behind 4
 later-chain : (d e f g h i : Bool) (bad next : ℕ)
     → OfTake (5 ∷ 6 ∷ 7 ∷ 3 ∷ 8 ∷ [])
-    (unless d (Take.Refused (refusal Record bad 0))
+    (unless d (Take.Refused (refusal BadRecord bad 0))
     (unless e (Take.Refused (refusal BlockNumber 0 0))
-    (cond f (unless g (Take.Refused (refusal Conflict 0 0)) Take.Held)
-    (unless h (Take.Refused (refusal Phase 0 0))
+    (cond f (unless g (Take.Refused (refusal BlockDiffers 0 0)) Take.Held)
+    (unless h (Take.Refused (refusal WrongPhase 0 0))
     (unless i (Take.Refused (refusal JournalFull 0 0))
     (Take.Taken next))))))
 later-chain false e f g h i bad next = refl
@@ -137,7 +137,7 @@ later-chain true true false g true true bad next = tt
 
 -- the answer to a block whose length 4 lets pass
 abbrev pub takeLater : List ℕ → ℕ → List ℕ → TakeAnswer
-takeLater j number b = unless (eqb (firstBad b) (records b)) (Take.Refused (refusal Record (firstBad b) 0)) (takeNumbered j number b)
+takeLater j number b = unless (eqb (firstBad b) (records b)) (Take.Refused (refusal BadRecord (firstBad b) 0)) (takeNumbered j number b)
 
 pub later-numbers : (j : List ℕ) (number : ℕ) (b : List ℕ) → OfTake (5 ∷ 6 ∷ 7 ∷ 3 ∷ 8 ∷ []) (takeLater j number b)
 later-numbers j number b =
@@ -161,8 +161,8 @@ length-chain true n = tt
 pub verdict-chain : (a b c d : Bool) (i j k l : ℕ)
     → OfVerdict (1 ∷ 2 ∷ 3 ∷ 9 ∷ 10 ∷ 11 ∷ 12 ∷ [])
     (unless a (Stop (refusal OddDiagonal i i))
-    (unless b (Stop (refusal UnevenRow j 0))
-    (unless c (Stop (refusal OverfullCell k l))
+    (unless b (Stop (refusal RowNotDivisible j 0))
+    (unless c (Stop (refusal CellTooLarge k l))
     (unless d (stop TooManyVertices) Go))))
 verdict-chain false b c d i j k l = refl
 verdict-chain true false c d i j k l = refl
@@ -178,11 +178,11 @@ layout-numbers t =
 
 pub add-chain : (d e f g h : Bool) (k l : ℕ) (s : Switches)
     → OfAdd (1 ∷ 2 ∷ 3 ∷ 13 ∷ 14 ∷ 15 ∷ 16 ∷ [])
-    (unless d (Add.Refused (refusal VertexNumber 0 0))
-    (unless e (Add.Refused (refusal VertexNumber 0 0))
+    (unless d (Add.Refused (refusal NoSuchVertex 0 0))
+    (unless e (Add.Refused (refusal NoSuchVertex 0 0))
     (unless f (Add.Refused (refusal SameVertex 0 0))
-    (unless g (Add.Refused (refusal Linked 0 0))
-    (unless h (Add.Refused (refusal CellFull k l))
+    (unless g (Add.Refused (refusal EdgePresent 0 0))
+    (unless h (Add.Refused (refusal CellNotShort k l))
     (Add.Added s))))))
 add-chain false e f g h k l s = refl
 add-chain true false f g h k l s = refl
@@ -193,10 +193,10 @@ add-chain true true true true true k l s = tt
 
 pub remove-chain : (d e f g : Bool)
     → OfRemove (1 ∷ 2 ∷ 3 ∷ 13 ∷ 14 ∷ 17 ∷ [])
-    (unless d (Remove.Refused (refusal VertexNumber 0 0))
-    (unless e (Remove.Refused (refusal VertexNumber 0 0))
+    (unless d (Remove.Refused (refusal NoSuchVertex 0 0))
+    (unless e (Remove.Refused (refusal NoSuchVertex 0 0))
     (unless f (Remove.Refused (refusal SameVertex 0 0))
-    (unless g (Remove.Refused (refusal NotLinked 0 0))
+    (unless g (Remove.Refused (refusal EdgeAbsent 0 0))
     Remove.Removed))))
 remove-chain false e f g = refl
 remove-chain true false f g = refl
@@ -205,13 +205,13 @@ remove-chain true true true false = refl
 remove-chain true true true true = tt
 
 pub complete-chain : (d : Bool) (i s n : ℕ)
-    → OfComplete (1 ∷ 2 ∷ 3 ∷ 18 ∷ []) (unless d (Complete.Refused (refusal OutputLength 0 0)) (Complete.Completed i s n))
+    → OfComplete (1 ∷ 2 ∷ 3 ∷ 18 ∷ []) (unless d (Complete.Refused (refusal OutputTooShort 0 0)) (Complete.Completed i s n))
 complete-chain false i s n = refl
 complete-chain true i s n = tt
 
 -- an output that is long enough, or the check 18, which is among the numbers
 pub fits-chain : (ns : List ℕ) → oneOf 18 ns ≡ true → (d : Bool) (n m : ℕ) → (d ≡ true → n ≤ m)
-    → OfWritten ns n m (unless d (Write.Refused (refusal OutputLength 0 0)) (Write.Written n))
+    → OfWritten ns n m (unless d (Write.Refused (refusal OutputTooShort 0 0)) (Write.Written n))
 fits-chain ns e false n m h = e
 fits-chain ns e true n m h = (refl, h refl)
 
@@ -221,9 +221,9 @@ list-numbers e total ns = go (leb total mostVertices) (eqb (length e % 2) 0) (eq
   where
     go : (a b c : Bool)
         → OfVerdict (19 ∷ ns)
-        (unless a (Stop (refusal EdgeList 0 0))
-        (unless b (Stop (refusal EdgeList (listed e) 0))
-        (unless c (Stop (refusal EdgeList (firstBadEdge e total) 0)) Go)))
+        (unless a (Stop (refusal BadEdgeList 0 0))
+        (unless b (Stop (refusal BadEdgeList (listed e) 0))
+        (unless c (Stop (refusal BadEdgeList (firstBadEdge e total) 0)) Go)))
     go false b c = refl
     go true false c = refl
     go true true false = refl
@@ -231,8 +231,8 @@ list-numbers e total ns = go (leb total mostVertices) (eqb (length e % 2) 0) (eq
 
 pub survey-chain : (ns : List ℕ) → oneOf 20 ns ≡ true → oneOf 18 ns ≡ true → (c d : Bool) (k n m : ℕ) → (d ≡ true → n ≤ m)
     → OfWritten ns n m
-    (unless c (Write.Refused (refusal DegreeAbove k 0))
-    (unless d (Write.Refused (refusal OutputLength 0 0))
+    (unless c (Write.Refused (refusal DegreeTooHigh k 0))
+    (unless d (Write.Refused (refusal OutputTooShort 0 0))
     (Write.Written n)))
 survey-chain ns a b false d k n m h = a
 survey-chain ns a b true d k n m h = fits-chain ns b d n m h
@@ -241,7 +241,7 @@ pub read-chain : (a b d : Bool) (n total m : ℕ) → (d ≡ true → n ≤ m)
     → OfRead (22 ∷ 21 ∷ 18 ∷ []) n m
     (unless a (Read.Refused (refusal Graph6Size 0 0))
     (unless b (Read.Refused (refusal Graph6Text 0 0))
-    (unless d (Read.Refused (refusal OutputLength 0 0))
+    (unless d (Read.Refused (refusal OutputTooShort 0 0))
     (Read.Read n total))))
 read-chain false b d n total m h = refl
 read-chain true false d n total m h = refl

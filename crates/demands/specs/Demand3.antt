@@ -12,7 +12,7 @@ use Rattle.graph.specs.Tests.{degrees, rowSum, vertices, vertexDegree}
 use Rattle.graph.specs.Theorems.{Realized}
 use Rattle.answer.specs.Numbers.{layOutNumbers}
 use Rattle.answer.specs.Refusals.{refusal}
-use Rattle.answer.specs.declared.Cause.the-variants.{OutputLength}
+use Rattle.answer.specs.declared.Cause.the-variants.{OutputTooShort}
 use Rattle.answer.specs.declared.switches.Switches.{Switches}
 use Rattle.answer.specs.declared.AddAnswer.the-variants.{Added}
 use Rattle.answer.specs.declared.CompleteAnswer.the-variants.{Completed, Refused}
@@ -70,7 +70,7 @@ HasRoom t out = joinRecordSize * missingEdges t ≤ length out
 
 -- completing into a shorter output is refused with 18, and nothing changes
 pub record RefusedShort (s : State) (f : Finish) (out : List ℕ) : Type 0 where
-  pub answer : finishAnswer (outcome f (s .journal) (s .adjacency)) (s .journal) (s .adjacency) (length out) ≡ Refused (refusal OutputLength 0 0)
+  pub answer : finishAnswer (outcome f (s .journal) (s .adjacency)) (s .journal) (s .adjacency) (length out) ≡ Refused (refusal OutputTooShort 0 0)
   pub unchanged : after s (complete f out) ≡ s
 
 -- not laid: refused with 9, 10 or 11 if and only if no simple graph of any size has T (isolated vertices hinder no graph)

@@ -8,7 +8,7 @@ use mathlib.Core.Logic.{_⊎_, _↔_}
 use Prim.Native.Nat.{ℕ, _+_, _%_, _<_}
 use lib.ListN.{length, set}
 use Rattle.answer.specs.Refusals.{refusal}
-use Rattle.answer.specs.declared.Cause.the-variants.{BlockLength, Conflict}
+use Rattle.answer.specs.declared.Cause.the-variants.{BlockLength, BlockDiffers}
 use Rattle.answer.specs.declared.TakeAnswer.the-variants.{Taken, Held, Refused}
 use Rattle.answer.specs.declared.LengthAnswer.the-variants.{Length}
 use Rattle.table.specs.Block.{recordSize, blockMost, wellFormed}
@@ -34,7 +34,7 @@ pub record TakesEmpty (s : State) : Type 0 where
 pub record HoldsEmpty (s : State) (number : ℕ) : Type 0 where
   -- "resent, it is held", and any block with bytes is 7
   pub resent : takeAnswer (s .journal) (s .adjacency) number [] ≡ Held
-  pub full-differs : (b : List ℕ) → wellFormed b ≡ true → 0 < length b → takeAnswer (s .journal) (s .adjacency) number b ≡ Refused (refusal Conflict 0 0)
+  pub full-differs : (b : List ℕ) → wellFormed b ≡ true → 0 < length b → takeAnswer (s .journal) (s .adjacency) number b ≡ Refused (refusal BlockDiffers 0 0)
   -- "with length 0"; "read back, it is an empty part"
   pub length-0 : lengthAnswer (s .journal) (s .adjacency) number ≡ Length 0
   pub part : heldPart (lengthAnswer (s .journal) (s .adjacency) number) (s .journal) number ≡ []
@@ -46,7 +46,7 @@ pub record EmptyBlocks : Type 0 where
   pub held : (calls : List Call) (number : ℕ) → AcceptedIn calls number [] → HoldsEmpty (afterAll cleared calls) number
   -- over a block with bytes it is 7
   pub differs : (calls : List Call) (number : ℕ) (b : List ℕ) → AcceptedIn calls number b → 0 < length b →
-      let s = afterAll cleared calls in takeAnswer (s .journal) (s .adjacency) number [] ≡ Refused (refusal Conflict 0 0)
+      let s = afterAll cleared calls in takeAnswer (s .journal) (s .adjacency) number [] ≡ Refused (refusal BlockDiffers 0 0)
   -- "Only the other lengths remain under 4": over 64 bytes, or not whole records
   pub other-lengths : (s : State) → lengthsOk (s .journal) (s .adjacency) ≡ true → valid (s .journal) (s .adjacency) ≡ true →
       (number : ℕ) (b : List ℕ) →

@@ -6,7 +6,7 @@ use mathlib.Core.List.{List}
 use Prim.Native.Nat.{ℕ, _<_}
 use lib.ListN.{length}
 use Rattle.answer.specs.Refusals.{refusal}
-use Rattle.answer.specs.declared.Cause.the-variants.{Conflict}
+use Rattle.answer.specs.declared.Cause.the-variants.{BlockDiffers}
 use Rattle.answer.specs.declared.TakeAnswer.the-variants.{Held, Refused}
 use Rattle.answer.specs.declared.LengthAnswer.the-variants.{Length}
 use Rattle.table.specs.Block.{wellFormed}
@@ -23,7 +23,7 @@ pub record Holds (s : State) (number : ℕ) (b : List ℕ) : Type 0 where
   pub sized : lengthAnswer (s .journal) (s .adjacency) number ≡ Length (length b)
   pub same : heldPart (lengthAnswer (s .journal) (s .adjacency) number) (s .journal) number ≡ b
   pub resent : takeAnswer (s .journal) (s .adjacency) number b ≡ Held
-  pub differs : (b′ : List ℕ) → wellFormed b′ ≡ true → (b ≡ b′ → ⊥) → takeAnswer (s .journal) (s .adjacency) number b′ ≡ Refused (refusal Conflict 0 0)
+  pub differs : (b′ : List ℕ) → wellFormed b′ ≡ true → (b ≡ b′ → ⊥) → takeAnswer (s .journal) (s .adjacency) number b′ ≡ Refused (refusal BlockDiffers 0 0)
 
 pub record ReadsBack : Type 0 where
   -- every block answered as taken or held is held from then on, whatever calls came after it ..

@@ -6,7 +6,7 @@ use lib.Dec.{leb}
 use lib.ListN.{length}
 use lib.Seq.{sets}
 use Rattle.answer.specs.Refusals.{refusal, unless, unlessStopped}
-use Rattle.answer.specs.declared.Cause.the-variants.{OutputLength}
+use Rattle.answer.specs.declared.Cause.the-variants.{OutputTooShort}
 use Rattle.answer.specs.declared.WrittenAnswer.{WrittenAnswer}
 use Rattle.answer.specs.declared.WrittenAnswer.the-variants.{Written, Refused}
 use Rattle.adjacency.specs.Adjacency.{edge}
@@ -21,7 +21,7 @@ listBytes n g = listOf n (edge g)
 -- on a valid laid state, for an output of m bytes: the check 18
 abbrev pub listLaid : List ℕ → List ℕ → ℕ → WrittenAnswer
 listLaid j g m =
-    unless (leb (length (listBytes (vertexCount j) g)) m) (Refused (refusal OutputLength 0 0))
+    unless (leb (length (listBytes (vertexCount j) g)) m) (Refused (refusal OutputTooShort 0 0))
     (Written (length (listBytes (vertexCount j) g)))
 
 -- the checks 1, 2, 3, then 18

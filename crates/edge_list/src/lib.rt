@@ -38,7 +38,7 @@ fn list_laid(journal: &[u8], adjacency: &[u8], output: &mut [u8]) -> WrittenAnsw
     let n = laid_vertices(journal);
     let bytes = 2 * adjacency::edge_count(adjacency, n);
     if output.len() < bytes {
-        return WrittenAnswer::Refused(refuse(Cause::OutputLength, 0, 0));
+        return WrittenAnswer::Refused(refuse(Cause::OutputTooShort, 0, 0));
     }
     WrittenAnswer::Written(put_list(adjacency, n, output))
 }

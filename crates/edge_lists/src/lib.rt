@@ -56,15 +56,15 @@ pub fn list_check(edges: &[u8], total: usize) -> Verdict
     ensures { λ r. ⌜ r ≡ listVerdict (now (edges .entry)) total ⌝ }
 {
     if MOST_VERTICES < total {
-        return Verdict::Stop(refuse(Cause::EdgeList, 0, 0));
+        return Verdict::Stop(refuse(Cause::BadEdgeList, 0, 0));
     }
     let n = edges.len() / 2;
     if edges.len() % 2 != 0 {
-        return Verdict::Stop(refuse(Cause::EdgeList, n, 0));
+        return Verdict::Stop(refuse(Cause::BadEdgeList, n, 0));
     }
     let bad = first_bad_edge(edges, total);
     if bad != n {
-        return Verdict::Stop(refuse(Cause::EdgeList, bad, 0));
+        return Verdict::Stop(refuse(Cause::BadEdgeList, bad, 0));
     }
     Verdict::Go
 }

@@ -7,7 +7,7 @@ use lib.Dec.{leb}
 use lib.ListN.{length}
 use lib.Seq.{sets}
 use Rattle.answer.specs.Refusals.{refusal, unless}
-use Rattle.answer.specs.declared.Cause.the-variants.{OutputLength, Graph6Text, Graph6Size}
+use Rattle.answer.specs.declared.Cause.the-variants.{OutputTooShort, Graph6Text, Graph6Size}
 use Rattle.answer.specs.declared.ReadAnswer.{ReadAnswer}
 use Rattle.answer.specs.declared.ReadAnswer.the-variants.{Read, Refused}
 use Rattle.edge_lists.specs.EdgeList.{listOf}
@@ -20,7 +20,7 @@ readList t = listOf (sizeOf t) (textGraph t)
 -- of a well-formed text, for an output of n bytes: the check 18
 abbrev pub readFits : List ℕ → ℕ → ReadAnswer
 readFits t n =
-    unless (leb (length (readList t)) n) (Refused (refusal OutputLength 0 0)) (Read (length (readList t)) (sizeOf t))
+    unless (leb (length (readList t)) n) (Refused (refusal OutputTooShort 0 0)) (Read (length (readList t)) (sizeOf t))
 
 -- the checks 22, 21, 18
 abbrev pub readAnswer : List ℕ → ℕ → ReadAnswer

@@ -46,7 +46,7 @@ fn read_framed(text: &[u8], output: &mut [u8]) -> ReadAnswer
     }
     let length = list_length(&bits, n);
     if output.len() < length {
-        return ReadAnswer::Refused(refuse(Cause::OutputLength, 0, 0));
+        return ReadAnswer::Refused(refuse(Cause::OutputTooShort, 0, 0));
     }
     put_list(&bits, n, output);
     ReadAnswer::Read(length, n)

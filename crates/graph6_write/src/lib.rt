@@ -94,7 +94,7 @@ fn write_listed(edges: &[u8], total: usize, output: &mut [u8]) -> WrittenAnswer
     let head = size_length(total);
     let rest = body_length(total);
     if output.len() < head + rest {
-        return WrittenAnswer::Refused(refuse(Cause::OutputLength, 0, 0));
+        return WrittenAnswer::Refused(refuse(Cause::OutputTooShort, 0, 0));
     }
     let body = body_of(edges, total);
     put_size(output, total);

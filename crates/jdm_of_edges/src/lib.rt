@@ -53,12 +53,12 @@ fn survey_listed(edges: &[u8], total: usize, output: &mut [u8]) -> WrittenAnswer
     let counts = degrees_of(edges, total);
     let above = first_above(&counts, total);
     if above != total {
-        return WrittenAnswer::Refused(refuse(Cause::DegreeAbove, above, 0));
+        return WrittenAnswer::Refused(refuse(Cause::DegreeTooHigh, above, 0));
     }
     let mut records = [0u8; RECORDS_MOST];
     let length = own_records(edges, total, &counts, &mut records);
     if output.len() < length {
-        return WrittenAnswer::Refused(refuse(Cause::OutputLength, 0, 0));
+        return WrittenAnswer::Refused(refuse(Cause::OutputTooShort, 0, 0));
     }
     copy_in(output, 0, &records[..length]);
     WrittenAnswer::Written(length)

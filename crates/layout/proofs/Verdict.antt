@@ -12,7 +12,7 @@ use Rattle.graph.specs.Graph.{DegreeTable}
 use Rattle.graph.specs.Tests.{degrees, firstOdd, firstUneven, firstOverfull, firstOverfullIn, passes, vertices}
 use Rattle.answer.specs.Numbers.{numberOf}
 use Rattle.answer.specs.Refusals.{refusal, stop, unless}
-use Rattle.answer.specs.declared.Cause.the-variants.{OddDiagonal, UnevenRow, OverfullCell, TooManyVertices}
+use Rattle.answer.specs.declared.Cause.the-variants.{OddDiagonal, RowNotDivisible, CellTooLarge, TooManyVertices}
 use Rattle.answer.specs.declared.Refusal.{Refusal}
 use Rattle.answer.specs.declared.Verdict.{Verdict}
 use Rattle.answer.specs.declared.Verdict.the-variants.{Go, Stop}
@@ -66,7 +66,7 @@ module _ (t : DegreeTable) where
   pub layout-refused : passes T ≡ false → (r : Refusal) × (layoutVerdict t ≡ Stop r) × IsTest r
   layout-refused e =
       failed (eqb (firstOdd T) degrees) (eqb (firstUneven T) degrees) (eqb (firstOverfull T) degrees)
-      (refusal OddDiagonal (firstOdd T) (firstOdd T)) (refusal UnevenRow (firstUneven T) 0)
-      (refusal OverfullCell (firstOverfull T) (firstOverfullIn T (firstOverfull T)))
+      (refusal OddDiagonal (firstOdd T) (firstOdd T)) (refusal RowNotDivisible (firstUneven T) 0)
+      (refusal CellTooLarge (firstOverfull T) (firstOverfullIn T (firstOverfull T)))
       (unless (leb (vertices t) mostVertices) (stop TooManyVertices) Go)
       (omega arith) (omega arith) (omega arith) e

@@ -6,7 +6,7 @@ use Rattle.finite.specs.Range.{sumTo}
 use Rattle.graph.specs.Graph.{DegreeTable}
 use Rattle.graph.specs.Tests.{degrees, rowSum, vertices, firstOdd, firstUneven, firstOverfull, firstOverfullIn}
 use Rattle.answer.specs.Refusals.{refusal, stop, unless}
-use Rattle.answer.specs.declared.Cause.the-variants.{OddDiagonal, UnevenRow, OverfullCell, TooManyVertices}
+use Rattle.answer.specs.declared.Cause.the-variants.{OddDiagonal, RowNotDivisible, CellTooLarge, TooManyVertices}
 use Rattle.answer.specs.declared.Verdict.{Verdict}
 use Rattle.answer.specs.declared.Verdict.the-variants.{Go, Stop}
 
@@ -23,6 +23,6 @@ abbrev pub layoutVerdict : DegreeTable → Verdict
 layoutVerdict t =
     let T = t .cells in
     unless (eqb (firstOdd T) degrees) (Stop (refusal OddDiagonal (firstOdd T) (firstOdd T)))
-    (unless (eqb (firstUneven T) degrees) (Stop (refusal UnevenRow (firstUneven T) 0))
-    (unless (eqb (firstOverfull T) degrees) (Stop (refusal OverfullCell (firstOverfull T) (firstOverfullIn T (firstOverfull T))))
+    (unless (eqb (firstUneven T) degrees) (Stop (refusal RowNotDivisible (firstUneven T) 0))
+    (unless (eqb (firstOverfull T) degrees) (Stop (refusal CellTooLarge (firstOverfull T) (firstOverfullIn T (firstOverfull T))))
     (unless (leb (vertices t) mostVertices) (stop TooManyVertices) Go)))

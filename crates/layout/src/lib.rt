@@ -222,12 +222,12 @@ pub fn layout_check(cells: &[u32; CELLS], counts: &[usize; DEGREES]) -> Verdict
     }
     let uneven = first_uneven(cells);
     if uneven != DEGREES {
-        return Verdict::Stop(refuse(Cause::UnevenRow, uneven, 0));
+        return Verdict::Stop(refuse(Cause::RowNotDivisible, uneven, 0));
     }
     let k = first_overfull(cells, counts);
     if k != DEGREES {
         let l = first_overfull_in(cells, counts, k);
-        return Verdict::Stop(refuse(Cause::OverfullCell, k, l));
+        return Verdict::Stop(refuse(Cause::CellTooLarge, k, l));
     }
     if MOST_VERTICES < vertex_count(cells, counts) {
         return stopped(Cause::TooManyVertices);

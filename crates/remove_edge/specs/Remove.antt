@@ -5,7 +5,7 @@ use mathlib.Core.List.{List}
 use Prim.Native.Nat.{ℕ}
 use lib.Dec.{eqb, ltb}
 use Rattle.answer.specs.Refusals.{refusal, unless, unlessStopped}
-use Rattle.answer.specs.declared.Cause.the-variants.{VertexNumber, SameVertex, NotLinked}
+use Rattle.answer.specs.declared.Cause.the-variants.{NoSuchVertex, SameVertex, EdgeAbsent}
 use Rattle.answer.specs.declared.RemoveAnswer.{RemoveAnswer}
 use Rattle.answer.specs.declared.RemoveAnswer.the-variants.{Removed, Refused}
 use Rattle.adjacency.specs.Adjacency.{edge, setEdge}
@@ -15,10 +15,10 @@ use Rattle.state.specs.Laid.{vertexCount}
 -- on a valid laid state: the checks 13, 14, 17
 abbrev pub removeLaid : List ℕ → List ℕ → ℕ → ℕ → RemoveAnswer
 removeLaid j g v w =
-    unless (ltb v (vertexCount j)) (Refused (refusal VertexNumber 0 0))
-    (unless (ltb w (vertexCount j)) (Refused (refusal VertexNumber 0 0))
+    unless (ltb v (vertexCount j)) (Refused (refusal NoSuchVertex 0 0))
+    (unless (ltb w (vertexCount j)) (Refused (refusal NoSuchVertex 0 0))
     (unless (not (eqb v w)) (Refused (refusal SameVertex 0 0))
-    (unless (eqb (edge g v w) 1) (Refused (refusal NotLinked 0 0))
+    (unless (eqb (edge g v w) 1) (Refused (refusal EdgeAbsent 0 0))
     Removed)))
 
 -- the checks 1, 2, 3, then 13, 14, 17

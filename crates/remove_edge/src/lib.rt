@@ -20,16 +20,16 @@ fn remove_laid(journal: &[u8], adjacency: &mut [u8], v: usize, w: usize) -> Remo
 {
     let n = laid_vertices(journal);
     if n <= v {
-        return RemoveAnswer::Refused(refuse(Cause::VertexNumber, 0, 0));
+        return RemoveAnswer::Refused(refuse(Cause::NoSuchVertex, 0, 0));
     }
     if n <= w {
-        return RemoveAnswer::Refused(refuse(Cause::VertexNumber, 0, 0));
+        return RemoveAnswer::Refused(refuse(Cause::NoSuchVertex, 0, 0));
     }
     if v == w {
         return RemoveAnswer::Refused(refuse(Cause::SameVertex, 0, 0));
     }
     if edge_at(adjacency, v, w) != 1 {
-        return RemoveAnswer::Refused(refuse(Cause::NotLinked, 0, 0));
+        return RemoveAnswer::Refused(refuse(Cause::EdgeAbsent, 0, 0));
     }
     set_edge(adjacency, v, w, 0);
     RemoveAnswer::Removed

@@ -77,10 +77,10 @@ pub fn state_check(journal: &[u8], adjacency: &[u8]) -> Verdict
     ensures { λ r. ⌜ r ≡ stateVerdict (now (journal .entry)) (now (adjacency .entry)) ⌝ }
 {
     if !lengths_ok(journal, adjacency) {
-        return stopped(Cause::Length);
+        return stopped(Cause::WrongLength);
     }
     if !is_valid(journal, adjacency) {
-        return stopped(Cause::Invalid);
+        return stopped(Cause::InvalidState);
     }
     Verdict::Go
 }
@@ -94,7 +94,7 @@ pub fn phase_check(journal: &[u8], adjacency: &[u8], phase: usize) -> Verdict
         Verdict::Stop(r) => Verdict::Stop(r),
         Verdict::Go => {
             if phase_of(journal) != phase {
-                return stopped(Cause::Phase);
+                return stopped(Cause::WrongPhase);
             }
             Verdict::Go
         }

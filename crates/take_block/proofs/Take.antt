@@ -10,7 +10,7 @@ use lib.ListN.{length}
 use borrow.Author.Tests.{eqb-true, eq-eqb, ne-eqb, leb-true, le-leb, ltb-true, lt-ltb, ltb-false, le-ltb}
 use Rattle.finite.proofs.All.{and-left, and-right, and-both}
 use Rattle.answer.specs.Refusals.{refusal, unless}
-use Rattle.answer.specs.declared.Cause.the-variants.{Phase, Conflict}
+use Rattle.answer.specs.declared.Cause.the-variants.{WrongPhase, BlockDiffers}
 use Rattle.answer.specs.declared.Refusal.{Refusal}
 use Rattle.answer.specs.declared.TakeAnswer.{TakeAnswer}
 use Rattle.answer.specs.declared.TakeAnswer.the-variants.{Taken, Held, Refused}
@@ -98,7 +98,7 @@ module _ (j g : List ℕ) (number : ℕ) (b : List ℕ) where
 
   -- a new block on a laid state is refused with 3, also where the journal is full
   pub take-new-laid : lengthsOk j g ≡ true → valid j g ≡ true → wellFormed b ≡ true → number ≡ blocks j → phase j ≡ 1
-      → takeAnswer j g number b ≡ Refused (refusal Phase 0 0)
+      → takeAnswer j g number b ≡ Refused (refusal WrongPhase 0 0)
   take-new-laid l v h e p =
       take-numbered l v h
       ∙ rw (
@@ -107,7 +107,7 @@ module _ (j g : List ℕ) (number : ℕ) (b : List ℕ) where
         ne-eqb (phase j) 0 (λ z. absurd (omega (arith, z, p))),
       )
 
-  held-not-taken : (t : Bool) (m : ℕ) → unless t (Refused (refusal Conflict 0 0)) Held ≡ Taken m → ⊥
+  held-not-taken : (t : Bool) (m : ℕ) → unless t (Refused (refusal BlockDiffers 0 0)) Held ≡ Taken m → ⊥
   held-not-taken true m e = true≢false (ap isTaken (sym e))
   held-not-taken false m e = true≢false (ap isTaken (sym e))
 
@@ -172,7 +172,7 @@ module _ (j g : List ℕ) (number : ℕ) (b : List ℕ) where
 
   -- any other block under the number of a held one is refused with 7, in either phase
   pub take-differs : lengthsOk j g ≡ true → valid j g ≡ true → wellFormed b ≡ true → number < blocks j → (blockAt j number ≡ b → ⊥)
-      → takeAnswer j g number b ≡ Refused (refusal Conflict 0 0)
+      → takeAnswer j g number b ≡ Refused (refusal BlockDiffers 0 0)
   take-differs l v h low other =
       take-numbered l v h
       ∙ rw (le-leb number (blocks j) (omega arith), lt-ltb number (blocks j) low, go (sameBlock j number b) refl)

@@ -6,7 +6,7 @@ use Prim.Native.Nat.{ℕ, _+_}
 use lib.Dec.{eqb, ltb, leb}
 use lib.ListN.{length}
 use Rattle.answer.specs.Refusals.{refusal, unless, unlessStopped}
-use Rattle.answer.specs.declared.Cause.the-variants.{Phase, BlockLength, Record, BlockNumber, Conflict, JournalFull}
+use Rattle.answer.specs.declared.Cause.the-variants.{WrongPhase, BlockLength, BadRecord, BlockNumber, BlockDiffers, JournalFull}
 use Rattle.answer.specs.declared.TakeAnswer.{TakeAnswer}
 use Rattle.answer.specs.declared.TakeAnswer.the-variants.{Taken, Held, Refused}
 use Rattle.table.specs.Block.{blockLength, records, firstBad}
@@ -15,12 +15,12 @@ use Rattle.state.specs.Checks.{stateVerdict}
 
 -- a low number: the block held under it, or a conflict
 abbrev pub takeHeld : List ℕ → ℕ → List ℕ → TakeAnswer
-takeHeld j number b = unless (sameBlock j number b) (Refused (refusal Conflict 0 0)) Held
+takeHeld j number b = unless (sameBlock j number b) (Refused (refusal BlockDiffers 0 0)) Held
 
 -- the next number: a new block
 abbrev pub takeNew : List ℕ → TakeAnswer
 takeNew j =
-    unless (eqb (phase j) 0) (Refused (refusal Phase 0 0))
+    unless (eqb (phase j) 0) (Refused (refusal WrongPhase 0 0))
     (unless (ltb (blocks j) mostBlocks) (Refused (refusal JournalFull 0 0))
     (Taken (blocks j + 1)))
 
@@ -34,7 +34,7 @@ takeNumbered j number b =
 abbrev pub takeOnValid : List ℕ → ℕ → List ℕ → TakeAnswer
 takeOnValid j number b =
     unless (blockLength (length b)) (Refused (refusal BlockLength 0 0))
-    (unless (eqb (firstBad b) (records b)) (Refused (refusal Record (firstBad b) 0))
+    (unless (eqb (firstBad b) (records b)) (Refused (refusal BadRecord (firstBad b) 0))
     (takeNumbered j number b))
 
 -- the checks 1, 2, then as above

@@ -21,7 +21,7 @@ fn take_held(journal: &[u8], number: usize, block: &[u8]) -> TakeAnswer
     ensures { λ r. ⌜ r ≡ takeHeld (now (journal .entry)) number (now (block .entry)) ⌝ }
 {
     if !is_block(journal, number, block) {
-        return TakeAnswer::Refused(refuse(Cause::Conflict, 0, 0));
+        return TakeAnswer::Refused(refuse(Cause::BlockDiffers, 0, 0));
     }
     TakeAnswer::Held
 }
@@ -32,7 +32,7 @@ fn take_new(journal: &[u8]) -> TakeAnswer
     ensures { λ r. ⌜ r ≡ takeNew (now (journal .entry)) ⌝ }
 {
     if phase_of(journal) != 0 {
-        return TakeAnswer::Refused(refuse(Cause::Phase, 0, 0));
+        return TakeAnswer::Refused(refuse(Cause::WrongPhase, 0, 0));
     }
     let n = block_count(journal);
     if MOST_BLOCKS <= n {
@@ -66,7 +66,7 @@ fn take_on_valid(journal: &[u8], number: usize, block: &[u8]) -> TakeAnswer
     }
     let bad = table::record::first_bad(block);
     if bad != block.len() / table::record::RECORD_SIZE {
-        return TakeAnswer::Refused(refuse(Cause::Record, bad, 0));
+        return TakeAnswer::Refused(refuse(Cause::BadRecord, bad, 0));
     }
     take_numbered(journal, number, block)
 }

@@ -9,7 +9,7 @@ use lib.ListN.{length}
 use borrow.Author.Tests.{eqb-true}
 use Rattle.answer.specs.Refusals.{refusal, stop, unless, unlessStopped}
 use Rattle.answer.specs.Numbers.{takeNumbers, layOutNumbers, addNumbers, removeNumbers, completeNumbers, shuffleNumbers, lengthNumbers, writtenNumbers, readNumbers, figuresNumbers}
-use Rattle.answer.specs.declared.Cause.the-variants.{Phase, BlockNumber}
+use Rattle.answer.specs.declared.Cause.the-variants.{WrongPhase, BlockNumber}
 use Rattle.answer.specs.declared.Verdict.{Verdict}
 use Rattle.answer.specs.declared.Verdict.the-variants.{Go}
 use Rattle.answer.specs.declared.LengthAnswer.{LengthAnswer}
@@ -56,7 +56,7 @@ use Rattle.demands.proofs.Reach.{Reach, reach-cleared, after-call}
 
 -- The answers past the checks 1 and 2.
 abbrev phaseRest : ℕ → List ℕ → Verdict
-phaseRest p j = unless (eqb (phase j) p) (stop Phase) Go
+phaseRest p j = unless (eqb (phase j) p) (stop WrongPhase) Go
 
 abbrev layOutRest : List ℕ → LayOutAnswer
 layOutRest j = unlessStopped (phaseRest 0 j) LayOut.Refused (laidOut (layoutVerdict (tableOf j)) (vertices (tableOf j)))

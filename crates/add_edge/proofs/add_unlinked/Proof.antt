@@ -6,7 +6,7 @@ use native.Mathlib.Omega.{arith}
 use borrow.Author.Needs.{needs}
 use borrow.Author.Tests.{not-true, not-false, ltb-true}
 use Rattle.answer.specs.Refusals.{refusal}
-use Rattle.answer.specs.declared.Cause.the-variants.{CellFull}
+use Rattle.answer.specs.declared.Cause.the-variants.{CellNotShort}
 use Rattle.answer.specs.declared.AddAnswer.the-variants.{Added, Refused}
 use Rattle.add_edge.proofs.Unlinked.{starts-few, class-read, class-few, placed, block-of, short-read, joinable, join-read, switches-read}
 use Rattle.add_edge.proofs.add_unlinked.Statement.{statement}
@@ -48,7 +48,7 @@ add-unlinked-spec =
     let kv = class-read cells u ed es (s .args .v) (x .class-at .ensures) in
     let lw = class-read cells u ed es (s .args .w) (y .class-at2 .ensures) in
     rw (short-read cells u ed es kd ld _ kv lw (h .is-short .ensures) ∙ not-true _ (i .if1 .taken))
-    (ap Refused (c .full-cell .ensures ∙ ap₂ (λ (a b : ℕ). refusal CellFull (min a b) (max a b)) kv lw), refl))  -- returns
+    (ap Refused (c .full-cell .ensures ∙ ap₂ (λ (a b : ℕ). refusal CellNotShort (min a b) (max a b)) kv lw), refl))  -- returns
     (λ c κs. let p = c .before .before .before .before .before .before .before .before .before .before .pre in (p .1, p .2))  -- vertex-count-requires
     (λ c.
     let x = c .before .before .before .before .before .before .before in

@@ -6,7 +6,7 @@ use Prim.Native.Nat.{ℕ, _≤_, _<_, min, max}
 use lib.Dec.{ltb}
 use lib.ListN.{length}
 use Rattle.answer.specs.Refusals.{refusal, unless}
-use Rattle.answer.specs.declared.Cause.the-variants.{CellFull}
+use Rattle.answer.specs.declared.Cause.the-variants.{CellNotShort}
 use Rattle.answer.specs.declared.AddAnswer.{AddAnswer}
 use Rattle.answer.specs.declared.AddAnswer.the-variants.{Added, Refused}
 use Rattle.graph.specs.Graph.{jdm, DegreeTable}
@@ -31,7 +31,7 @@ pub record Unlinked (t : DegreeTable) (g : List ℕ) (v w : ℕ) : Type 0 where
 abbrev pub addUnlinked : DegreeTable → List ℕ → ℕ → ℕ → AddAnswer
 addUnlinked t g v w =
     unless (ltb (jdm (vertices t) (vertexDegree t) (edge g) (vertexDegree t v) (vertexDegree t w)) (t .cells (vertexDegree t v) (vertexDegree t w)))
-    (Refused (refusal CellFull (min (vertexDegree t v) (vertexDegree t w)) (max (vertexDegree t v) (vertexDegree t w))))
+    (Refused (refusal CellNotShort (min (vertexDegree t v) (vertexDegree t w)) (max (vertexDegree t v) (vertexDegree t w))))
     (Added (joinSwitches (vertices t) (vertexDegree t) g v w))
 
 -- the matrix afterwards
