@@ -86,8 +86,8 @@
  * and may copy, save and reload them as plain bytes; two states in two pairs of buffers are
  * independent, also in two threads.
  *
- *   - journal: REPLICA_JOURNAL_LENGTH bytes, the blocks taken and the phase
- *   - adjacency: REPLICA_ADJACENCY_LENGTH bytes; byte v * 200 + w is 1 if v and w are joined, else 0
+ *   - journal: REPLICA_JOURNAL_BYTES bytes, the blocks taken and the phase
+ *   - adjacency: REPLICA_ADJACENCY_BYTES bytes; byte v * 200 + w is 1 if v and w are joined, else 0
  *
  * Every buffer is passed as a pointer and its length in bytes. Pointers must not be NULL, also
  * where the length is 0, and must point to that many readable bytes (writable ones where the
@@ -116,31 +116,31 @@ extern "C" {
 #endif
 
 /* Bytes of a journal. */
-#define REPLICA_JOURNAL_LENGTH 4162
+#define REPLICA_JOURNAL_BYTES 4162
 /* Bytes of an adjacency matrix, 200 rows of 200. */
-#define REPLICA_ADJACENCY_LENGTH 40000
+#define REPLICA_ADJACENCY_BYTES 40000
 /* Most bytes in a block. */
-#define REPLICA_BLOCK_LENGTH 64
+#define REPLICA_MAX_BLOCK_BYTES 64
 /* Most blocks in a journal. */
-#define REPLICA_MOST_BLOCKS 64
+#define REPLICA_MAX_BLOCKS 64
 /* Most vertices, and the width of a row of the adjacency matrix. */
-#define REPLICA_MOST_VERTICES 200
+#define REPLICA_MAX_VERTICES 200
 /* An output of this many bytes is never too short for replica_edge_list. */
-#define REPLICA_MOST_EDGE_LIST 8000
+#define REPLICA_MAX_EDGE_LIST_BYTES 8000
 /* An output of this many bytes is never too short for replica_jdm_of_edges: 820 cells, and the
  * isolated vertices. */
-#define REPLICA_MOST_RECORDS 3284
+#define REPLICA_MAX_RECORDS_BYTES 3284
 /* An output of this many bytes is never too short for replica_graph6_write: 4 bytes for the number
  * of vertices, 3,317 for the pairs of 200 vertices. */
-#define REPLICA_MOST_GRAPH6 3321
+#define REPLICA_MAX_GRAPH6_BYTES 3321
 /* An output of this many bytes is never too short for replica_graph6_read: all 19,900 pairs of 200
  * vertices. */
-#define REPLICA_MOST_GRAPH6_EDGE_LIST 39800
+#define REPLICA_MAX_GRAPH6_EDGE_LIST_BYTES 39800
 /* Bytes of a join record. */
-#define REPLICA_JOIN_RECORD_LENGTH 8
+#define REPLICA_JOIN_RECORD_BYTES 8
 /* An output of this many bytes is never too short for replica_complete and
  * replica_complete_shuffled: 4,000 join records. */
-#define REPLICA_MOST_JOIN_RECORDS 32000
+#define REPLICA_MAX_JOIN_RECORDS_BYTES 32000
 /* Stands for a, b and t of a switch that was not needed. No vertex has this number. */
 #define REPLICA_UNUSED 255
 
@@ -310,7 +310,7 @@ struct ReplicaAnswer replica_remove_edge(const uint8_t *journal, size_t journal_
  * output. Played in this order onto the graph of before, they give the graph of after. Output bytes
  * after the written part are untouched.
  *
- * The output needs REPLICA_JOIN_RECORD_LENGTH bytes for each missing edge: edges wanted less edges
+ * The output needs REPLICA_JOIN_RECORD_BYTES bytes for each missing edge: edges wanted less edges
  * laid, as replica_figures reports them. On a complete state a length of 0 is enough; the pointer
  * must not be NULL then either.
  *

@@ -5,7 +5,7 @@ use reference::graphs::{self, Graph};
 use reference::journal::{self, record, LAID, TAKING};
 use reference::random::Random;
 use reference::{adjacency, graph6, Matrix, Table};
-use reference::{ADJACENCY_LENGTH, BLOCK_LENGTH, JOURNAL_LENGTH, MOST_BLOCKS};
+use reference::{ADJACENCY_BYTES, MAX_BLOCK_BYTES, JOURNAL_BYTES, MAX_BLOCKS};
 
 const SIZES: [usize; 4] = [25, 50, 100, 200];
 
@@ -76,7 +76,7 @@ pub fn all() -> Vec<Case> {
     cases.push(case(
         "any",
         Call::Clear,
-        vec![1; JOURNAL_LENGTH],
+        vec![1; JOURNAL_BYTES],
         no_edges(),
     ));
     cases.sort_by_key(|case| case.entry() as usize);
@@ -84,14 +84,14 @@ pub fn all() -> Vec<Case> {
 }
 
 fn no_edges() -> Vec<u8> {
-    vec![0; ADJACENCY_LENGTH]
+    vec![0; ADJACENCY_BYTES]
 }
 
 /// A journal with these records in blocks of 16, written without any entry.
 pub fn journal_of(phase: u8, records: &[u8]) -> Vec<u8> {
-    let mut bytes = vec![0; JOURNAL_LENGTH];
+    let mut bytes = vec![0; JOURNAL_BYTES];
     bytes[0] = phase;
-    for (i, block) in records.chunks(BLOCK_LENGTH).enumerate() {
+    for (i, block) in records.chunks(MAX_BLOCK_BYTES).enumerate() {
         let start = journal::slot_start(i);
         bytes[1] += 1;
         bytes[start] = block.len() as u8;
@@ -112,7 +112,7 @@ fn records_of(matrix: &Matrix) -> Vec<u8> {
 /// The records of a matrix, counts split until there are as many as a journal holds.
 fn all_records(matrix: &Matrix) -> Vec<u8> {
     let mut cells = matrix.nonzero_cells();
-    let room = MOST_BLOCKS * BLOCK_LENGTH / 4;
+    let room = MAX_BLOCKS * MAX_BLOCK_BYTES / 4;
     let mut next = 0;
     while cells.len() < room {
         let (k, l, count) = cells[next];
@@ -238,8 +238,8 @@ fn edges_by_hand(size: usize) -> Vec<Case> {
 fn blocks() -> Vec<Case> {
     let graph = cells(200).without_isolated().by_rising_degree();
     let records = all_records(&graph.matrix());
-    let (first, last) = (0, MOST_BLOCKS - 1);
-    let block = |i: usize| records[i * BLOCK_LENGTH..(i + 1) * BLOCK_LENGTH].to_vec();
+    let (first, last) = (0, MAX_BLOCKS - 1);
+    let block = |i: usize| records[i * MAX_BLOCK_BYTES..(i + 1) * MAX_BLOCK_BYTES].to_vec();
     let take = |i: usize| Call::TakeBlock {
         number: i as u64,
         block: block(i),
@@ -248,7 +248,7 @@ fn blocks() -> Vec<Case> {
         number: last as u64,
     };
     let empty = journal_of(TAKING, &[]);
-    let but_last = journal_of(TAKING, &records[..last * BLOCK_LENGTH]);
+    let but_last = journal_of(TAKING, &records[..last * MAX_BLOCK_BYTES]);
     let full = journal_of(TAKING, &records);
     let laid = journal_of(LAID, &records);
     vec![

@@ -8,7 +8,7 @@ use std::time::{Duration, Instant};
 
 /// Calls are repeated until they took this long or were made this often.
 const ENOUGH: Duration = Duration::from_millis(30);
-const MOST_CALLS: u32 = 1_000;
+const MAX_CALLS: u32 = 1_000;
 
 pub fn print(cases: &[Case]) {
     println!(
@@ -43,7 +43,7 @@ fn time(case: &Case, call: impl Fn(&mut Memory) -> Numbers) -> Duration {
     let mut shortest = Duration::MAX;
     let mut spent = Duration::ZERO;
     let mut calls = 0;
-    while spent < ENOUGH && calls < MOST_CALLS {
+    while spent < ENOUGH && calls < MAX_CALLS {
         let mut memory = case.memory();
         let start = Instant::now();
         let numbers = black_box(call(black_box(&mut memory)));

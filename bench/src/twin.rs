@@ -6,13 +6,13 @@
 use reference::join_record::{self, UNUSED};
 use reference::numbers::{refusal, Nine, Six};
 use reference::{refused, refused_at, Refused};
-use reference::{BLOCK_LENGTH, JOURNAL_LENGTH, MOST_BLOCKS, MOST_DEGREE, MOST_VERTICES};
+use reference::{MAX_BLOCK_BYTES, JOURNAL_BYTES, MAX_BLOCKS, MAX_DEGREE, MAX_VERTICES};
 
 mod shuffle;
 
-const DEGREES: usize = MOST_DEGREE + 1;
-const SIDE: usize = MOST_VERTICES;
-const SLOT_LENGTH: usize = 1 + BLOCK_LENGTH;
+const DEGREES: usize = MAX_DEGREE + 1;
+const SIDE: usize = MAX_VERTICES;
+const SLOT_BYTES: usize = 1 + MAX_BLOCK_BYTES;
 
 /// The adjacency matrix, row by row.
 type Rows = [[u8; SIDE]; SIDE];
@@ -58,9 +58,9 @@ fn all_zero(bytes: &[u8]) -> bool {
 }
 
 /// The table of a well-formed journal.
-fn table_of(journal: &[u8; JOURNAL_LENGTH]) -> Option<Table> {
+fn table_of(journal: &[u8; JOURNAL_BYTES]) -> Option<Table> {
     let blocks = journal[1] as usize;
-    if journal[0] > 1 || blocks > MOST_BLOCKS {
+    if journal[0] > 1 || blocks > MAX_BLOCKS {
         return None;
     }
     let mut table = Table {
@@ -68,10 +68,10 @@ fn table_of(journal: &[u8; JOURNAL_LENGTH]) -> Option<Table> {
         row_sums: [0; DEGREES],
         isolated: 0,
     };
-    let (used, unused) = journal[2..].split_at(SLOT_LENGTH * blocks);
-    for slot in used.chunks_exact(SLOT_LENGTH) {
+    let (used, unused) = journal[2..].split_at(SLOT_BYTES * blocks);
+    for slot in used.chunks_exact(SLOT_BYTES) {
         let length = slot[0] as usize;
-        if length > BLOCK_LENGTH || length % 4 != 0 {
+        if length > MAX_BLOCK_BYTES || length % 4 != 0 {
             return None;
         }
         let (block, rest) = slot[1..].split_at(length);
@@ -82,7 +82,7 @@ fn table_of(journal: &[u8; JOURNAL_LENGTH]) -> Option<Table> {
                 table.isolated += count;
                 continue;
             }
-            if k == 0 || k > l || l > MOST_DEGREE {
+            if k == 0 || k > l || l > MAX_DEGREE {
                 return None;
             }
             table.cells[k][l] += count;
@@ -193,7 +193,7 @@ fn rows_of(adjacency: &mut [u8]) -> Option<&mut Rows> {
 
 /// Checks 1, 2 and 3.
 fn check<'a>(journal: &[u8], adjacency: &'a mut [u8]) -> Result<(Laid, &'a mut Rows), Refused> {
-    let journal: &[u8; JOURNAL_LENGTH] = journal.try_into().map_err(|_| refused(1))?;
+    let journal: &[u8; JOURNAL_BYTES] = journal.try_into().map_err(|_| refused(1))?;
     let rows = rows_of(adjacency).ok_or(refused(1))?;
     let table = table_of(journal).ok_or(refused(2))?;
     if journal[0] == 0 {
@@ -393,7 +393,7 @@ fn fill(journal: &[u8], adjacency: &mut [u8], output: &mut [u8]) -> Result<Six, 
 }
 
 /// Most pairs of vertices.
-const MOST_PAIRS: usize = SIDE * (SIDE - 1) / 2;
+const MAX_PAIRS: usize = SIDE * (SIDE - 1) / 2;
 
 /// Of a graph6 text: the place of pair (0, w) among all pairs. Pair (v, w) is v places behind.
 const COLUMN_STARTS: [u16; SIDE] = {
@@ -491,7 +491,7 @@ fn read_graph6(text: &[u8], output: &mut [u8]) -> Result<Six, Refused> {
     if body.len() != pairs.div_ceil(6) {
         return Err(refused(21));
     }
-    let mut sixes = [[0; 6]; MOST_PAIRS.div_ceil(6)];
+    let mut sixes = [[0; 6]; MAX_PAIRS.div_ceil(6)];
     let well_formed = spread(body, &mut sixes);
     let (bits, padding) = sixes.as_flattened().split_at(pairs);
     if !well_formed || !all_zero(padding) {

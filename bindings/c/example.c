@@ -11,14 +11,14 @@
 
 #include "replica.h"
 
-static uint8_t journal[REPLICA_JOURNAL_LENGTH];
-static uint8_t adjacency[REPLICA_ADJACENCY_LENGTH];
-static uint8_t copy[REPLICA_ADJACENCY_LENGTH];
-static uint8_t joins[REPLICA_MOST_JOIN_RECORDS];
-static uint8_t edges[REPLICA_MOST_EDGE_LIST];
-static uint8_t records[REPLICA_MOST_RECORDS];
-static uint8_t text[REPLICA_MOST_GRAPH6];
-static uint8_t pairs[REPLICA_MOST_GRAPH6_EDGE_LIST];
+static uint8_t journal[REPLICA_JOURNAL_BYTES];
+static uint8_t adjacency[REPLICA_ADJACENCY_BYTES];
+static uint8_t copy[REPLICA_ADJACENCY_BYTES];
+static uint8_t joins[REPLICA_MAX_JOIN_RECORDS_BYTES];
+static uint8_t edges[REPLICA_MAX_EDGE_LIST_BYTES];
+static uint8_t records[REPLICA_MAX_RECORDS_BYTES];
+static uint8_t text[REPLICA_MAX_GRAPH6_BYTES];
+static uint8_t pairs[REPLICA_MAX_GRAPH6_EDGE_LIST_BYTES];
 
 static const uint8_t block[] = {
     0, 0, 1, 0,  /* one vertex without an edge: it is vertex 0 */
@@ -43,14 +43,14 @@ static struct ReplicaAnswer done(const char *what, struct ReplicaAnswer answer)
 
 static void set(int v, int w, uint8_t joined)
 {
-    copy[v * REPLICA_MOST_VERTICES + w] = joined;
-    copy[w * REPLICA_MOST_VERTICES + v] = joined;
+    copy[v * REPLICA_MAX_VERTICES + w] = joined;
+    copy[w * REPLICA_MAX_VERTICES + v] = joined;
 }
 
 /* Plays a join record onto the copy: what moved first, then the edge itself. */
 static void play(const uint8_t *join)
 {
-    for (int i = 2; i < REPLICA_JOIN_RECORD_LENGTH && join[i] != REPLICA_UNUSED; i += 3) {
+    for (int i = 2; i < REPLICA_JOIN_RECORD_BYTES && join[i] != REPLICA_UNUSED; i += 3) {
         int a = join[i], b = join[i + 1], t = join[i + 2];
         set(a, t, 0);
         set(b, t, 1);
@@ -65,7 +65,7 @@ static void add(uint8_t v, uint8_t w)
 {
     struct ReplicaJoin join = replica_add_edge(journal, sizeof journal,
                                                adjacency, sizeof adjacency, v, w);
-    uint8_t record[REPLICA_JOIN_RECORD_LENGTH] = {
+    uint8_t record[REPLICA_JOIN_RECORD_BYTES] = {
         v, w, (uint8_t)join.a1, (uint8_t)join.b1, (uint8_t)join.t1,
         (uint8_t)join.a2, (uint8_t)join.b2, (uint8_t)join.t2,
     };
@@ -137,7 +137,7 @@ int main(void)
     completed = done("complete", replica_complete(journal, sizeof journal,
                                                   adjacency, sizeof adjacency,
                                                   joins, sizeof joins));
-    for (uint64_t i = 0; i < completed.third; i += REPLICA_JOIN_RECORD_LENGTH)
+    for (uint64_t i = 0; i < completed.third; i += REPLICA_JOIN_RECORD_BYTES)
         play(joins + i);
     if (memcmp(copy, adjacency, sizeof copy) != 0) {
         fprintf(stderr, "the copy has other edges\n");

@@ -8,7 +8,7 @@
 //! With --shuffle, the number X chooses the edges that complete it. Without a file, the table of
 //! document 004 is laid.
 
-use replica::{Completion, Refusal, State, Switch, Switches, BLOCK_LENGTH};
+use replica::{Completion, Refusal, State, Switch, Switches, MAX_BLOCK_BYTES};
 use std::error::Error;
 
 const DOCUMENT_004: [u8; 12] = [1, 3, 1, 0, 2, 2, 2, 0, 2, 3, 2, 0];
@@ -43,7 +43,7 @@ fn main() -> Result<(), Box<dyn Error>> {
 
 /// Takes the records in blocks of 64 bytes, numbered from 0.
 fn take_all(state: &mut State, records: &[u8]) -> Result<(), Box<dyn Error>> {
-    for (number, block) in (0..).zip(records.chunks(BLOCK_LENGTH)) {
+    for (number, block) in (0..).zip(records.chunks(MAX_BLOCK_BYTES)) {
         state.take_block(number, block)?;
     }
     let cells = state.cells()?;

@@ -1,7 +1,7 @@
 //! Completing a laid state, and what it did.
 
 use crate::raw::{self, ReplicaAnswer};
-use crate::{Joins, Refusal, State, JOIN_RECORD_LENGTH, MOST_EDGES};
+use crate::{Joins, Refusal, State, JOIN_RECORD_BYTES, MAX_EDGES};
 
 /// What completing did: the edges it added, the switches made for them, and a record of each join.
 /// The bytes of the records are its own, from [`State::complete`] and [`State::complete_shuffled`], or
@@ -192,5 +192,5 @@ impl State {
 
 /// An output that is never too short.
 fn room_for_any() -> Vec<u8> {
-    vec![0; JOIN_RECORD_LENGTH * MOST_EDGES]
+    vec![0; JOIN_RECORD_BYTES * MAX_EDGES]
 }

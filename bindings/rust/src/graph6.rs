@@ -1,10 +1,10 @@
 //! McKay's graph6: a graph as one line of text.
 
-use crate::{raw, Refusal, State, MOST_GRAPH6};
+use crate::{raw, Refusal, State, MAX_GRAPH6_BYTES};
 
 /// Writes an edge list among `total` vertices as graph6 and returns the written length. The list
 /// has 2 bytes an edge, v below w below the total, ascending; the total is 200 at most; degrees
-/// over 40 are written too. [`MOST_GRAPH6`] bytes of output always do. No line end is written.
+/// over 40 are written too. [`MAX_GRAPH6_BYTES`] bytes of output always do. No line end is written.
 ///
 /// ```
 /// use replica::{graph6_write, Cause};
@@ -25,7 +25,7 @@ pub fn graph6_write(edges: &[u8], total: u64, output: &mut [u8]) -> Result<usize
 
 /// Reads a graph6 text, without a header and without a line end, and writes its edges as an edge
 /// list, ascending. Returns the written length and the total of vertices. Two bytes for each of
-/// [`MOST_PAIRS`](crate::MOST_PAIRS), 39,800, always do.
+/// [`MAX_PAIRS`](crate::MAX_PAIRS), 39,800, always do.
 ///
 /// ```
 /// use replica::{graph6_read, graph6_write, Cause};
@@ -62,7 +62,7 @@ impl State {
     pub fn graph6(&self) -> Result<String, Refusal> {
         let edges = self.edges()?;
         let total = self.figures()?.vertices;
-        let mut text = vec![0; MOST_GRAPH6];
+        let mut text = vec![0; MAX_GRAPH6_BYTES];
         let length = graph6_write(edges.as_bytes(), total, &mut text)?;
         text.truncate(length);
         // Bytes from 63 to 126.

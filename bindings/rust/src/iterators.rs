@@ -1,6 +1,6 @@
 //! Records, cells and edges, and iterators over them.
 
-use crate::{MOST_DEGREE, RECORD_LENGTH};
+use crate::{MAX_DEGREE, RECORD_BYTES};
 use std::iter::FusedIterator;
 use std::slice::ChunksExact;
 
@@ -45,7 +45,7 @@ impl Record {
     /// ```
     /// assert_eq!(replica::Record::new(2, 3, 258).to_bytes(), [2, 3, 2, 1]);
     /// ```
-    pub fn to_bytes(self) -> [u8; RECORD_LENGTH] {
+    pub fn to_bytes(self) -> [u8; RECORD_BYTES] {
         let [low, high] = self.count.to_le_bytes();
         [self.k, self.l, low, high]
     }
@@ -84,7 +84,7 @@ pub struct Records<'a> {
 impl<'a> Records<'a> {
     pub fn new(bytes: &'a [u8]) -> Records<'a> {
         Records {
-            chunks: bytes.chunks_exact(RECORD_LENGTH),
+            chunks: bytes.chunks_exact(RECORD_BYTES),
         }
     }
 }
@@ -139,8 +139,8 @@ impl Cells {
     pub fn of(records: impl IntoIterator<Item = Record>) -> Cells {
         let mut isolated = 0;
         let mut sums = Vec::new();
-        for k in 1..=MOST_DEGREE as u8 {
-            for l in k..=MOST_DEGREE as u8 {
+        for k in 1..=MAX_DEGREE as u8 {
+            for l in k..=MAX_DEGREE as u8 {
                 sums.push(Cell { k, l, count: 0 });
             }
         }

@@ -1,7 +1,7 @@
 //! What moved: the switches of a join, and the records of completing.
 
 use crate::raw::ReplicaJoin;
-use crate::JOIN_RECORD_LENGTH;
+use crate::JOIN_RECORD_BYTES;
 use std::iter::{FusedIterator, Take};
 use std::ops::Deref;
 use std::slice::ChunksExact;
@@ -124,7 +124,7 @@ impl Join {
     /// assert_eq!((join.v, join.w), (0, 3));
     /// assert_eq!(*join.switches, [Switch { a: 0, b: 1, t: 2 }]);
     /// ```
-    pub fn from_bytes(record: [u8; JOIN_RECORD_LENGTH]) -> Join {
+    pub fn from_bytes(record: [u8; JOIN_RECORD_BYTES]) -> Join {
         let [v, w, triples @ ..] = record;
         Join {
             v,
@@ -146,7 +146,7 @@ impl Join {
     /// assert_eq!(join.to_bytes(), [0, 2, 0, 3, 1, 255, 255, 255]);
     /// assert_eq!(Join::from_bytes(join.to_bytes()), join);
     /// ```
-    pub fn to_bytes(self) -> [u8; JOIN_RECORD_LENGTH] {
+    pub fn to_bytes(self) -> [u8; JOIN_RECORD_BYTES] {
         let [first, second] = self.switches.places;
         [
             self.v, self.w, first.a, first.b, first.t, second.a, second.b, second.t,
@@ -175,7 +175,7 @@ pub struct Joins<'a> {
 impl<'a> Joins<'a> {
     pub fn new(bytes: &'a [u8]) -> Joins<'a> {
         Joins {
-            chunks: bytes.chunks_exact(JOIN_RECORD_LENGTH),
+            chunks: bytes.chunks_exact(JOIN_RECORD_BYTES),
         }
     }
 }

@@ -64,26 +64,26 @@ pub use refusal::{Cause, Refusal};
 pub use state::{jdm_of_edges, Figures, Phase, State, Take};
 
 /// Bytes of a journal.
-pub const JOURNAL_LENGTH: usize = 4162;
+pub const JOURNAL_BYTES: usize = 4162;
 /// Bytes of an adjacency matrix.
-pub const ADJACENCY_LENGTH: usize = 40_000;
+pub const ADJACENCY_BYTES: usize = 40_000;
 /// Most bytes in a block.
-pub const BLOCK_LENGTH: usize = 64;
+pub const MAX_BLOCK_BYTES: usize = 64;
 /// Bytes of a record.
-pub const RECORD_LENGTH: usize = 4;
+pub const RECORD_BYTES: usize = 4;
 /// Bytes of a join record, which completing writes for each edge it adds.
-pub const JOIN_RECORD_LENGTH: usize = 8;
+pub const JOIN_RECORD_BYTES: usize = 8;
 /// Highest degree.
-pub const MOST_DEGREE: usize = 40;
+pub const MAX_DEGREE: usize = 40;
 /// Most vertices in a state.
-pub const MOST_VERTICES: usize = 200;
+pub const MAX_VERTICES: usize = 200;
 /// Most edges in a state: 200 vertices of degree 40.
-pub const MOST_EDGES: usize = MOST_VERTICES * MOST_DEGREE / 2;
+pub const MAX_EDGES: usize = MAX_VERTICES * MAX_DEGREE / 2;
 /// Most pairs of vertices, and so most edges of a graph6 text: those of 200 vertices.
-pub const MOST_PAIRS: usize = MOST_VERTICES * (MOST_VERTICES - 1) / 2;
+pub const MAX_PAIRS: usize = MAX_VERTICES * (MAX_VERTICES - 1) / 2;
 /// Most bytes of a graph6 text: the size in its longer form, and six pairs a byte.
-pub const MOST_GRAPH6: usize = 4 + MOST_PAIRS.div_ceil(6);
+pub const MAX_GRAPH6_BYTES: usize = 4 + MAX_PAIRS.div_ceil(6);
 /// Most cells with k at most l.
-pub const MOST_CELLS: usize = MOST_DEGREE * (MOST_DEGREE + 1) / 2;
+pub const MAX_CELLS: usize = MAX_DEGREE * (MAX_DEGREE + 1) / 2;
 /// Most records that [`jdm_of_edges`] writes: the isolated vertices, and all cells.
-pub const MOST_RECORDS: usize = 1 + MOST_CELLS;
+pub const MAX_RECORDS: usize = 1 + MAX_CELLS;

@@ -6,8 +6,8 @@
 //! ```
 //! use replica::raw;
 //!
-//! let mut journal = vec![7; replica::JOURNAL_LENGTH];
-//! let mut adjacency = vec![7; replica::ADJACENCY_LENGTH];
+//! let mut journal = vec![7; replica::JOURNAL_BYTES];
+//! let mut adjacency = vec![7; replica::ADJACENCY_BYTES];
 //! assert_eq!(raw::figures(&journal, &adjacency).number, 2); // not a valid state
 //! assert_eq!(raw::clear(&mut journal, &mut adjacency).number, 0);
 //! assert_eq!(raw::figures(&journal, &adjacency).number, 0);

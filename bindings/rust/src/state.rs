@@ -2,8 +2,8 @@
 
 use crate::raw::{self, ReplicaAnswer};
 use crate::{
-    Cells, Edges, Records, Refusal, Switches, ADJACENCY_LENGTH, JOURNAL_LENGTH, MOST_EDGES,
-    MOST_VERTICES,
+    Cells, Edges, Records, Refusal, Switches, ADJACENCY_BYTES, JOURNAL_BYTES, MAX_EDGES,
+    MAX_VERTICES,
 };
 use std::fmt;
 
@@ -83,8 +83,8 @@ impl State {
     /// A cleared state.
     pub fn new() -> State {
         State {
-            journal: vec![0; JOURNAL_LENGTH],
-            adjacency: vec![0; ADJACENCY_LENGTH],
+            journal: vec![0; JOURNAL_BYTES],
+            adjacency: vec![0; ADJACENCY_BYTES],
         }
     }
 
@@ -282,7 +282,7 @@ impl State {
     /// assert_eq!(state.edges().unwrap().collect::<Vec<_>>(), [(0, 1), (0, 2), (1, 2)]);
     /// ```
     pub fn edges(&self) -> Result<Edges, Refusal> {
-        let mut bytes = vec![0; 2 * MOST_EDGES];
+        let mut bytes = vec![0; 2 * MAX_EDGES];
         let length = self.edge_list(&mut bytes)?;
         bytes.truncate(length);
         Ok(Edges::new(bytes))
@@ -336,7 +336,7 @@ impl State {
     /// assert!(!state.joined(1, 200));
     /// ```
     pub fn joined(&self, v: usize, w: usize) -> bool {
-        v < MOST_VERTICES && w < MOST_VERTICES && self.adjacency[v * MOST_VERTICES + w] == 1
+        v < MAX_VERTICES && w < MAX_VERTICES && self.adjacency[v * MAX_VERTICES + w] == 1
     }
 }
 
@@ -356,7 +356,7 @@ fn figures_of(answer: ReplicaAnswer) -> Figures {
 /// Writes the joint degree matrix of an edge list among `total` vertices as records, ascending, and
 /// returns the written length. The record of the isolated vertices, those below the total that are
 /// in no edge, comes first if there are some. The list has 2 bytes an edge, v below w below the
-/// total, ascending; the total is 200 at most; [`MOST_RECORDS`](crate::MOST_RECORDS) records of
+/// total, ascending; the total is 200 at most; [`MAX_RECORDS`](crate::MAX_RECORDS) records of
 /// output, 3,284 bytes, always do.
 ///
 /// ```

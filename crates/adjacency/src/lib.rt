@@ -13,7 +13,7 @@ ghost use Rattle.layout.specs.Layout.{mostVertices};
 ghost use Rattle.layout.specs.Inner.Arrays.{classIn};
 ghost use Rattle.adjacency.specs.Adjacency.{adjacencySize, side, edge, setEdge, rowMirrored, mirrored, zeroOutside, degreesWithin, cellsWithin, adjacencyOk};
 ghost use Rattle.adjacency.specs.Inner.Sums.{sumsSize, Added, classDegree};
-use layout::MOST_VERTICES;
+use layout::MAX_VERTICES;
 use slices::all_zero;
 use slices::byte_sum;
 use slices::wide;
@@ -22,9 +22,9 @@ use table::cells::upper_cell;
 use table::cells::wide32;
 use table::degree::DEGREES;
 
-pub const SIDE: usize = MOST_VERTICES;
+pub const SIDE: usize = MAX_VERTICES;
 
-pub const ADJACENCY_SIZE: usize = SIDE * SIDE;
+pub const ADJACENCY_BYTES: usize = SIDE * SIDE;
 
 // One sum for each degree and each vertex.
 const SUMS: usize = DEGREES * SIDE;
@@ -114,7 +114,7 @@ pub fn edge_count(adjacency: &[u8], n: usize) -> usize
     sum
 }
 
-fn degrees_within(adjacency: &[u8], n: usize, classes: &[u8; MOST_VERTICES]) -> bool
+fn degrees_within(adjacency: &[u8], n: usize, classes: &[u8; MAX_VERTICES]) -> bool
     requires { ⌜ (length (now adjacency) ≡ adjacencySize) × (n ≤ side) ⌝ }
     ensures { λ r. ⌜ r ≡ degreesWithin n (classIn (now (classes .entry))) (now (adjacency .entry)) ⌝ }
 {
@@ -136,7 +136,7 @@ fn add_row(sums: &mut [u8; SUMS], at: usize, adjacency: &[u8], from: usize, n: u
 }
 
 // For each class k and vertex w, how many vertices of class k have an edge to w.
-fn sum_classes(adjacency: &[u8], n: usize, classes: &[u8; MOST_VERTICES], sums: &mut [u8; SUMS])
+fn sum_classes(adjacency: &[u8], n: usize, classes: &[u8; MAX_VERTICES], sums: &mut [u8; SUMS])
     requires { ⌜ (length (now adjacency) ≡ adjacencySize) × (n ≤ side) × (mirrored n (now adjacency) ≡ true) × ((v : ℕ) → v < n → classIn (now classes) v < degrees) × (length (now sums) ≡ sumsSize) × ((p : ℕ) → getD (now sums) p 0 ≡ 0) ⌝ }
     ensures { λ _. ⌜ ((k w : ℕ) → w < n → getD (now (sums .exit)) (k * side + w) 0 ≡ classDegree n (classIn (now (classes .entry))) (edge (now (adjacency .entry))) k w) ⌝ }
 {
@@ -146,7 +146,7 @@ fn sum_classes(adjacency: &[u8], n: usize, classes: &[u8; MOST_VERTICES], sums: 
 }
 
 // The first vertex from start on whose class is not below k, or n: no vertex before it counts for class k or above.
-fn skip_below(classes: &[u8; MOST_VERTICES], n: usize, k: usize, start: usize) -> usize
+fn skip_below(classes: &[u8; MAX_VERTICES], n: usize, k: usize, start: usize) -> usize
     requires { ⌜ (start ≤ n) × (n ≤ side) × ((w : ℕ) → w < start → classIn (now classes) w < k) ⌝ }
     ensures { λ r. ⌜ (r ≤ n) × ((w : ℕ) → w < r → classIn (now (classes .entry)) w < k) × (r < n → k ≤ classIn (now (classes .entry)) r) ⌝ }
 {
@@ -159,7 +159,7 @@ fn skip_below(classes: &[u8; MOST_VERTICES], n: usize, k: usize, start: usize) -
 }
 
 // Vertex start has class k; n is no vertex. As classes rise, where the one that skip_below found has not, none has.
-fn has_class(classes: &[u8; MOST_VERTICES], n: usize, k: usize, start: usize) -> bool
+fn has_class(classes: &[u8; MAX_VERTICES], n: usize, k: usize, start: usize) -> bool
     requires { ⌜ (start ≤ n) × (n ≤ side) ⌝ }
     ensures { λ r. ⌜ r ≡ ltb start n && eqb (classIn (now (classes .entry)) start) k ⌝ }
 {
@@ -173,7 +173,7 @@ fn has_class(classes: &[u8; MOST_VERTICES], n: usize, k: usize, start: usize) ->
 fn count_class(
     sums: &[u8; SUMS],
     n: usize,
-    classes: &[u8; MOST_VERTICES],
+    classes: &[u8; MAX_VERTICES],
     k: usize,
     start: usize,
     counts: &mut [u32; DEGREES],
@@ -192,7 +192,7 @@ fn count_class(
 fn class_within(
     sums: &[u8; SUMS],
     n: usize,
-    classes: &[u8; MOST_VERTICES],
+    classes: &[u8; MAX_VERTICES],
     cells: &[u32; CELLS],
     k: usize,
     start: usize,
@@ -214,7 +214,7 @@ fn class_within(
 fn cells_within(
     adjacency: &[u8],
     n: usize,
-    classes: &[u8; MOST_VERTICES],
+    classes: &[u8; MAX_VERTICES],
     cells: &[u32; CELLS],
 ) -> bool
     requires { ⌜ (length (now adjacency) ≡ adjacencySize) × (n ≤ side) × (mirrored n (now adjacency) ≡ true) × ((v : ℕ) → v < n → classIn (now classes) v < degrees) × ((v w : ℕ) → v ≤ w → w < n → classIn (now classes) v ≤ classIn (now classes) w) ⌝ }
@@ -246,7 +246,7 @@ pub fn set_edge(adjacency: &mut [u8], v: usize, w: usize, x: u8)
 pub fn adjacency_ok(
     adjacency: &[u8],
     n: usize,
-    classes: &[u8; MOST_VERTICES],
+    classes: &[u8; MAX_VERTICES],
     cells: &[u32; CELLS],
 ) -> bool
     requires { ⌜ (length (now adjacency) ≡ adjacencySize) × (n ≤ mostVertices) × ((v : ℕ) → v < n → classIn (now classes) v < degrees) × ((v w : ℕ) → v ≤ w → w < n → classIn (now classes) v ≤ classIn (now classes) w) ⌝ }

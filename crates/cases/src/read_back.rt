@@ -1,7 +1,7 @@
 // Blocks read back: each part of the journal is the block sent under its number, before and after laying out.
-use adjacency::ADJACENCY_SIZE;
+use adjacency::ADJACENCY_BYTES;
 use answer::LengthAnswer;
-use journal::JOURNAL_SIZE;
+use journal::JOURNAL_BYTES;
 use lay_out::lay_out;
 use libc::STDOUT_FILENO;
 use held_block::held_block;
@@ -51,8 +51,8 @@ fn compare_all<'a>(journal: &'a [u8], adjacency: &'a [u8]) {
 }
 
 pub fn parts() {
-    let mut journal = [0u8; JOURNAL_SIZE];
-    let adjacency = [0u8; ADJACENCY_SIZE];
+    let mut journal = [0u8; JOURNAL_BYTES];
+    let adjacency = [0u8; ADJACENCY_BYTES];
     take_block(&mut journal, &adjacency, 0, &[1u8, 3, 1, 0]);
     take_block(&mut journal, &adjacency, 1, &[2u8, 2, 2, 0, 2, 3, 1, 0]);
     take_block(

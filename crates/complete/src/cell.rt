@@ -17,10 +17,10 @@ use crate::pair::open_pair;
 use answer::switches::Switches;
 use answer::switches::switch_count;
 use classes::STARTS;
-use join_records::JOIN_RECORD_SIZE;
+use join_records::JOIN_RECORD_BYTES;
 use join_records::put_record;
 use joining::End;
-use layout::MOST_VERTICES;
+use layout::MAX_VERTICES;
 use slices::least;
 
 // Edges added and switches made.
@@ -41,7 +41,7 @@ pub struct Step {
 }
 
 // The lowest vertex of from, .., to - 1 with fewer than k edges; to where there is none.
-pub fn advance(held: &[usize; MOST_VERTICES], from: usize, to: usize, k: usize) -> usize
+pub fn advance(held: &[usize; MAX_VERTICES], from: usize, to: usize, k: usize) -> usize
     requires { ⌜ to ≤ side ⌝ }
     ensures { λ r. ⌜ r ≡ lowest from to (λ i. ltb (getD (now (held .entry)) i 0) k) ⌝ }
 {
@@ -61,7 +61,7 @@ pub fn record_join(output: &mut [u8], totals: Totals, v: usize, w: usize, made: 
     ensures { λ r. ⌜ (r ≡ withJoin totals made) × WroteRecords (totals .joins) (r .joins) (now (output .entry)) (now (output .exit)) ⌝ }
     ensures { λ _. ⌜ now (output .exit) ≡ sets (now (output .entry)) (joinRecordSize * totals .joins) (joinRecord v w made) ⌝ }
 {
-    put_record(output, JOIN_RECORD_SIZE * totals.joins, v, w, made);
+    put_record(output, JOIN_RECORD_BYTES * totals.joins, v, w, made);
     Totals {
         joins: totals.joins + 1,
         switches: totals.switches + switch_count(made),
@@ -72,7 +72,7 @@ pub fn record_join(output: &mut [u8], totals: Totals, v: usize, w: usize, made: 
 fn fill_step(
     adjacency: &mut [u8],
     output: &mut [u8],
-    held: &mut [usize; MOST_VERTICES],
+    held: &mut [usize; MAX_VERTICES],
     starts: &[usize; STARTS],
     n: usize,
     cell: Cell,
@@ -114,7 +114,7 @@ fn fill_step(
 pub fn fill_cell(
     adjacency: &mut [u8],
     output: &mut [u8],
-    held: &mut [usize; MOST_VERTICES],
+    held: &mut [usize; MAX_VERTICES],
     starts: &[usize; STARTS],
     n: usize,
     cell: Cell,

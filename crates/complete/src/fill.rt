@@ -17,7 +17,7 @@ use crate::pair::Cell;
 use crate::pair::Span;
 use classes::STARTS;
 use classes::block_sum;
-use layout::MOST_VERTICES;
+use layout::MAX_VERTICES;
 use table::cells::CELLS;
 use table::cells::cell;
 use table::degree::DEGREES;
@@ -74,7 +74,7 @@ fn missing(adjacency: &[u8], cells: &[u32; CELLS], c: Cell) -> usize
 fn complete_cell(
     adjacency: &mut [u8],
     output: &mut [u8],
-    held: &mut [usize; MOST_VERTICES],
+    held: &mut [usize; MAX_VERTICES],
     cells: &[u32; CELLS],
     starts: &[usize; STARTS],
     n: usize,
@@ -96,7 +96,7 @@ fn complete_cell(
 fn complete_row(
     adjacency: &mut [u8],
     output: &mut [u8],
-    held: &mut [usize; MOST_VERTICES],
+    held: &mut [usize; MAX_VERTICES],
     cells: &[u32; CELLS],
     starts: &[usize; STARTS],
     n: usize,
@@ -122,7 +122,7 @@ fn complete_row(
 pub fn complete_rows(
     adjacency: &mut [u8],
     output: &mut [u8],
-    held: &mut [usize; MOST_VERTICES],
+    held: &mut [usize; MAX_VERTICES],
     cells: &[u32; CELLS],
     starts: &[usize; STARTS],
     n: usize,

@@ -18,7 +18,7 @@ use answer::Cause;
 use answer::CompleteAnswer;
 use answer::Verdict;
 use answer::refuse;
-use join_records::JOIN_RECORD_SIZE;
+use join_records::JOIN_RECORD_BYTES;
 use state::phase_check;
 use table::cells::CELLS;
 
@@ -31,7 +31,7 @@ fn complete_laid(journal: &[u8], adjacency: &mut [u8], output: &mut [u8]) -> Com
 {
     let mut cells = [0u32; CELLS];
     let begun = begin(journal, adjacency, &mut cells);
-    if output.len() < JOIN_RECORD_SIZE * begun.missing {
+    if output.len() < JOIN_RECORD_BYTES * begun.missing {
         return CompleteAnswer::Refused(refuse(Cause::OutputTooShort, 0, 0));
     }
     let counts = begun.counts;
@@ -42,7 +42,7 @@ fn complete_laid(journal: &[u8], adjacency: &mut [u8], output: &mut [u8]) -> Com
         switches: 0,
     };
     let done = complete_rows(adjacency, output, &mut held, &cells, &s, begun.n, none);
-    CompleteAnswer::Completed(done.joins, done.switches, JOIN_RECORD_SIZE * done.joins)
+    CompleteAnswer::Completed(done.joins, done.switches, JOIN_RECORD_BYTES * done.joins)
 }
 
 pub fn complete(journal: &[u8], adjacency: &mut [u8], output: &mut [u8]) -> CompleteAnswer

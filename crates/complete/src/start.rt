@@ -6,7 +6,7 @@ ghost use Rattle.table.specs.Inner.Cells.{cellsSize};
 ghost use Rattle.state.specs.Checks.{phaseVerdict};
 ghost use Rattle.complete.specs.Inner.Work.{Started};
 use joining::edges_held;
-use layout::MOST_VERTICES;
+use layout::MAX_VERTICES;
 use layout::edges_wanted;
 use layout::vertex_count;
 use state::sum_table;
@@ -17,7 +17,7 @@ use table::degree::DEGREES;
 pub struct Start {
     pub counts: [usize; DEGREES],
     pub n: usize,
-    pub held: [usize; MOST_VERTICES],
+    pub held: [usize; MAX_VERTICES],
     pub missing: usize,
 }
 

@@ -13,7 +13,7 @@ use crate::track::count_cells;
 use adjacency::SIDE;
 use classes::STARTS;
 use complete::cell::Totals;
-use layout::MOST_VERTICES;
+use layout::MAX_VERTICES;
 use open_pairs::refresh::refresh_range;
 use open_pairs::row::SUMS;
 use table::cells::CELLS;
@@ -26,10 +26,10 @@ const FLAGS: usize = DEGREES * SIDE;
 pub fn shuffle_cells(
     adjacency: &mut [u8],
     output: &mut [u8],
-    held: &mut [usize; MOST_VERTICES],
+    held: &mut [usize; MAX_VERTICES],
     cells: &[u32; CELLS],
     starts: &[usize; STARTS],
-    classes: &[u8; MOST_VERTICES],
+    classes: &[u8; MAX_VERTICES],
     n: usize,
     m: usize,
     x: u32,
@@ -40,7 +40,7 @@ pub fn shuffle_cells(
 {
     let mut have = [0u32; CELLS];
     let mut full = [0u8; FLAGS];
-    let mut counts = [0usize; MOST_VERTICES];
+    let mut counts = [0usize; MAX_VERTICES];
     let mut sums = [0usize; SUMS];
     count_cells(adjacency, cells, starts, &mut have, &mut full, n);
     refresh_range(adjacency, &full, classes, &mut counts, &mut sums, n, 0, n);

@@ -19,7 +19,7 @@ use answer::ShuffleAnswer;
 use answer::Verdict;
 use answer::refuse;
 use complete::start::begin;
-use join_records::JOIN_RECORD_SIZE;
+use join_records::JOIN_RECORD_BYTES;
 use state::phase_check;
 use table::cells::CELLS;
 
@@ -33,7 +33,7 @@ fn shuffle_laid(journal: &[u8], adjacency: &mut [u8], x: u32, output: &mut [u8])
     let mut cells = [0u32; CELLS];
     let begun = begin(journal, adjacency, &mut cells);
     let missing = begun.missing;
-    if output.len() < JOIN_RECORD_SIZE * missing {
+    if output.len() < JOIN_RECORD_BYTES * missing {
         return ShuffleAnswer::Refused(refuse(Cause::OutputTooShort, 0, 0));
     }
     let counts = begun.counts;
@@ -55,7 +55,7 @@ fn shuffle_laid(journal: &[u8], adjacency: &mut [u8], x: u32, output: &mut [u8])
     ShuffleAnswer::Completed(
         joins,
         done.totals.switches,
-        JOIN_RECORD_SIZE * joins,
+        JOIN_RECORD_BYTES * joins,
         done.x,
     )
 }

@@ -7,7 +7,7 @@ ghost use Rattle.complete.specs.Inner.Cellwise.{Filling};
 ghost use Rattle.complete_shuffled.specs.Choice.{openCount, pairV, pairW, position};
 ghost use Rattle.complete_shuffled.specs.Inner.Track.{Tracked};
 use classes::STARTS;
-use layout::MOST_VERTICES;
+use layout::MAX_VERTICES;
 use open_pairs::column::column_at;
 use open_pairs::row::SUMS;
 use open_pairs::row::row_at;
@@ -29,10 +29,10 @@ pub fn pick(
     adjacency: &[u8],
     cells: &[u32; CELLS],
     starts: &[usize; STARTS],
-    classes: &[u8; MOST_VERTICES],
+    classes: &[u8; MAX_VERTICES],
     have: &[u32; CELLS],
     full: &[u8],
-    counts: &[usize; MOST_VERTICES],
+    counts: &[usize; MAX_VERTICES],
     sums: &[usize; SUMS],
     n: usize,
     x: u32,

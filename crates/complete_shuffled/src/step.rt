@@ -22,7 +22,7 @@ use complete::cell::Totals;
 use complete::cell::advance;
 use complete::cell::record_join;
 use joining::End;
-use layout::MOST_VERTICES;
+use layout::MAX_VERTICES;
 use open_pairs::row::SUMS;
 use slices::wide;
 use table::cells::CELLS;
@@ -35,7 +35,7 @@ pub struct Shuffle {
 
 // A vertex of class k before which all are saturated; the next search goes on from it.
 fn low_of(
-    held: &[usize; MOST_VERTICES],
+    held: &[usize; MAX_VERTICES],
     starts: &[usize; STARTS],
     low: &mut [usize; STARTS],
     k: usize,
@@ -52,7 +52,7 @@ fn low_of(
 // The pair joined, its vertices being of class k and l.
 fn join_pair(
     adjacency: &mut [u8],
-    held: &mut [usize; MOST_VERTICES],
+    held: &mut [usize; MAX_VERTICES],
     low: &mut [usize; STARTS],
     starts: &[usize; STARTS],
     n: usize,
@@ -86,15 +86,15 @@ fn join_pair(
 pub fn shuffle_step(
     adjacency: &mut [u8],
     output: &mut [u8],
-    held: &mut [usize; MOST_VERTICES],
+    held: &mut [usize; MAX_VERTICES],
     low: &mut [usize; STARTS],
     have: &mut [u32; CELLS],
     full: &mut [u8],
-    counts: &mut [usize; MOST_VERTICES],
+    counts: &mut [usize; MAX_VERTICES],
     sums: &mut [usize; SUMS],
     cells: &[u32; CELLS],
     starts: &[usize; STARTS],
-    classes: &[u8; MOST_VERTICES],
+    classes: &[u8; MAX_VERTICES],
     n: usize,
     done: Shuffle,
 ) -> Shuffle

@@ -13,7 +13,7 @@ use answer::switches::Switches;
 use classes::STARTS;
 use classes::block_sum;
 use complete::fill::unit;
-use layout::MOST_VERTICES;
+use layout::MAX_VERTICES;
 use open_pairs::refresh::mark_full;
 use open_pairs::refresh::refresh_range;
 use open_pairs::refresh::refresh_row;
@@ -106,10 +106,10 @@ pub fn update(
     adjacency: &[u8],
     cells: &[u32; CELLS],
     starts: &[usize; STARTS],
-    classes: &[u8; MOST_VERTICES],
+    classes: &[u8; MAX_VERTICES],
     have: &mut [u32; CELLS],
     full: &mut [u8],
-    counts: &mut [usize; MOST_VERTICES],
+    counts: &mut [usize; MAX_VERTICES],
     sums: &mut [usize; SUMS],
     n: usize,
     v: usize,

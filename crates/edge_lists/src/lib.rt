@@ -8,7 +8,7 @@ ghost use Rattle.edge_lists.specs.EdgeList.{rises, goodEdge, firstBadEdg
 use answer::Cause;
 use answer::Verdict;
 use answer::refuse;
-use layout::MOST_VERTICES;
+use layout::MAX_VERTICES;
 use slices::wide;
 
 // Edge i is above the edge before it, by v and then w.
@@ -55,7 +55,7 @@ fn first_bad_edge(edges: &[u8], total: usize) -> usize
 pub fn list_check(edges: &[u8], total: usize) -> Verdict
     ensures { λ r. ⌜ r ≡ listVerdict (now (edges .entry)) total ⌝ }
 {
-    if MOST_VERTICES < total {
+    if MAX_VERTICES < total {
         return Verdict::Stop(refuse(Cause::BadEdgeList, 0, 0));
     }
     let n = edges.len() / 2;

@@ -1,8 +1,8 @@
 // Where the columns of the upper triangle start.
-use layout::MOST_VERTICES;
+use layout::MAX_VERTICES;
 
 // Column w starts at w × (w - 1) / 2: behind the bits of the columns before it. The rule of all entries: proofs/Starts.antt.
-pub const COLUMN_STARTS: [u16; MOST_VERTICES] = [
+pub const COLUMN_STARTS: [u16; MAX_VERTICES] = [
     0,
     0,
     1,

@@ -4,7 +4,7 @@ ghost use Prim.Native.Nat.{_≤_, _<_};
 ghost use Rattle.layout.specs.Layout.{mostVertices};
 ghost use Rattle.graph6.specs.Format.{columnStart, bodyLength, mostBits, bodyMost};
 use crate::column_starts::COLUMN_STARTS;
-use layout::MOST_VERTICES;
+use layout::MAX_VERTICES;
 
 pub mod column_starts;
 
@@ -12,15 +12,15 @@ pub mod column_starts;
 pub const PLUS: u8 = 63;
 
 // The byte of six ones, with which a long size begins.
-pub const MOST_BYTE: u8 = 126;
+pub const MAX_BYTE: u8 = 126;
 
 // The largest size of one byte.
-pub const SHORT_MOST: usize = 62;
+pub const MAX_SHORT: usize = 62;
 
 // The most bits of a triangle, and the bytes that they take.
-const MOST_BITS: usize = MOST_VERTICES * (MOST_VERTICES - 1) / 2;
+const MAX_BITS: usize = MAX_VERTICES * (MAX_VERTICES - 1) / 2;
 
-pub const BODY_MOST: usize = (MOST_BITS + 5) / 6;
+pub const MAX_BODY_BYTES: usize = (MAX_BITS + 5) / 6;
 
 // A column's start as a number.
 pub fn wide16(x: u16) -> usize

@@ -9,16 +9,16 @@ ghost use Rattle.layout.specs.Layout.{mostVertices};
 ghost use Rattle.graph6.specs.Format.{columnStart, bitsOf, unpacked};
 ghost use Rattle.graph6_read.specs.Inner.Bits.{bitsMost};
 use crate::frame::six_of;
-use graph6::BODY_MOST;
+use graph6::MAX_BODY_BYTES;
 use graph6::bit_count;
 use slices::all_zero;
 use slices::byte_sum;
 
 // Room for six bits of each byte.
-pub const BITS_MOST: usize = 6 * BODY_MOST;
+pub const MAX_BODY_BITS: usize = 6 * MAX_BODY_BYTES;
 
 // The six bits of x, from place at on.
-fn put_bits(bits: &mut [u8; BITS_MOST], at: usize, x: u8)
+fn put_bits(bits: &mut [u8; MAX_BODY_BITS], at: usize, x: u8)
     requires { ⌜ at + 6 ≤ bitsMost ⌝ }
     ensures { λ _. ⌜ now (bits .exit) ≡ sets (now (bits .entry)) at (bitsOf x) ⌝ }
 {
@@ -31,7 +31,7 @@ fn put_bits(bits: &mut [u8; BITS_MOST], at: usize, x: u8)
 }
 
 // The bits of a body, at the start of the array.
-pub fn unpack(body: &[u8], bits: &mut [u8; BITS_MOST])
+pub fn unpack(body: &[u8], bits: &mut [u8; MAX_BODY_BITS])
     requires { ⌜ 6 * length (now body) ≤ bitsMost ⌝ }
     ensures { λ _. ⌜ now (bits .exit) ≡ sets (now (bits .entry)) 0 (unpacked (now (body .entry))) ⌝ }
 {

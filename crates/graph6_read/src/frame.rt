@@ -4,11 +4,11 @@ ghost use Prim.Native.Nat.{_-_, _≤_, _<_};
 ghost use lib.ListN.{length, getD};
 ghost use Rattle.finite.specs.Range.{allTo};
 ghost use Rattle.graph6.specs.Format.{plus, mostByte, isLong, sizeLength, longSize, sizeOf, upTo, tooLarge, framed};
-use graph6::MOST_BYTE;
+use graph6::MAX_BYTE;
 use graph6::PLUS;
-use graph6::SHORT_MOST;
+use graph6::MAX_SHORT;
 use graph6::body_length;
-use layout::MOST_VERTICES;
+use layout::MAX_VERTICES;
 use slices::wide;
 
 // The byte at place i, and 0 behind the end.
@@ -41,7 +41,7 @@ fn up_to(m: u8, x: u8) -> bool
 fn is_long(text: &[u8]) -> bool
     ensures { λ r. ⌜ r ≡ isLong (now (text .entry)) ⌝ }
 {
-    byte_at(text, 0) == MOST_BYTE
+    byte_at(text, 0) == MAX_BYTE
 }
 
 // How many bytes say the size.
@@ -81,9 +81,9 @@ pub fn too_large(text: &[u8]) -> bool
     let x = byte_at(text, 1);
     let y = byte_at(text, 2);
     let z = byte_at(text, 3);
-    let above = MOST_VERTICES < long_size(text);
+    let above = MAX_VERTICES < long_size(text);
     is_long(text)
-        & ((x == MOST_BYTE) | (up_to(125, x) & up_to(MOST_BYTE, y) & up_to(MOST_BYTE, z) & above))
+        & ((x == MAX_BYTE) | (up_to(125, x) & up_to(MAX_BYTE, y) & up_to(MAX_BYTE, z) & above))
 }
 
 // Every byte is one of 63 to 126. A flag and no early exit, so that the loop is a vector loop.
@@ -92,7 +92,7 @@ fn all_printed(text: &[u8]) -> bool
 {
     let mut ok = true;
     for i in 0..text.len() {
-        ok = ok & up_to(MOST_BYTE, text[i]);
+        ok = ok & up_to(MAX_BYTE, text[i]);
     }
     ok
 }
@@ -102,10 +102,10 @@ pub fn framed(text: &[u8]) -> bool
     ensures { λ r. ⌜ r ≡ framed (now (text .entry)) ⌝ }
 {
     let n = size_of(text);
-    if MOST_VERTICES < n {
+    if MAX_VERTICES < n {
         return false;
     }
     let long = is_long(text);
     let length = size_length(text) + body_length(n);
-    all_printed(text) & (n <= MOST_VERTICES) & (!long | (SHORT_MOST < n)) & (text.len() == length)
+    all_printed(text) & (n <= MAX_VERTICES) & (!long | (MAX_SHORT < n)) & (text.len() == length)
 }

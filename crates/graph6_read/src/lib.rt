@@ -5,7 +5,7 @@ ghost use lib.ListN.{length};
 ghost use Rattle.graph6.specs.Format.{framed};
 ghost use Rattle.graph6_read.specs.Read.{readAnswer, readOutput};
 ghost use Rattle.graph6_read.specs.Inner.Bits.{bitsIn, readFramed};
-use crate::bits::BITS_MOST;
+use crate::bits::MAX_BODY_BITS;
 use crate::bits::list_length;
 use crate::bits::unpack;
 use crate::bits::zero_behind;
@@ -23,12 +23,12 @@ mod frame;
 mod rows;
 
 // The bits of a text with the right frame, and zeros behind them.
-fn bits_of(text: &[u8]) -> [u8; BITS_MOST]
+fn bits_of(text: &[u8]) -> [u8; MAX_BODY_BITS]
     requires { ⌜ framed (now text) ≡ true ⌝ }
     ensures { λ r. ⌜ r ≡ bitsIn (now (text .entry)) ⌝ }
 {
     let head = size_length(text);
-    let mut bits = [0u8; BITS_MOST];
+    let mut bits = [0u8; MAX_BODY_BITS];
     unpack(&text[head..], &mut bits);
     bits
 }

@@ -14,10 +14,10 @@ use answer::Verdict;
 use answer::WrittenAnswer;
 use answer::refuse;
 use edge_lists::list_check;
-use graph6::BODY_MOST;
-use graph6::MOST_BYTE;
+use graph6::MAX_BODY_BYTES;
+use graph6::MAX_BYTE;
 use graph6::PLUS;
-use graph6::SHORT_MOST;
+use graph6::MAX_SHORT;
 use graph6::body_length;
 use graph6::column_starts::COLUMN_STARTS;
 use graph6::wide16;
@@ -31,7 +31,7 @@ const WEIGHTS: [u8; 6] = [32, 16, 8, 4, 2, 1];
 fn size_length(n: usize) -> usize
     ensures { λ r. ⌜ (r ≡ length (sizeBytes n)) × (r ≤ 4) ⌝ }
 {
-    if SHORT_MOST < n {
+    if MAX_SHORT < n {
         return 4;
     }
     1
@@ -50,18 +50,18 @@ fn put_size(output: &mut [u8], n: usize)
     requires { ⌜ (n ≤ mostVertices) × (length (sizeBytes n) ≤ length (now output)) ⌝ }
     ensures { λ _. ⌜ now (output .exit) ≡ sets (now (output .entry)) 0 (sizeBytes n) ⌝ }
 {
-    if n <= SHORT_MOST {
+    if n <= MAX_SHORT {
         output[0] = printed(n);
         return;
     }
-    output[0] = MOST_BYTE;
+    output[0] = MAX_BYTE;
     output[1] = printed(n / 4096);
     output[2] = printed(n / 64 % 64);
     output[3] = printed(n % 64);
 }
 
 // Adds the bit at place q.
-fn add_bit(body: &mut [u8; BODY_MOST], q: usize)
+fn add_bit(body: &mut [u8; MAX_BODY_BYTES], q: usize)
     requires { ⌜ (q / 6 < bodyMost) × (getD (now body) (q / 6) 0 + weightOf (q % 6) < 256) ⌝ }
     ensures { λ _. ⌜ now (body .exit) ≡ addBit q (now (body .entry)) ⌝ }
 {
@@ -70,13 +70,13 @@ fn add_bit(body: &mut [u8; BODY_MOST], q: usize)
 }
 
 // The body of a list on a total of vertices, which the contract alone uses: six zeros a byte, to which each edge adds its bit.
-fn body_of(edges: &[u8], total: usize) -> [u8; BODY_MOST]
+fn body_of(edges: &[u8], total: usize) -> [u8; MAX_BODY_BYTES]
     requires { ⌜ listVerdict (now edges) total ≡ Go ⌝ }
     ensures { λ r. ⌜ r ≡ bodyTo (now (edges .entry)) (listed (now (edges .entry))) ⌝ }
 {
     let n = edges.len() / 2;
     let starts = COLUMN_STARTS;
-    let mut body = [PLUS; BODY_MOST];
+    let mut body = [PLUS; MAX_BODY_BYTES];
     for i in 0..n {
         let v = wide(edges[2 * i]);
         let w = wide(edges[2 * i + 1]);

@@ -10,17 +10,17 @@ ghost use Rattle.layout.specs.Layout.{mostVertices};
 ghost use Rattle.edge_lists.specs.EdgeList.{listed, endV, endW, firstBadEdge, graphOf};
 ghost use Rattle.jdm_of_edges.specs.Survey.{firstAbove};
 ghost use Rattle.jdm_of_edges.specs.Inner.Counting.{countEdge, countCell, timesCounted, degreeIn, firstAboveIn, isolatedIn, HasRoom, HasDegrees, HasCells, cellMostOwn, CellsSmall};
-use layout::MOST_VERTICES;
+use layout::MAX_VERTICES;
 use slices::wide;
 use table::cells::CELLS;
 use table::cells::place_of;
 use table::cells::wide32;
 use table::degree::DEGREES;
 
-const MOST_DEGREE: usize = DEGREES - 1;
+const MAX_DEGREE: usize = DEGREES - 1;
 
 // Edge i is one more for both its ends.
-fn count_edge(counts: &mut [usize; MOST_VERTICES], edges: &[u8], i: usize)
+fn count_edge(counts: &mut [usize; MAX_VERTICES], edges: &[u8], i: usize)
     requires { ⌜ (2 * i + 2 ≤ length (now edges)) × (endV (now edges) i < endW (now edges) i) × (endW (now edges) i < mostVertices) × HasRoom (now edges) i (now counts) ⌝ }
     ensures { λ _. ⌜ now (counts .exit) ≡ countEdge (endV (now (edges .entry)) i) (endW (now (edges .entry)) i) (now (counts .entry)) ⌝ }
 {
@@ -31,12 +31,12 @@ fn count_edge(counts: &mut [usize; MOST_VERTICES], edges: &[u8], i: usize)
 }
 
 // The degree of each vertex below the total, which the contract alone uses.
-pub fn degrees_of(edges: &[u8], total: usize) -> [usize; MOST_VERTICES]
+pub fn degrees_of(edges: &[u8], total: usize) -> [usize; MAX_VERTICES]
     requires { ⌜ (total ≤ mostVertices) × (firstBadEdge (now edges) total ≡ listed (now edges)) ⌝ }
     ensures { λ r. ⌜ HasDegrees r total (graphOf (now (edges .entry))) ⌝ }
 {
     let n = edges.len() / 2;
-    let mut counts = [0usize; MOST_VERTICES];
+    let mut counts = [0usize; MAX_VERTICES];
     for i in 0..n {
         count_edge(&mut counts, edges, i);
     }
@@ -44,13 +44,13 @@ pub fn degrees_of(edges: &[u8], total: usize) -> [usize; MOST_VERTICES]
 }
 
 // The lowest vertex whose degree is over 40, or the total.
-pub fn first_above(counts: &[usize; MOST_VERTICES], total: usize) -> usize
+pub fn first_above(counts: &[usize; MAX_VERTICES], total: usize) -> usize
     requires { ⌜ total ≤ mostVertices ⌝ }
     ensures { λ r. ⌜ r ≡ firstAboveIn (now (counts .entry)) total ⌝ }
 {
     let mut v = 0;
     while v < total {
-        if MOST_DEGREE < counts[v] {
+        if MAX_DEGREE < counts[v] {
             return v;
         }
         v += 1;
@@ -69,7 +69,7 @@ fn is_isolated(degree: usize) -> usize
 }
 
 // How many vertices below the total have no edge.
-pub fn isolated_in(counts: &[usize; MOST_VERTICES], total: usize) -> usize
+pub fn isolated_in(counts: &[usize; MAX_VERTICES], total: usize) -> usize
     requires { ⌜ total ≤ mostVertices ⌝ }
     ensures { λ r. ⌜ (r ≡ isolatedIn (now (counts .entry)) total) × (r ≤ total) ⌝ }
 {
@@ -100,7 +100,7 @@ fn count_cell(cells: &mut [u32; CELLS], a: usize, b: usize)
 }
 
 // The degree of the vertex that a byte names.
-fn degree_at(counts: &[usize; MOST_VERTICES], v: u8) -> usize
+fn degree_at(counts: &[usize; MAX_VERTICES], v: u8) -> usize
     requires { ⌜ v < mostVertices ⌝ }
     ensures { λ r. ⌜ r ≡ degreeIn (now (counts .entry)) v ⌝ }
 {
@@ -108,7 +108,7 @@ fn degree_at(counts: &[usize; MOST_VERTICES], v: u8) -> usize
 }
 
 // The joint degree matrix at the graph's own degrees. The contract alone uses the total.
-pub fn cells_of(edges: &[u8], total: usize, counts: &[usize; MOST_VERTICES]) -> [u32; CELLS]
+pub fn cells_of(edges: &[u8], total: usize, counts: &[usize; MAX_VERTICES]) -> [u32; CELLS]
     requires { ⌜ (total ≤ mostVertices) × (firstBadEdge (now edges) total ≡ listed (now edges)) × (firstAbove (now edges) total ≡ total) × HasDegrees (now counts) total (graphOf (now edges)) ⌝ }
     ensures { λ r. ⌜ HasCells r total (degree total (graphOf (now (edges .entry)))) (graphOf (now (edges .entry))) × CellsSmall r ⌝ }
 {

@@ -17,23 +17,23 @@ use answer::Verdict;
 use answer::WrittenAnswer;
 use answer::refuse;
 use edge_lists::list_check;
-use layout::MOST_VERTICES;
+use layout::MAX_VERTICES;
 use slices::copy_in;
 use table::cells::CELLS;
-use table::record::RECORD_SIZE;
+use table::record::RECORD_BYTES;
 
 mod count;
 mod write;
 
 // Room for a record of each cell and one of isolated vertices, so that the length is known before a byte of the output changes.
-const RECORDS_MOST: usize = RECORD_SIZE * (CELLS + 1);
+const MAX_RECORDS_BYTES: usize = RECORD_BYTES * (CELLS + 1);
 
 // The records of a list with these degrees, none over 40, at the start of the bytes. Their length.
 fn own_records(
     edges: &[u8],
     total: usize,
-    counts: &[usize; MOST_VERTICES],
-    records: &mut [u8; RECORDS_MOST],
+    counts: &[usize; MAX_VERTICES],
+    records: &mut [u8; MAX_RECORDS_BYTES],
 ) -> usize
     requires { ⌜ (listVerdict (now edges) total ≡ Go) × (firstAbove (now edges) total ≡ total) × HasDegrees (now counts) total (graphOf (now edges)) ⌝ }
     ensures { λ r. ⌜ (r ≡ length (surveyRecords (now (edges .entry)) total)) × (r ≤ recordsMost) ⌝ }
@@ -55,7 +55,7 @@ fn survey_listed(edges: &[u8], total: usize, output: &mut [u8]) -> WrittenAnswer
     if above != total {
         return WrittenAnswer::Refused(refuse(Cause::DegreeTooHigh, above, 0));
     }
-    let mut records = [0u8; RECORDS_MOST];
+    let mut records = [0u8; MAX_RECORDS_BYTES];
     let length = own_records(edges, total, &counts, &mut records);
     if output.len() < length {
         return WrittenAnswer::Refused(refuse(Cause::OutputTooShort, 0, 0));

@@ -12,7 +12,7 @@ use answer::switches::Switches;
 use answer::switches::first_switch;
 use answer::switches::second_switch;
 
-pub const JOIN_RECORD_SIZE: usize = 8;
+pub const JOIN_RECORD_BYTES: usize = 8;
 
 // The three bytes of a switch, from place at on.
 fn put_switch(output: &mut [u8], at: usize, x: Switch)

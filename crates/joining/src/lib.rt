@@ -21,7 +21,7 @@ use answer::switches::Switch;
 use answer::switches::Switches;
 use classes::STARTS;
 use classes::row_sum;
-use layout::MOST_VERTICES;
+use layout::MAX_VERTICES;
 
 // An end of the edge to be: the vertex, its class, and a vertex of the class before which all but the other end are saturated.
 pub struct End {
@@ -43,11 +43,11 @@ pub struct JoinDone {
 }
 
 // The degrees of the n vertices.
-pub fn degrees(adjacency: &[u8], n: usize) -> [usize; MOST_VERTICES]
+pub fn degrees(adjacency: &[u8], n: usize) -> [usize; MAX_VERTICES]
     requires { ⌜ (length (now adjacency) ≡ adjacencySize) × (n ≤ side) × Simple n (edge (now adjacency)) ⌝ }
     ensures { λ r. ⌜ r ≡ degreesOf n (now (adjacency .entry)) ⌝ }
 {
-    let mut t = [0usize; MOST_VERTICES];
+    let mut t = [0usize; MAX_VERTICES];
     for v in 0..n {
         t[v] = row_sum(adjacency, v, 0, n);
     }
@@ -55,7 +55,7 @@ pub fn degrees(adjacency: &[u8], n: usize) -> [usize; MOST_VERTICES]
 }
 
 // How many edges there are, by the degrees of the n vertices: each edge stands at both its ends.
-pub fn edges_held(held: &[usize; MOST_VERTICES], n: usize) -> usize
+pub fn edges_held(held: &[usize; MAX_VERTICES], n: usize) -> usize
     requires { ⌜ (n ≤ side) × ((v : ℕ) → v < n → getD (now held) v 0 ≤ degrees) ⌝ }
     ensures { λ r. ⌜ r ≡ sumTo n (λ v. getD (now (held .entry)) v 0) / 2 ⌝ }
 {
@@ -115,7 +115,7 @@ fn cut_off(n: usize, x: Relief) -> usize
 // Joins v and w: room at v, then at w, then the edge.
 pub fn join(
     adjacency: &mut [u8],
-    held: &mut [usize; MOST_VERTICES],
+    held: &mut [usize; MAX_VERTICES],
     starts: &[usize; STARTS],
     n: usize,
     v: End,

@@ -13,17 +13,17 @@ use slices::all_zero;
 use slices::same_bytes;
 use slices::wide;
 use table::cells::CELLS;
-use table::record::BLOCK_MOST;
-use table::record::RECORD_SIZE;
+use table::record::MAX_BLOCK_BYTES;
+use table::record::RECORD_BYTES;
 use table::record::block_length;
 use table::record::first_bad;
 
-pub const MOST_BLOCKS: usize = 64;
+pub const MAX_BLOCKS: usize = 64;
 
 // A length byte, and the block.
-pub const SLOT_SIZE: usize = 1 + BLOCK_MOST;
+pub const SLOT_BYTES: usize = 1 + MAX_BLOCK_BYTES;
 
-pub const JOURNAL_SIZE: usize = 2 + SLOT_SIZE * MOST_BLOCKS;
+pub const JOURNAL_BYTES: usize = 2 + SLOT_BYTES * MAX_BLOCKS;
 
 pub fn phase_of(journal: &[u8]) -> usize
     requires { ⌜ length (now journal) ≡ journalSize ⌝ }
@@ -44,7 +44,7 @@ pub fn slot_length(journal: &[u8], i: usize) -> usize
     requires { ⌜ (length (now journal) ≡ journalSize) × (i < mostBlocks) ⌝ }
     ensures { λ r. ⌜ (r ≡ slotLength (now (journal .entry)) i) × (r < 256) ⌝ }
 {
-    wide(journal[2 + SLOT_SIZE * i])
+    wide(journal[2 + SLOT_BYTES * i])
 }
 
 // The block of slot i, a part of the journal itself.
@@ -53,7 +53,7 @@ pub fn block_part(journal: &[u8], i: usize) -> &[u8]
     ensures { λ r. ⌜ (now r ≡ blockAt (now (journal .entry)) i) × (length (now r) ≤ blockMost) × (r .ptr ≡ further (journal .entry .ptr) (blockFrom i)) ⌝ }
 {
     let n = slot_length(journal, i);
-    let from = 3 + SLOT_SIZE * i;
+    let from = 3 + SLOT_BYTES * i;
     let to = from + n;
     &journal[from..to]
 }
@@ -64,8 +64,8 @@ fn rest_is_zero(journal: &[u8], i: usize) -> bool
     ensures { λ r. ⌜ r ≡ allZero (slotRest (now (journal .entry)) i) ⌝ }
 {
     let n = slot_length(journal, i);
-    let from = 3 + SLOT_SIZE * i + n;
-    let to = 3 + SLOT_SIZE * i + BLOCK_MOST;
+    let from = 3 + SLOT_BYTES * i + n;
+    let to = 3 + SLOT_BYTES * i + MAX_BLOCK_BYTES;
     all_zero(&journal[from..to])
 }
 
@@ -75,7 +75,7 @@ fn block_ok(journal: &[u8], i: usize) -> bool
     ensures { λ r. ⌜ r ≡ blockLength (slotLength (now (journal .entry)) i) && eqb (firstBad (blockAt (now (journal .entry)) i)) (records (blockAt (now (journal .entry)) i)) ⌝ }
 {
     let part = block_part(journal, i);
-    block_length(slot_length(journal, i)) & (first_bad(part) == part.len() / RECORD_SIZE)
+    block_length(slot_length(journal, i)) & (first_bad(part) == part.len() / RECORD_BYTES)
 }
 
 fn slot_ok(journal: &[u8], i: usize) -> bool
@@ -83,7 +83,7 @@ fn slot_ok(journal: &[u8], i: usize) -> bool
     ensures { λ r. ⌜ r ≡ slotOk (now (journal .entry)) i ⌝ }
 {
     let n = slot_length(journal, i);
-    if BLOCK_MOST < n {
+    if MAX_BLOCK_BYTES < n {
         return false;
     }
     if i < block_count(journal) {
@@ -97,7 +97,7 @@ fn slots_ok(journal: &[u8]) -> bool
     requires { ⌜ length (now journal) ≡ journalSize ⌝ }
     ensures { λ r. ⌜ r ≡ allTo mostBlocks (slotOk (now (journal .entry))) ⌝ }
 {
-    for i in 0..MOST_BLOCKS {
+    for i in 0..MAX_BLOCKS {
         if !slot_ok(journal, i) {
             return false;
         }
@@ -110,7 +110,7 @@ pub fn journal_ok(journal: &[u8]) -> bool
     requires { ⌜ length (now journal) ≡ journalSize ⌝ }
     ensures { λ r. ⌜ r ≡ journalOk (now (journal .entry)) ⌝ }
 {
-    (phase_of(journal) <= 1) & (block_count(journal) <= MOST_BLOCKS) & slots_ok(journal)
+    (phase_of(journal) <= 1) & (block_count(journal) <= MAX_BLOCKS) & slots_ok(journal)
 }
 
 // The sum of all blocks, in an array of zeros: the joint degree matrix, and beside it the number of isolated vertices.
@@ -139,7 +139,7 @@ pub fn store_block(journal: &mut [u8], block: &[u8])
     ensures { λ _. ⌜ now (journal .exit) ≡ stored (now (journal .entry)) (now (block .entry)) ⌝ }
 {
     let i = block_count(journal);
-    let at = 2 + SLOT_SIZE * i;
+    let at = 2 + SLOT_BYTES * i;
     journal[at] = block.len() as u8;
     slices::copy_in(journal, at + 1, block);
     journal[1] = (i + 1) as u8;

@@ -16,7 +16,7 @@ use table::cells::cell;
 use table::cells::upper_cell;
 use table::degree::DEGREES;
 
-pub const MOST_VERTICES: usize = 200;
+pub const MAX_VERTICES: usize = 200;
 
 fn is_odd(cells: &[u32; CELLS], k: usize) -> bool
     requires { ⌜ k < degrees ⌝ }
@@ -182,12 +182,12 @@ fn run_at(counts: &[usize; DEGREES], v: usize, run: Run) -> Run
 }
 
 // The degree of each vertex, with zeros behind the last.
-pub fn classes(cells: &[u32; CELLS], counts: &[usize; DEGREES]) -> [u8; MOST_VERTICES]
+pub fn classes(cells: &[u32; CELLS], counts: &[usize; DEGREES]) -> [u8; MAX_VERTICES]
     requires { ⌜ AtMost cellSumMost (now cells) × Counts (now cells) (now counts) × (vertices (tableIn (now cells) (countIn (now counts) 0)) ≤ mostVertices) ⌝ }
     ensures { λ r. ⌜ r ≡ classesOf (tableIn (now (cells .entry)) (countIn (now (counts .entry)) 0)) ⌝ }
 {
     let n = vertex_count(cells, counts);
-    let mut t = [0u8; MOST_VERTICES];
+    let mut t = [0u8; MAX_VERTICES];
     let mut run = Run {
         class: 0,
         end: counts[0],
@@ -229,7 +229,7 @@ pub fn layout_check(cells: &[u32; CELLS], counts: &[usize; DEGREES]) -> Verdict
         let l = first_overfull_in(cells, counts, k);
         return Verdict::Stop(refuse(Cause::CellTooLarge, k, l));
     }
-    if MOST_VERTICES < vertex_count(cells, counts) {
+    if MAX_VERTICES < vertex_count(cells, counts) {
         return stopped(Cause::TooManyVertices);
     }
     Verdict::Go

@@ -93,7 +93,7 @@ pub fn of_held(number: usize, answer: LengthAnswer) -> ReplicaAnswer
     ensures { λ r. ⌜ r ≡ flat (heldNumbers number answer) ⌝ }
 {
     match answer {
-        LengthAnswer::Length(n) => two(0, 3 + journal::SLOT_SIZE * number, n),
+        LengthAnswer::Length(n) => two(0, 3 + journal::SLOT_BYTES * number, n),
         LengthAnswer::Refused(r) => of_refusal(r),
     }
 }

@@ -13,7 +13,7 @@ use crate::row::set_row;
 use adjacency::SIDE;
 use answer::switches::Switch;
 use answer::switches::Switches;
-use layout::MOST_VERTICES;
+use layout::MAX_VERTICES;
 use slices::least;
 use slices::wide;
 
@@ -21,8 +21,8 @@ use slices::wide;
 pub fn refresh_row(
     adjacency: &[u8],
     full: &[u8],
-    classes: &[u8; MOST_VERTICES],
-    counts: &mut [usize; MOST_VERTICES],
+    classes: &[u8; MAX_VERTICES],
+    counts: &mut [usize; MAX_VERTICES],
     sums: &mut [usize; SUMS],
     n: usize,
     v: usize,
@@ -39,8 +39,8 @@ pub fn refresh_row(
 pub fn refresh_range(
     adjacency: &[u8],
     full: &[u8],
-    classes: &[u8; MOST_VERTICES],
-    counts: &mut [usize; MOST_VERTICES],
+    classes: &[u8; MAX_VERTICES],
+    counts: &mut [usize; MAX_VERTICES],
     sums: &mut [usize; SUMS],
     n: usize,
     from: usize,
@@ -59,8 +59,8 @@ pub fn refresh_range(
 fn refresh_switch(
     adjacency: &[u8],
     full: &[u8],
-    classes: &[u8; MOST_VERTICES],
-    counts: &mut [usize; MOST_VERTICES],
+    classes: &[u8; MAX_VERTICES],
+    counts: &mut [usize; MAX_VERTICES],
     sums: &mut [usize; SUMS],
     n: usize,
     s: Switch,
@@ -77,8 +77,8 @@ fn refresh_switch(
 pub fn refresh_switches(
     adjacency: &[u8],
     full: &[u8],
-    classes: &[u8; MOST_VERTICES],
-    counts: &mut [usize; MOST_VERTICES],
+    classes: &[u8; MAX_VERTICES],
+    counts: &mut [usize; MAX_VERTICES],
     sums: &mut [usize; SUMS],
     n: usize,
     s: Switches,

@@ -5,12 +5,12 @@ ghost use lib.ListN.{length, getD, set};
 ghost use Rattle.finite.specs.Range.{sumTo};
 ghost use Rattle.adjacency.specs.Adjacency.{side};
 ghost use Rattle.open_pairs.specs.Inner.Rows.{openTo, Summed};
-use layout::MOST_VERTICES;
+use layout::MAX_VERTICES;
 
 // The rows of one sum, and how many sums there are.
 const ROWS: usize = 8;
 
-pub const SUMS: usize = MOST_VERTICES / ROWS;
+pub const SUMS: usize = MAX_VERTICES / ROWS;
 
 // An entry of an array of counts, and how many of what it counts are still to pass from it on.
 pub struct Place {
@@ -37,7 +37,7 @@ fn seek(counts: &[usize], from: usize, to: usize, position: usize) -> Place
 }
 
 // How many open pairs there are.
-pub fn total(counts: &[usize; MOST_VERTICES], sums: &[usize; SUMS]) -> usize
+pub fn total(counts: &[usize; MAX_VERTICES], sums: &[usize; SUMS]) -> usize
     requires { ⌜ Summed (now counts) (now sums) ⌝ }
     ensures { λ r. ⌜ r ≡ openTo (now (counts .entry)) side ⌝ }
 {
@@ -49,7 +49,7 @@ pub fn total(counts: &[usize; MOST_VERTICES], sums: &[usize; SUMS]) -> usize
 }
 
 // The row in which the open pair at the position stands.
-pub fn row_at(counts: &[usize; MOST_VERTICES], sums: &[usize; SUMS], position: usize) -> Place
+pub fn row_at(counts: &[usize; MAX_VERTICES], sums: &[usize; SUMS], position: usize) -> Place
     requires { ⌜ Summed (now counts) (now sums) × (position < openTo (now counts) side) ⌝ }
     ensures { λ r. ⌜ (r .at < side) × (openTo (now (counts .entry)) (r .at) + r .rest ≡ position) × (r .rest < getD (now (counts .entry)) (r .at) 0) ⌝ }
 {
@@ -59,7 +59,7 @@ pub fn row_at(counts: &[usize; MOST_VERTICES], sums: &[usize; SUMS], position: u
 }
 
 // Row v has m open pairs now.
-pub fn set_row(counts: &mut [usize; MOST_VERTICES], sums: &mut [usize; SUMS], v: usize, m: usize)
+pub fn set_row(counts: &mut [usize; MAX_VERTICES], sums: &mut [usize; SUMS], v: usize, m: usize)
     requires { ⌜ Summed (now counts) (now sums) × (v < side) × (m ≤ side) ⌝ }
     ensures { λ _. ⌜ now (counts .exit) ≡ set (now (counts .entry)) v m ⌝ }
     ensures { λ _. ⌜ Summed (set (now (counts .entry)) v m) (now (sums .exit)) ⌝ }

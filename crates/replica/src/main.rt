@@ -5,11 +5,11 @@ use libc::STDIN_FILENO;
 use libc::STDOUT_FILENO;
 use options::Choice;
 use options::Form;
-use runner::INPUT_MOST;
-use runner::TEXT_MOST;
+use runner::MAX_INPUT_BYTES;
+use runner::MAX_TEXT_BYTES;
 
 // Room for every option and for a number with many zeros before it; a longer word is read as an empty one, which is neither.
-const WORD_MOST: usize = 64;
+const MAX_WORD_BYTES: usize = 64;
 
 // Whether n bytes are all of the input that can matter. Where fewer came, the input ended or a read failed: one more read tells.
 fn was_read(n: usize) -> bool {
@@ -22,13 +22,13 @@ fn was_read(n: usize) -> bool {
 
 // Reads the records and prints the replica.
 fn print_replica(form: Form, finish: Finish) {
-    let mut input = [0u8; INPUT_MOST];
+    let mut input = [0u8; MAX_INPUT_BYTES];
     let n = io::read_full(STDIN_FILENO, &mut input);
     if !was_read(n) {
         io::write_all(STDERR_FILENO, b"replica: the input could not be read\n");
         return;
     }
-    let mut output = [0u8; TEXT_MOST];
+    let mut output = [0u8; MAX_TEXT_BYTES];
     let len = runner::render(form, finish, &input[..n], &mut output);
     if !io::write_all(STDOUT_FILENO, &output[..len]) {
         io::write_all(STDERR_FILENO, b"replica: the output could not be written\n");
@@ -36,9 +36,9 @@ fn print_replica(form: Form, finish: Finish) {
 }
 
 fn main() {
-    let mut first = [0u8; WORD_MOST];
-    let mut second = [0u8; WORD_MOST];
-    let mut third = [0u8; WORD_MOST];
+    let mut first = [0u8; MAX_WORD_BYTES];
+    let mut second = [0u8; MAX_WORD_BYTES];
+    let mut third = [0u8; MAX_WORD_BYTES];
     let n1 = os::arg(1, &mut first);
     let n2 = os::arg(2, &mut second);
     let n3 = os::arg(3, &mut third);

@@ -22,7 +22,7 @@ ghost use Rattle.complete.specs.Complete.{finishAnswer, finishAdjacency};
 ghost use Rattle.complete_shuffled.specs.Finish.{outcome};
 ghost use Rattle.complete_shuffled.specs.Shuffle.{withX};
 ghost use Rattle.runner.specs.Program.{blockIn, takeVerdict, takeAll, listText, stateText, laidText, takenText, programText, inputMost, textMost};
-use adjacency::ADJACENCY_SIZE;
+use adjacency::ADJACENCY_BYTES;
 use answer::CompleteAnswer;
 use answer::Finish;
 use answer::LayOutAnswer;
@@ -30,50 +30,50 @@ use answer::ShuffleAnswer;
 use answer::TakeAnswer;
 use answer::Verdict;
 use answer::WrittenAnswer;
-use join_records::JOIN_RECORD_SIZE;
-use journal::JOURNAL_SIZE;
-use journal::MOST_BLOCKS;
-use layout::MOST_VERTICES;
+use join_records::JOIN_RECORD_BYTES;
+use journal::JOURNAL_BYTES;
+use journal::MAX_BLOCKS;
+use layout::MAX_VERTICES;
 use libc::STDOUT_FILENO;
 use options::Form;
 use complete_shuffled::complete_shuffled;
 use slices::least;
 use slices::put;
 use table::degree::DEGREES;
-use table::record::BLOCK_MOST;
-use text::EDGE_MOST;
-use text::HEAD_MOST;
+use table::record::MAX_BLOCK_BYTES;
+use text::MAX_EDGE_BYTES;
+use text::MAX_HEAD_BYTES;
 use text::put_edges;
 use text::put_head;
 use text::put_refused;
 
 // The bytes that can matter: one block more than the journal has room for.
-pub const INPUT_MOST: usize = BLOCK_MOST * (MOST_BLOCKS + 1);
+pub const MAX_INPUT_BYTES: usize = MAX_BLOCK_BYTES * (MAX_BLOCKS + 1);
 
 // The most bytes of an edge list: 2 for each edge, and each edge has two ends.
-const LIST_MOST: usize = MOST_VERTICES * (DEGREES - 1);
+const MAX_LIST_BYTES: usize = MAX_VERTICES * (DEGREES - 1);
 
 // The most bytes of the records of completing: one for each edge.
-const RECORDS_MOST: usize = JOIN_RECORD_SIZE * (LIST_MOST / 2);
+const MAX_JOIN_RECORDS_BYTES: usize = JOIN_RECORD_BYTES * (MAX_LIST_BYTES / 2);
 
 // The most bytes of the text: the first line, and a line for each edge.
-pub const TEXT_MOST: usize = HEAD_MOST + EDGE_MOST * (LIST_MOST / 2);
+pub const MAX_TEXT_BYTES: usize = MAX_HEAD_BYTES + MAX_EDGE_BYTES * (MAX_LIST_BYTES / 2);
 
 // n bytes are all that can matter, whatever follows them.
 pub fn is_enough(n: usize) -> bool
     ensures { λ r. ⌜ r ≡ eqb n inputMost ⌝ }
 {
-    n == INPUT_MOST
+    n == MAX_INPUT_BYTES
 }
 
 // How many blocks len bytes are; the last may be shorter.
 fn block_count(len: usize) -> usize
     ensures { λ r. ⌜ r ≡ (len + (blockMost - 1)) / blockMost ⌝ }
 {
-    if len % BLOCK_MOST == 0 {
-        return len / BLOCK_MOST;
+    if len % MAX_BLOCK_BYTES == 0 {
+        return len / MAX_BLOCK_BYTES;
     }
-    len / BLOCK_MOST + 1
+    len / MAX_BLOCK_BYTES + 1
 }
 
 // Block `number` of the input: 64 bytes, or what is left of it.
@@ -81,11 +81,11 @@ fn block_in(input: &[u8], number: usize) -> &[u8]
     requires { ⌜ blockMost * number ≤ length (now input) ⌝ }
     ensures { λ r. ⌜ now r ≡ blockIn (now (input .entry)) number ⌝ }
 {
-    let at = BLOCK_MOST * number;
-    if input.len() - at < BLOCK_MOST {
+    let at = MAX_BLOCK_BYTES * number;
+    if input.len() - at < MAX_BLOCK_BYTES {
         return &input[at..];
     }
-    &input[at..at + BLOCK_MOST]
+    &input[at..at + MAX_BLOCK_BYTES]
 }
 
 // Takes one block; refused or not.
@@ -106,7 +106,7 @@ fn take_all(journal: &mut [u8], adjacency: &[u8], input: &[u8]) -> Verdict
     ensures { λ r. ⌜ r ≡ takeAll (now (journal .entry)) (now (adjacency .entry)) (now (input .entry)) .verdict ⌝ }
     ensures { λ _. ⌜ now (journal .exit) ≡ takeAll (now (journal .entry)) (now (adjacency .entry)) (now (input .entry)) .journal ⌝ }
 {
-    let n = least(block_count(input.len()), MOST_BLOCKS + 1);
+    let n = least(block_count(input.len()), MAX_BLOCKS + 1);
     for number in 0..n {
         let verdict = take_one(journal, adjacency, number, block_in(input, number));
         match verdict {
@@ -168,7 +168,7 @@ fn put_state(
     ensures { λ r. ⌜ r ≡ length (stateText form n switches (now (journal .entry)) (now (adjacency .entry))) ⌝ }
     ensures { λ _. ⌜ now (output .exit) ≡ sets (now (output .entry)) 0 (stateText form n switches (now (journal .entry)) (now (adjacency .entry))) ⌝ }
 {
-    let mut list = [0u8; LIST_MOST];
+    let mut list = [0u8; MAX_LIST_BYTES];
     let answer = edge_list::edge_list(journal, adjacency, &mut list);
     match answer {
         WrittenAnswer::Refused(r) => put_refused(output, 0, r),
@@ -219,7 +219,7 @@ fn complete(
     ensures { λ r. ⌜ r ≡ length (laidText form finish (LaidOut n) (now (journal .entry)) (now (adjacency .entry))) ⌝ }
     ensures { λ _. ⌜ now (output .exit) ≡ sets (now (output .entry)) 0 (laidText form finish (LaidOut n) (now (journal .entry)) (now (adjacency .entry))) ⌝ }
 {
-    let mut records = [0u8; RECORDS_MOST];
+    let mut records = [0u8; MAX_JOIN_RECORDS_BYTES];
     let answer = finish_by(journal, adjacency, finish, &mut records);
     match answer {
         CompleteAnswer::Refused(r) => put_refused(output, 0, r),
@@ -254,13 +254,13 @@ fn lay_out(
 }
 
 // The program's text for an input, at the start of the output. Its length; it always fits.
-pub fn render(form: Form, finish: Finish, input: &[u8], output: &mut [u8; TEXT_MOST]) -> usize
+pub fn render(form: Form, finish: Finish, input: &[u8], output: &mut [u8; MAX_TEXT_BYTES]) -> usize
     ensures { λ r. ⌜ r ≡ length (programText form finish (now (input .entry))) ⌝ }
     ensures { λ r. ⌜ Counts r (now (output .exit)) ⌝ }
     ensures { λ _. ⌜ now (output .exit) ≡ sets (now (output .entry)) 0 (programText form finish (now (input .entry))) ⌝ }
 {
-    let mut journal = [0u8; JOURNAL_SIZE];
-    let mut adjacency = [0u8; ADJACENCY_SIZE];
+    let mut journal = [0u8; JOURNAL_BYTES];
+    let mut adjacency = [0u8; ADJACENCY_BYTES];
     let taken = take_all(&mut journal, &adjacency, input);
     match taken {
         Verdict::Stop(r) => put_refused(output, 0, r),
@@ -270,7 +270,7 @@ pub fn render(form: Form, finish: Finish, input: &[u8], output: &mut [u8; TEXT_M
 
 // Prints the lines for an input, completed by the lowest open pairs.
 pub fn run(input: &[u8]) -> bool {
-    let mut output = [0u8; TEXT_MOST];
+    let mut output = [0u8; MAX_TEXT_BYTES];
     let len = render(Form::Lines, Finish::Lowest, input, &mut output);
     io::write_all(STDOUT_FILENO, &output[..len])
 }

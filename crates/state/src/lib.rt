@@ -9,12 +9,12 @@ ghost use Rattle.adjacency.specs.Adjacency.{adjacencySize};
 ghost use Rattle.state.specs.Valid.{lengthsOk, laidOk, valid};
 ghost use Rattle.state.specs.Checks.{stateVerdict, phaseVerdict};
 ghost use Rattle.state.specs.Laid.{vertexCount};
-use adjacency::ADJACENCY_SIZE;
+use adjacency::ADJACENCY_BYTES;
 use adjacency::adjacency_ok;
 use answer::Cause;
 use answer::Verdict;
 use answer::stopped;
-use journal::JOURNAL_SIZE;
+use journal::JOURNAL_BYTES;
 use journal::journal_ok;
 use journal::phase_of;
 use journal::sum_blocks;
@@ -29,7 +29,7 @@ use table::degree::DEGREES;
 pub fn lengths_ok(journal: &[u8], adjacency: &[u8]) -> bool
     ensures { λ r. ⌜ r ≡ lengthsOk (now (journal .entry)) (now (adjacency .entry)) ⌝ }
 {
-    (journal.len() == JOURNAL_SIZE) & (adjacency.len() == ADJACENCY_SIZE)
+    (journal.len() == JOURNAL_BYTES) & (adjacency.len() == ADJACENCY_BYTES)
 }
 
 // What the journal says: the cells of its table, in an array of zeros, and how many vertices each degree has.

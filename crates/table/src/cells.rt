@@ -53,7 +53,7 @@ fn add_record(cells: &mut [u32; CELLS], block: &[u8], i: usize)
     requires { ⌜ (recordSize * i + recordSize ≤ length (now block)) × (goodRecord (now block) i ≡ true) × AtMost (cellSumMost) (now cells) ⌝ }
     ensures { λ _. ⌜ now (cells .exit) ≡ addRecord (now (block .entry)) i (now (cells .entry)) ⌝ }
 {
-    let at = crate::record::RECORD_SIZE * i;
+    let at = crate::record::RECORD_BYTES * i;
     let k = wide(block[at]);
     let l = wide(block[at + 1]);
     let p = place_of(k, l);
@@ -66,7 +66,7 @@ pub fn add_block(cells: &mut [u32; CELLS], block: &[u8])
     requires { ⌜ (length (now block) ≤ blockMost) × (firstBad (now block) ≡ records (now block)) × ((m : ℕ) × (m + blockSumMost ≤ cellSumMost) × AtMost m (now cells)) ⌝ }
     ensures { λ _. ⌜ now (cells .exit) ≡ addBlock (now (block .entry)) (now (cells .entry)) ⌝ }
 {
-    let n = block.len() / crate::record::RECORD_SIZE;
+    let n = block.len() / crate::record::RECORD_BYTES;
     for i in 0..n {
         add_record(cells, block, i);
     }

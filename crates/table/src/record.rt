@@ -10,24 +10,24 @@ use crate::degree::Degree;
 use crate::degree::MadeDegree;
 use slices::wide;
 
-pub const RECORD_SIZE: usize = 4;
+pub const RECORD_BYTES: usize = 4;
 
-pub const MOST_RECORDS: usize = 16;
+pub const MAX_BLOCK_RECORDS: usize = 16;
 
-pub const BLOCK_MOST: usize = RECORD_SIZE * MOST_RECORDS;
+pub const MAX_BLOCK_BYTES: usize = RECORD_BYTES * MAX_BLOCK_RECORDS;
 
 // Whether a block may have n bytes. It may have none.
 pub fn block_length(n: usize) -> bool
     ensures { λ r. ⌜ r ≡ blockLength n ⌝ }
 {
-    (n <= BLOCK_MOST) & (n % RECORD_SIZE == 0)
+    (n <= MAX_BLOCK_BYTES) & (n % RECORD_BYTES == 0)
 }
 
 pub fn record_count(block: &[u8], i: usize) -> usize
     requires { ⌜ recordSize * i + recordSize ≤ length (now block) ⌝ }
     ensures { λ r. ⌜ (r ≡ recordCount (now (block .entry)) i) × (r ≤ recordMost) ⌝ }
 {
-    let at = RECORD_SIZE * i;
+    let at = RECORD_BYTES * i;
     wide(block[at + 2]) + 256 * wide(block[at + 3])
 }
 
@@ -48,7 +48,7 @@ fn good_record(block: &[u8], i: usize) -> bool
     requires { ⌜ recordSize * i + recordSize ≤ length (now block) ⌝ }
     ensures { λ r. ⌜ r ≡ goodRecord (now (block .entry)) i ⌝ }
 {
-    let at = RECORD_SIZE * i;
+    let at = RECORD_BYTES * i;
     good_pair(block[at], block[at + 1])
 }
 
@@ -56,7 +56,7 @@ fn good_record(block: &[u8], i: usize) -> bool
 pub fn first_bad(block: &[u8]) -> usize
     ensures { λ r. ⌜ r ≡ firstBad (now (block .entry)) ⌝ }
 {
-    let n = block.len() / RECORD_SIZE;
+    let n = block.len() / RECORD_BYTES;
     let mut i = 0;
     while i < n {
         if !good_record(block, i) {

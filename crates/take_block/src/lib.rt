@@ -9,7 +9,7 @@ use answer::Cause;
 use answer::TakeAnswer;
 use answer::Verdict;
 use answer::refuse;
-use journal::MOST_BLOCKS;
+use journal::MAX_BLOCKS;
 use journal::block_count;
 use journal::is_block;
 use journal::phase_of;
@@ -35,7 +35,7 @@ fn take_new(journal: &[u8]) -> TakeAnswer
         return TakeAnswer::Refused(refuse(Cause::WrongPhase, 0, 0));
     }
     let n = block_count(journal);
-    if MOST_BLOCKS <= n {
+    if MAX_BLOCKS <= n {
         return TakeAnswer::Refused(refuse(Cause::JournalFull, 0, 0));
     }
     TakeAnswer::Taken(n + 1)
@@ -65,7 +65,7 @@ fn take_on_valid(journal: &[u8], number: usize, block: &[u8]) -> TakeAnswer
         return TakeAnswer::Refused(refuse(Cause::BlockLength, 0, 0));
     }
     let bad = table::record::first_bad(block);
-    if bad != block.len() / table::record::RECORD_SIZE {
+    if bad != block.len() / table::record::RECORD_BYTES {
         return TakeAnswer::Refused(refuse(Cause::BadRecord, bad, 0));
     }
     take_numbered(journal, number, block)

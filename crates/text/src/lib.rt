@@ -9,13 +9,13 @@ use answer::number_of;
 use slices::copy_in;
 
 // The most digits of a number.
-pub const DECIMAL_MOST: usize = 20;
+pub const MAX_DECIMAL_BYTES: usize = 20;
 
 // The most bytes of a refusal or a first line: 25 in words and three numbers.
-pub const HEAD_MOST: usize = 25 + 3 * DECIMAL_MOST;
+pub const MAX_HEAD_BYTES: usize = 25 + 3 * MAX_DECIMAL_BYTES;
 
 // The most bytes of the line of an edge: two numbers of three digits, and a byte behind each.
-pub const EDGE_MOST: usize = 2 * (3 + 1);
+pub const MAX_EDGE_BYTES: usize = 2 * (3 + 1);
 
 fn put_word(out: &mut [u8], at: usize, word: &[u8]) -> usize
     requires { ⌜ at + length (now word) ≤ length (now out) ⌝ }
@@ -31,7 +31,7 @@ fn put_decimal(out: &mut [u8], at: usize, n: usize) -> usize
     ensures { λ r. ⌜ r ≡ at + length (decimal n) ⌝ }
     ensures { λ _. ⌜ now (out .exit) ≡ sets (now (out .entry)) at (decimal n) ⌝ }
 {
-    let mut digits = [0u8; DECIMAL_MOST];
+    let mut digits = [0u8; MAX_DECIMAL_BYTES];
     let k = io::decimal(n as u64, &mut digits);
     put_word(out, at, &digits[..k])
 }

@@ -3,7 +3,7 @@
 use reference::graphs::{self, Graph};
 use reference::journal::record;
 use reference::random::Random;
-use reference::{Table, BLOCK_LENGTH, MOST_BLOCKS, MOST_DEGREE, MOST_VERTICES};
+use reference::{Table, MAX_BLOCK_BYTES, MAX_BLOCKS, MAX_DEGREE, MAX_VERTICES};
 
 /// The records of a table cut into blocks, now and then with empty ones among them, all of which a
 /// journal has room for.
@@ -15,7 +15,7 @@ pub fn cut(table: &Table, random: &mut Random) -> Vec<Vec<u8>> {
 /// The same blocks, and now and then empty ones at any place, the first and the last among them:
 /// three at most, or as many as there is room for in a journal.
 fn with_empty(mut blocks: Vec<Vec<u8>>, random: &mut Random) -> Vec<Vec<u8>> {
-    let room = MOST_BLOCKS.saturating_sub(blocks.len());
+    let room = MAX_BLOCKS.saturating_sub(blocks.len());
     let more = match random.below(60) {
         0 => room,
         1..=15 => random.between(1, 3).min(room),
@@ -52,14 +52,14 @@ fn blocks_of(table: &Table, random: &mut Random) -> Vec<Vec<u8>> {
         records.push(record(k, l, left));
     }
     while spare > 0 && random.chance(20) {
-        let (k, l) = any_pair(MOST_DEGREE, random);
+        let (k, l) = any_pair(MAX_DEGREE, random);
         records.push(record(k, l, 0));
         spare -= 1;
     }
     random.shuffle(&mut records);
     let each = random
         .between(1, 16)
-        .max(records.len().div_ceil(MOST_BLOCKS));
+        .max(records.len().div_ceil(MAX_BLOCKS));
     records.chunks(each).map(|block| block.concat()).collect()
 }
 
@@ -106,7 +106,7 @@ pub fn spoil(block: &[u8], random: &mut Random) -> Vec<u8> {
         3 => spoiled.extend(record(1, 2, 1)),
         4 => {
             let more = 4 * random.between(1, 4);
-            spoiled = random.bytes(BLOCK_LENGTH + more);
+            spoiled = random.bytes(MAX_BLOCK_BYTES + more);
         }
         5 => spoiled[start] = *random.pick(&[0, 41, 255]),
         6 => spoiled[start + 1] = *random.pick(&[0, 41, 255]),
@@ -162,7 +162,7 @@ pub fn plan(size: Size, random: &mut Random) -> Vec<Vec<u8>> {
         2 => many_vertices(&graph, random),
         3 => full_journal(random),
         4 => (0..random.between(1, 20))
-            .map(|_| any_block(MOST_DEGREE, 65_535, random))
+            .map(|_| any_block(MAX_DEGREE, 65_535, random))
             .collect(),
         6 => only_isolated(random),
         7 => only_empty(random),
@@ -174,9 +174,9 @@ pub fn plan(size: Size, random: &mut Random) -> Vec<Vec<u8>> {
 /// A table with a graph, and one record more: it may have none any more.
 fn nearly(graph: &Graph, random: &mut Random) -> Vec<Vec<u8>> {
     let mut blocks = blocks_of(&graph.table(), random);
-    blocks.truncate(MOST_BLOCKS - 1);
+    blocks.truncate(MAX_BLOCKS - 1);
     let used = graph.degrees().into_iter().max().unwrap_or(0);
-    let (k, l) = degrees((used + 1).min(MOST_DEGREE), random);
+    let (k, l) = degrees((used + 1).min(MAX_DEGREE), random);
     let count = if random.chance(50) {
         random.between(1, 2 * k)
     } else {
@@ -197,8 +197,8 @@ fn even_multiple(k: usize, l: usize) -> usize {
 /// number near its bound.
 fn many_vertices(graph: &Graph, random: &mut Random) -> Vec<Vec<u8>> {
     let mut blocks = blocks_of(&graph.table(), random);
-    blocks.truncate(MOST_BLOCKS - 1);
-    let room = MOST_VERTICES - graph.vertices();
+    blocks.truncate(MAX_BLOCKS - 1);
+    let room = MAX_VERTICES - graph.vertices();
     let count = (room + random.below(5)).saturating_sub(2);
     let degree = random.below(2);
     blocks.push(record(degree, degree, count as u64).to_vec());
@@ -207,11 +207,11 @@ fn many_vertices(graph: &Graph, random: &mut Random) -> Vec<Vec<u8>> {
 
 /// Isolated vertices and nothing else: a few, about 200, or far more.
 fn only_isolated(random: &mut Random) -> Vec<Vec<u8>> {
-    let around = MOST_VERTICES as u64;
+    let around = MAX_VERTICES as u64;
     let count = match random.below(5) {
         0 => random.below(10) as u64,
         1 => around + random.below(5) as u64 - 2,
-        2 => 65_536 + random.below(2 * MOST_VERTICES) as u64,
+        2 => 65_536 + random.below(2 * MAX_VERTICES) as u64,
         3 => random.below(67_000_000) as u64,
         _ => *random.pick(&[around - 1, around, around + 1]),
     };
@@ -221,7 +221,7 @@ fn only_isolated(random: &mut Random) -> Vec<Vec<u8>> {
 /// Empty blocks and nothing else: a few, or as many as a journal holds and one more.
 fn only_empty(random: &mut Random) -> Vec<Vec<u8>> {
     let count = match random.below(3) {
-        0 => MOST_BLOCKS + 1,
+        0 => MAX_BLOCKS + 1,
         _ => random.between(1, 5),
     };
     vec![Vec::new(); count]
@@ -229,10 +229,10 @@ fn only_empty(random: &mut Random) -> Vec<Vec<u8>> {
 
 /// As many blocks as a journal holds and one more, nearly all of them adding nothing.
 fn full_journal(random: &mut Random) -> Vec<Vec<u8>> {
-    let mut blocks: Vec<Vec<u8>> = (0..MOST_BLOCKS + 1)
-        .map(|_| any_block(MOST_DEGREE, 0, random))
+    let mut blocks: Vec<Vec<u8>> = (0..MAX_BLOCKS + 1)
+        .map(|_| any_block(MAX_DEGREE, 0, random))
         .collect();
-    let place = random.below(MOST_BLOCKS);
+    let place = random.below(MAX_BLOCKS);
     blocks[place] = record(2, 2, 6).to_vec();
     blocks
 }

@@ -4,7 +4,7 @@ use crate::call::{on_library, on_reference, Call, Completing, Memory};
 use crate::count::Count;
 use crate::lent::Lent;
 use reference::numbers::Numbers;
-use reference::{join_record, journal, refused, ADJACENCY_LENGTH, JOURNAL_LENGTH};
+use reference::{join_record, journal, refused, ADJACENCY_BYTES, JOURNAL_BYTES};
 
 /// One state for both sides: they are equal after every call, or the test has failed.
 pub struct Both {
@@ -22,8 +22,8 @@ impl Both {
     /// A cleared state. The label tells in messages which test it belongs to.
     pub fn new(label: &str) -> Both {
         Both {
-            journal: vec![0; JOURNAL_LENGTH],
-            adjacency: vec![0; ADJACENCY_LENGTH],
+            journal: vec![0; JOURNAL_BYTES],
+            adjacency: vec![0; ADJACENCY_BYTES],
             output: Vec::new(),
             count: Count::new(),
             label: label.to_string(),

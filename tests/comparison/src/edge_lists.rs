@@ -2,7 +2,7 @@
 
 use reference::graphs::{self, Graph};
 use reference::random::Random;
-use reference::MOST_VERTICES;
+use reference::MAX_VERTICES;
 
 /// A graph with degrees around 40, on both sides of the bound.
 pub fn high_degrees(random: &mut Random) -> Graph {
@@ -15,7 +15,7 @@ pub fn high_degrees(random: &mut Random) -> Graph {
 
 fn clique_with_one_more(random: &mut Random) -> Graph {
     let vertices = random.between(40, 44);
-    let far = random.between(vertices, MOST_VERTICES - 1);
+    let far = random.between(vertices, MAX_VERTICES - 1);
     let mut graph = graphs::cliques(vertices, vertices).widened(far + 1);
     graph.join(random.below(vertices), far);
     graph
@@ -23,9 +23,9 @@ fn clique_with_one_more(random: &mut Random) -> Graph {
 
 /// One vertex joined to about 40 others.
 fn one_center(random: &mut Random) -> Graph {
-    let center = random.below(MOST_VERTICES);
-    let mut graph = Graph::new(MOST_VERTICES);
-    for w in (0..MOST_VERTICES).filter(|&w| w != center) {
+    let center = random.below(MAX_VERTICES);
+    let mut graph = Graph::new(MAX_VERTICES);
+    for w in (0..MAX_VERTICES).filter(|&w| w != center) {
         if random.chance(20) {
             graph.join(center, w);
         }
@@ -37,7 +37,7 @@ fn one_center(random: &mut Random) -> Graph {
 fn two_centers(random: &mut Random) -> Graph {
     let lower = random.between(60, 100);
     let higher = random.between(150, 199);
-    let mut graph = Graph::new(MOST_VERTICES);
+    let mut graph = Graph::new(MAX_VERTICES);
     for v in 0..random.between(39, 44) {
         graph.join(v, higher);
     }

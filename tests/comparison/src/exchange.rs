@@ -7,7 +7,7 @@ use crate::edge_lists;
 use reference::graphs::{self, pairs, Graph};
 use reference::numbers::Numbers;
 use reference::random::Random;
-use reference::{refused, MOST_VERTICES};
+use reference::{refused, MAX_VERTICES};
 
 /// Spoiled texts and lists of each graph.
 const SPOILED: usize = 12;
@@ -32,7 +32,7 @@ pub fn run(seed: u64, most: usize, both: &mut Both) {
 /// Without an edge, with a few, with any number of them, with nearly all and with all. The sizes
 /// around the longer form and the largest come often.
 pub fn any_graph(most: usize, random: &mut Random) -> Graph {
-    let most = most.min(MOST_VERTICES);
+    let most = most.min(MAX_VERTICES);
     let vertices = match random.below(4) {
         0 => *random.pick(&[61, 62, 63, 64, 199, 200]),
         _ => random.below(most + 1),

@@ -1,7 +1,7 @@
 //! A slice lent between guard bytes.
 
 const GUARD: u8 = 0xa5;
-const GUARD_LENGTH: usize = 64;
+const GUARD_BYTES: usize = 64;
 
 /// A copy of some bytes with guard bytes on both sides.
 #[derive(Clone, Debug)]
@@ -14,8 +14,8 @@ pub struct Lent {
 impl Lent {
     /// `shift` moves the start, so that slices begin at every alignment.
     pub fn new(content: &[u8], shift: usize) -> Lent {
-        let start = GUARD_LENGTH + shift % 16;
-        let mut bytes = vec![GUARD; start + content.len() + GUARD_LENGTH];
+        let start = GUARD_BYTES + shift % 16;
+        let mut bytes = vec![GUARD; start + content.len() + GUARD_BYTES];
         bytes[start..start + content.len()].copy_from_slice(content);
         Lent {
             bytes,
@@ -50,7 +50,7 @@ mod tests {
         lent.get_mut().fill(9);
         assert!(lent.guards_hold());
         let start = lent.start;
-        for place in [0, start - 1, start + 3, start + 3 + GUARD_LENGTH - 1] {
+        for place in [0, start - 1, start + 3, start + 3 + GUARD_BYTES - 1] {
             let mut spoiled = lent.clone();
             spoiled.bytes[place] = 0;
             assert!(!spoiled.guards_hold());

@@ -11,13 +11,13 @@ use reference::graphs;
 use reference::random::Random;
 use reference::shuffling::open_pairs;
 use reference::{adjacency, journal, validity, Matrix};
-use reference::{ADJACENCY_LENGTH, JOURNAL_LENGTH, MOST_VERTICES};
-use replica::MOST_GRAPH6;
+use reference::{ADJACENCY_BYTES, JOURNAL_BYTES, MAX_VERTICES};
+use replica::MAX_GRAPH6_BYTES;
 
 /// The isolated vertices and 820 cells: no survey writes more.
-const MOST_RECORD_BYTES: usize = 4 * 821;
+const MAX_RECORDS_BYTES: usize = 4 * 821;
 /// 4,000 edges: no completion writes more.
-const MOST_JOIN_RECORD_BYTES: usize = 8 * 4_000;
+const MAX_JOIN_RECORDS_BYTES: usize = 8 * 4_000;
 
 /// Runs the call list of this seed.
 pub fn run(seed: u64, size: Size, both: &mut Both) {
@@ -37,7 +37,7 @@ pub fn run(seed: u64, size: Size, both: &mut Both) {
     }
     // Whatever the list left behind, its end is a full one if it can be.
     list.call(Call::LayOut);
-    let output = list.random.bytes(MOST_JOIN_RECORD_BYTES);
+    let output = list.random.bytes(MAX_JOIN_RECORDS_BYTES);
     let completing = Completing::any(&mut list.random);
     list.call(completing.call(output));
     list.list_edges();
@@ -316,7 +316,7 @@ impl List<'_> {
 
     fn jdm_of_edges(&mut self) -> Call {
         let (edges, total) = self.edges_and_total();
-        let mut probe = vec![0; MOST_RECORD_BYTES];
+        let mut probe = vec![0; MAX_RECORDS_BYTES];
         let needed = reference::jdm_of_edges(&edges, total, &mut probe).unwrap_or(0);
         let output = any_output(needed as usize, &mut self.random);
         Call::JdmOfEdges {
@@ -328,7 +328,7 @@ impl List<'_> {
 
     fn graph6_write(&mut self) -> Call {
         let (edges, total) = self.edges_and_total();
-        let needed = text_length(total.min(MOST_VERTICES as u64) as usize);
+        let needed = text_length(total.min(MAX_VERTICES as u64) as usize);
         let output = any_output(needed, &mut self.random);
         Call::Graph6Write {
             edges,
@@ -340,7 +340,7 @@ impl List<'_> {
     /// The text of such edges, whole or spoiled; where they have none, their bytes.
     fn graph6_read(&mut self) -> Call {
         let (edges, total) = self.edges_and_total();
-        let mut text = vec![0; MOST_GRAPH6];
+        let mut text = vec![0; MAX_GRAPH6_BYTES];
         let length = reference::graph6_write(&edges, total, &mut text);
         text.truncate(length.unwrap_or(0) as usize);
         if text.is_empty() {
@@ -366,7 +366,7 @@ impl List<'_> {
             7 => self.random.below(named as usize + 1) as u64,
             8 => *self.random.pick(&[0, 1, 199, 200, 201]),
             9 => self.wild_number(),
-            _ => self.random.between(named.min(200) as usize, MOST_VERTICES) as u64,
+            _ => self.random.between(named.min(200) as usize, MAX_VERTICES) as u64,
         }
     }
 
@@ -390,13 +390,13 @@ impl List<'_> {
         if self.both.output.len() >= length {
             let edges = self.both.output[..length].to_vec();
             let total = self.total(&edges);
-            let output = self.random.bytes(MOST_RECORD_BYTES);
+            let output = self.random.bytes(MAX_RECORDS_BYTES);
             self.both.call(Call::JdmOfEdges {
                 edges: edges.clone(),
                 total,
                 output,
             });
-            let output = self.random.bytes(MOST_GRAPH6);
+            let output = self.random.bytes(MAX_GRAPH6_BYTES);
             self.both.call(Call::Graph6Write {
                 edges,
                 total,
@@ -409,10 +409,10 @@ impl List<'_> {
     fn other_lengths(&mut self) {
         let journal_length = *self
             .random
-            .pick(&[0, 1, JOURNAL_LENGTH - 1, JOURNAL_LENGTH]);
+            .pick(&[0, 1, JOURNAL_BYTES - 1, JOURNAL_BYTES]);
         let adjacency_length = match journal_length {
-            JOURNAL_LENGTH => *self.random.pick(&[0, 200, ADJACENCY_LENGTH - 1]),
-            _ => ADJACENCY_LENGTH,
+            JOURNAL_BYTES => *self.random.pick(&[0, 200, ADJACENCY_BYTES - 1]),
+            _ => ADJACENCY_BYTES,
         };
         let (mut journal, mut adjacency) = (self.both.journal.clone(), self.both.adjacency.clone());
         if self.random.chance(40) {
@@ -478,8 +478,8 @@ impl List<'_> {
             3 => start + 1 + self.random.below(8),
             4 => start + self.random.below(65),
             5 => journal::slot_start(blocks.min(63)) + self.random.below(65),
-            6 => JOURNAL_LENGTH - 1,
-            _ => self.random.below(JOURNAL_LENGTH),
+            6 => JOURNAL_BYTES - 1,
+            _ => self.random.below(JOURNAL_BYTES),
         };
         let byte = &mut self.both.journal[place];
         *byte = match self.random.below(4) {
@@ -507,7 +507,7 @@ impl List<'_> {
             }
             6 => bytes[adjacency::place(v, v)] = 1,
             7 => adjacency::insert(bytes, v, far),
-            _ => bytes[self.random.below(ADJACENCY_LENGTH)] ^= 1,
+            _ => bytes[self.random.below(ADJACENCY_BYTES)] ^= 1,
         }
     }
 }

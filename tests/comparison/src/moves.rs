@@ -104,14 +104,14 @@ fn record_of(v: u64, w: u64, numbers: &Numbers) -> Vec<u8> {
 #[cfg(test)]
 mod tests {
     use super::*;
-    use reference::{adjacency, ADJACENCY_LENGTH};
+    use reference::{adjacency, ADJACENCY_BYTES};
 
     /// A join of 0 and 3 for which 0-2 went and 1-2 came, and answers that say otherwise.
     #[test]
     fn wrong_moves_are_noticed() {
         let call = Call::AddEdge { v: 0, w: 3 };
         let memory = |edges: &[(usize, usize)]| {
-            let mut bytes = vec![0; ADJACENCY_LENGTH];
+            let mut bytes = vec![0; ADJACENCY_BYTES];
             for &(v, w) in edges {
                 adjacency::insert(&mut bytes, v, w);
             }

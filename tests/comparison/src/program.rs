@@ -6,7 +6,7 @@ use std::thread::sleep;
 use std::time::{Duration, Instant};
 
 /// No input takes longer than a fraction of this.
-const MOST_TIME: Duration = Duration::from_secs(30);
+const MAX_TIME: Duration = Duration::from_secs(30);
 
 /// The program that `rt check replica` builds, or the one that REPLICA_PROGRAM names.
 pub fn program() -> Command {
@@ -24,7 +24,7 @@ pub fn program() -> Command {
 pub fn ended(mut child: Child) -> Output {
     let start = Instant::now();
     while child.try_wait().expect("a child").is_none() {
-        if start.elapsed() > MOST_TIME {
+        if start.elapsed() > MAX_TIME {
             child.kill().expect("a child");
             panic!("the program does not end");
         }

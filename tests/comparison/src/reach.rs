@@ -9,7 +9,7 @@ use crate::tables::{sum_of, take_all};
 use reference::graphs::Graph;
 use reference::numbers::Numbers;
 use reference::random::Random;
-use reference::{adjacency, graph6, refused, ADJACENCY_LENGTH};
+use reference::{adjacency, graph6, refused, ADJACENCY_BYTES};
 use std::fmt;
 
 named_counts! {
@@ -148,7 +148,7 @@ impl<'a> Laid<'a> {
             random,
             effort,
             journal: both.journal.clone(),
-            adjacency: vec![0; ADJACENCY_LENGTH],
+            adjacency: vec![0; ADJACENCY_BYTES],
             both,
             figures: [blocks.len() as u64, vertices, edges],
             missing: edges,
@@ -223,7 +223,7 @@ impl<'a> Laid<'a> {
     fn begin(&mut self, start: Start, graph: &Graph) {
         self.graph = graph6::text(graph).escape_ascii().to_string();
         self.steps.clear();
-        self.set(vec![0; ADJACENCY_LENGTH]);
+        self.set(vec![0; ADJACENCY_BYTES]);
         match start {
             Start::Empty => {}
             Start::Completed => {

@@ -13,7 +13,7 @@ use crate::tables::take_all;
 use reference::graphs::{all_pairs, from_bits, Graph};
 use reference::random::Random;
 use reference::search::partial_graphs;
-use reference::{adjacency, graph6, ADJACENCY_LENGTH};
+use reference::{adjacency, graph6, ADJACENCY_BYTES};
 use replica::raw;
 
 /// Tries the steps of one table, given all graphs that have it at the degrees laid out: adding, from
@@ -85,7 +85,7 @@ impl Small {
         take_all(&graph.table(), random, &mut both);
         let vertices = graph.vertices();
         assert_eq!(both.call(Call::LayOut), [0, vertices as u64, 0, 0, 0, 0]);
-        let adjacency = vec![0; ADJACENCY_LENGTH];
+        let adjacency = vec![0; ADJACENCY_BYTES];
         Small {
             label: label.to_string(),
             vertices,

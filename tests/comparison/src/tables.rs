@@ -9,7 +9,7 @@ use reference::adjacency;
 use reference::graphs::{self, Graph};
 use reference::numbers::refusal;
 use reference::random::Random;
-use reference::{refused, Matrix, Table, MOST_BLOCKS};
+use reference::{refused, Matrix, Table, MAX_BLOCKS};
 use std::collections::{BTreeMap, BTreeSet};
 
 /// Cells (k, l) with k at most l that are not 0.
@@ -127,7 +127,7 @@ pub fn run_from_part_of(graph: &Graph, random: &mut Random, both: &mut Both) {
     edges.retain(|_| random.chance(percent));
     random.shuffle(&mut edges);
     for (i, &(v, w)) in edges.iter().enumerate() {
-        if i < MOST_BY_CALLS {
+        if i < MAX_BY_CALLS {
             // No vertex and no cell is above what the graph itself has, so nothing is switched.
             let (v, w) = (v as u64, w as u64);
             let answer = both.call(Call::AddEdge { v, w });
@@ -140,7 +140,7 @@ pub fn run_from_part_of(graph: &Graph, random: &mut Random, both: &mut Both) {
 }
 
 /// Edges of a large start beyond these are written as bytes, to save time.
-const MOST_BY_CALLS: usize = 100;
+const MAX_BY_CALLS: usize = 100;
 
 /// Clears, and takes the table's blocks, some of them twice.
 pub fn take_all(table: &Table, random: &mut Random, both: &mut Both) -> Vec<Vec<u8>> {
@@ -152,7 +152,7 @@ pub fn take_all(table: &Table, random: &mut Random, both: &mut Both) -> Vec<Vec<
             take(both, number, block, [0, 1, 0, 0, 0, 0]);
         }
     }
-    if blocks.len() == MOST_BLOCKS {
+    if blocks.len() == MAX_BLOCKS {
         refuse_one_more(both);
     }
     blocks
@@ -160,7 +160,7 @@ pub fn take_all(table: &Table, random: &mut Random, both: &mut Both) -> Vec<Vec<
 
 /// A full journal takes no more, not even an empty block.
 fn refuse_one_more(both: &mut Both) {
-    let number = MOST_BLOCKS as u64;
+    let number = MAX_BLOCKS as u64;
     for block in [&[][..], &[1, 1, 2, 0]] {
         take(both, number, block, refusal(refused(8)));
     }
@@ -210,12 +210,12 @@ fn complete(completing: Completing, wanted: &Sum, vertices: usize, laid: u64, bo
 }
 
 /// Where more edges are missing, the reference takes its time: some starts are completed shuffled too.
-const MOST_SHUFFLED: u64 = 200;
+const MAX_SHUFFLED: u64 = 200;
 
 /// Completes in either way, and checks the graph by its list too, and by the list's survey and text.
 fn finish(wanted: &Sum, vertices: usize, laid: u64, random: &mut Random, both: &mut Both) {
     let edges = wanted.edges();
-    if edges - laid <= MOST_SHUFFLED || random.chance(20) {
+    if edges - laid <= MAX_SHUFFLED || random.chance(20) {
         let start = both.adjacency.clone();
         let shuffled = Completing::any_shuffled(random);
         complete(shuffled, wanted, vertices, laid, both);

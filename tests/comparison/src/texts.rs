@@ -6,7 +6,7 @@ use reference::graph6;
 use reference::graphs::pairs;
 use reference::numbers::Numbers;
 use replica::raw::{self, ReplicaAnswer};
-use replica::{MOST_RECORDS, RECORD_LENGTH};
+use replica::{MAX_RECORDS, RECORD_BYTES};
 
 named_counts! {
     /// Calls that write and read graph6, by what they were given.
@@ -165,7 +165,7 @@ impl Texts {
 
 /// A survey of the same list is refused with 19 exactly where writing it is, at the same place.
 fn surveyed_alike(edges: &[u8], total: u64, numbers: &Numbers) -> Result<ReplicaAnswer, String> {
-    let mut records = [0; RECORD_LENGTH * MOST_RECORDS];
+    let mut records = [0; RECORD_BYTES * MAX_RECORDS];
     let surveyed = raw::jdm_of_edges(edges, total, &mut records);
     let alike = match surveyed.number {
         19 => *numbers == surveyed.numbers(),

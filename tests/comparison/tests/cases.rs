@@ -7,8 +7,8 @@ use reference::Table;
 use replica::{block, graph6_read, graph6_write, jdm_of_edges};
 use replica::{Cause, Completion, Drawn, Join, Joins, NotDrawn, Record, Records, Refusal};
 use replica::{State, Switch, Take};
-use replica::{BLOCK_LENGTH, JOIN_RECORD_LENGTH, RECORD_LENGTH};
-use replica::{MOST_EDGES, MOST_GRAPH6, MOST_PAIRS, MOST_RECORDS};
+use replica::{MAX_BLOCK_BYTES, JOIN_RECORD_BYTES, RECORD_BYTES};
+use replica::{MAX_EDGES, MAX_GRAPH6_BYTES, MAX_PAIRS, MAX_RECORDS};
 use std::collections::BTreeSet;
 use std::error::Error;
 
@@ -109,7 +109,7 @@ fn records_of_a_square() {
     ];
     let mut state = laid(&SQUARE);
     let mut output = [7; 40];
-    for length in 0..4 * JOIN_RECORD_LENGTH {
+    for length in 0..4 * JOIN_RECORD_BYTES {
         let refusal = state.complete_into(&mut output[..length]).unwrap_err();
         assert_eq!(refusal.cause, Cause::OutputTooShort);
     }
@@ -143,7 +143,7 @@ fn a_shuffled_square() {
     let empty = laid(&SQUARE);
     let mut state = empty.clone();
     let mut output = [7; 40];
-    for length in 0..4 * JOIN_RECORD_LENGTH {
+    for length in 0..4 * JOIN_RECORD_BYTES {
         let refusal = state.complete_shuffled_into(0, &mut output[..length]);
         assert_eq!(refusal.unwrap_err().cause, Cause::OutputTooShort);
         assert_eq!(state, empty);
@@ -192,7 +192,7 @@ fn shuffled_replicas_of_random_graphs() {
         let (done, _) = state.complete_shuffled(random.any() as u32).unwrap();
         assert_eq!(done.joins as usize, graph.edges().len() - before.len());
         play(before, &done, &state);
-        let mut records = [0; RECORD_LENGTH * MOST_RECORDS];
+        let mut records = [0; RECORD_BYTES * MAX_RECORDS];
         let list = state.edges().unwrap();
         let total = graph.vertices() as u64;
         let length = jdm_of_edges(list.as_bytes(), total, &mut records).unwrap();
@@ -222,7 +222,7 @@ fn switches_of_a_join() {
 #[test]
 fn the_most_records_of_completing() {
     let mut state = laid(&[(40, 40, 8_000)]);
-    let mut output = vec![0; MOST_EDGES * JOIN_RECORD_LENGTH];
+    let mut output = vec![0; MAX_EDGES * JOIN_RECORD_BYTES];
     let last = output.len() - 1;
     let refusal = state.complete_into(&mut output[..last]).unwrap_err();
     assert_eq!(refusal.cause, Cause::OutputTooShort);
@@ -347,7 +347,7 @@ fn a_survey_gives_the_table_back() {
         let total = state.lay_out().unwrap();
         state.complete().unwrap();
         let list = state.edges().unwrap();
-        let mut output = vec![0; MOST_RECORDS * RECORD_LENGTH];
+        let mut output = vec![0; MAX_RECORDS * RECORD_BYTES];
         let length = jdm_of_edges(list.as_bytes(), total, &mut output).unwrap();
         let records: Vec<Record> = Records::new(&output[..length]).collect();
         let sent: Vec<Record> = cells
@@ -364,13 +364,13 @@ fn a_survey_gives_the_table_back() {
 fn the_longest_survey() {
     let table = Table::new(every_cell(), 2);
     let mut state = State::new();
-    for (number, block) in (0..).zip(table.records().chunks(BLOCK_LENGTH)) {
+    for (number, block) in (0..).zip(table.records().chunks(MAX_BLOCK_BYTES)) {
         state.take_block(number, block).unwrap();
     }
     assert_eq!(state.lay_out(), Ok(200));
     state.complete().unwrap();
     let list = state.edges().unwrap();
-    let mut output = vec![0; MOST_RECORDS * RECORD_LENGTH];
+    let mut output = vec![0; MAX_RECORDS * RECORD_BYTES];
     let last = output.len() - 1;
     let refusal = jdm_of_edges(list.as_bytes(), 200, &mut output[..last]);
     assert_eq!(refusal.unwrap_err().cause, Cause::OutputTooShort);
@@ -419,16 +419,16 @@ fn the_longest_text() {
     let edges: Vec<u8> = (0..200)
         .flat_map(|v| (v + 1..200).flat_map(move |w| [v, w]))
         .collect();
-    assert_eq!(edges.len(), 2 * MOST_PAIRS);
-    let mut text = vec![0; MOST_GRAPH6];
+    assert_eq!(edges.len(), 2 * MAX_PAIRS);
+    let mut text = vec![0; MAX_GRAPH6_BYTES];
     let refusal = graph6_write(&edges, 200, &mut text[1..]).unwrap_err();
     assert_eq!(refusal.cause, Cause::OutputTooShort);
-    assert_eq!(graph6_write(&edges, 200, &mut text), Ok(MOST_GRAPH6));
+    assert_eq!(graph6_write(&edges, 200, &mut text), Ok(MAX_GRAPH6_BYTES));
     assert!(text.starts_with(b"~?BG~~~"));
-    let mut list = vec![0; 2 * MOST_PAIRS];
+    let mut list = vec![0; 2 * MAX_PAIRS];
     let refusal = graph6_read(&text, &mut list[1..]).unwrap_err();
     assert_eq!(refusal.cause, Cause::OutputTooShort);
-    assert_eq!(graph6_read(&text, &mut list), Ok((2 * MOST_PAIRS, 200)));
+    assert_eq!(graph6_read(&text, &mut list), Ok((2 * MAX_PAIRS, 200)));
     assert_eq!(list, edges);
 }
 
@@ -626,7 +626,7 @@ fn drawings_of_random_graphs() {
 
 fn laid_for(graph: &Graph) -> State {
     let mut state = State::new();
-    for (number, block) in (0..).zip(graph.table().records().chunks(BLOCK_LENGTH)) {
+    for (number, block) in (0..).zip(graph.table().records().chunks(MAX_BLOCK_BYTES)) {
         state.take_block(number, block).unwrap();
     }
     state.lay_out().unwrap();

@@ -4,7 +4,7 @@
 use comparison::both::Both;
 use comparison::call::{on_library, Call, Completing};
 use reference::journal::{record, slot_start};
-use reference::{refused, validity, ADJACENCY_LENGTH, JOURNAL_LENGTH};
+use reference::{refused, validity, ADJACENCY_BYTES, JOURNAL_BYTES};
 
 /// A call of each entry that checks validity. On a valid state none of them is refused with 2.
 fn calls() -> [Call; 9] {
@@ -54,7 +54,7 @@ fn every_byte_of_the_matrix() {
     for both in states() {
         let (mut journal, mut adjacency) = (both.journal, both.adjacency);
         let before = journal.clone();
-        for place in 0..ADJACENCY_LENGTH {
+        for place in 0..ADJACENCY_BYTES {
             adjacency[place] = [1, 2, 128, 255][place % 4];
             let damaged = adjacency.clone();
             for call in calls() {
@@ -73,9 +73,9 @@ fn every_byte_of_the_matrix() {
 /// The same through the comparison, on some of the bytes and on pairs that mirror each other.
 #[test]
 fn bytes_of_the_matrix_on_both_sides() {
-    let last = ADJACENCY_LENGTH - 1;
+    let last = ADJACENCY_BYTES - 1;
     for mut both in states() {
-        let places = (0..ADJACENCY_LENGTH).step_by(997);
+        let places = (0..ADJACENCY_BYTES).step_by(997);
         for place in places.chain([1, 199, 200, last - 200, last - 1, last]) {
             let mut adjacency = both.adjacency.clone();
             adjacency[place] = 1;
@@ -96,7 +96,7 @@ fn every_byte_of_the_journal() {
     for mut both in states() {
         let blocks = both.journal[1] as usize;
         let (mut valid, mut refused) = (0, 0);
-        for place in 0..JOURNAL_LENGTH {
+        for place in 0..JOURNAL_BYTES {
             // A length of 4 becomes 0, with a record still behind it; one of 0 becomes 4.
             for byte in [both.journal[place] ^ 1, both.journal[place] ^ 4, 255] {
                 let mut journal = both.journal.clone();

@@ -15,8 +15,8 @@ use reference::{graph6, refused, refused_at};
 /// The four edges of document 004's table, as document 01 lists them.
 const PAPER: [u8; 8] = [0, 3, 1, 2, 1, 3, 2, 3];
 /// The longest text, and the longest list read from one.
-const MOST_TEXT: usize = 3_321;
-const MOST_LIST: usize = 39_800;
+const MAX_TEXT_BYTES: usize = 3_321;
+const MAX_LIST_BYTES: usize = 39_800;
 
 fn small_graphs(vertices: usize) -> impl Iterator<Item = Graph> {
     (0..1 << pairs(vertices)).map(move |bits| graphs::from_bits(vertices, bits))
@@ -53,8 +53,8 @@ fn the_largest_graphs() {
             assert_eq!(text.len(), text_length(vertices));
         }
     }
-    assert_eq!(text_length(200), MOST_TEXT);
-    assert_eq!(2 * pairs(200), MOST_LIST);
+    assert_eq!(text_length(200), MAX_TEXT_BYTES);
+    assert_eq!(2 * pairs(200), MAX_LIST_BYTES);
 }
 
 /// How many of all texts that differ from this one in one place at most are accepted, each place
@@ -251,9 +251,9 @@ fn the_order_of_checks() {
     assert_eq!(answer(&PAPER, 4, 2), [0, 2, 0, 0, 0, 0]);
     assert_eq!(answer(&[], 0, 0), refused(18));
     assert_eq!(answer(&[], 0, 1), [0, 1, 0, 0, 0, 0]);
-    assert_eq!(answer(&[], 200, MOST_TEXT - 1), refused(18));
-    assert_eq!(answer(&[], 200, MOST_TEXT), [0, 3_321, 0, 0, 0, 0]);
-    assert_eq!(answer(&[], 201, MOST_TEXT), refused(19));
+    assert_eq!(answer(&[], 200, MAX_TEXT_BYTES - 1), refused(18));
+    assert_eq!(answer(&[], 200, MAX_TEXT_BYTES), [0, 3_321, 0, 0, 0, 0]);
+    assert_eq!(answer(&[], 201, MAX_TEXT_BYTES), refused(19));
 
     let mut answer = |text: &[u8], length| read(text, vec![9; length], &mut both);
     assert_eq!(answer(b"~~", 0), refused(22));
@@ -288,7 +288,7 @@ fn lists_of_two_edges() {
 fn totals_of_64_bits() {
     let mut both = Both::without_state("totals of 64 bits");
     for total in [8, 16, 32, 48, 63].map(|bit| (1 << bit) + 4) {
-        for length in [0, 2, MOST_TEXT] {
+        for length in [0, 2, MAX_TEXT_BYTES] {
             let answer = write(&PAPER, total, vec![9; length], &mut both);
             assert_eq!(answer, refused(19), "{total}");
         }

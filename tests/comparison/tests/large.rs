@@ -7,12 +7,12 @@ use reference::journal::record;
 use reference::numbers::Numbers;
 use reference::random::Random;
 use reference::refused_at as refused;
-use reference::{Matrix, BLOCK_LENGTH, MOST_BLOCKS, MOST_DEGREE};
+use reference::{Matrix, MAX_BLOCK_BYTES, MAX_BLOCKS, MAX_DEGREE};
 
-const MOST_RECORDS: u64 = (MOST_BLOCKS * BLOCK_LENGTH / 4) as u64;
-const MOST_COUNT: u64 = 65_535;
+const MAX_JOURNAL_RECORDS: u64 = (MAX_BLOCKS * MAX_BLOCK_BYTES / 4) as u64;
+const MAX_COUNT: u64 = 65_535;
 /// The largest sum of records, all in one cell.
-const MOST_SUM: u64 = MOST_RECORDS * MOST_COUNT;
+const MAX_SUM: u64 = MAX_JOURNAL_RECORDS * MAX_COUNT;
 
 type Cells = [(usize, usize, u64)];
 
@@ -22,12 +22,12 @@ fn answer(cells: &Cells) -> Numbers {
     for &(k, l, count) in cells {
         let mut left = count;
         while left > 0 {
-            records.extend(record(k, l, left.min(MOST_COUNT)));
-            left -= left.min(MOST_COUNT);
+            records.extend(record(k, l, left.min(MAX_COUNT)));
+            left -= left.min(MAX_COUNT);
         }
     }
     let mut both = Both::new("large");
-    for (number, block) in (0..).zip(records.chunks(BLOCK_LENGTH)) {
+    for (number, block) in (0..).zip(records.chunks(MAX_BLOCK_BYTES)) {
         let block = block.to_vec();
         let answer = both.call(Call::TakeBlock { number, block });
         assert_eq!(answer, [0, 0, number + 1, 0, 0, 0]);
@@ -38,7 +38,7 @@ fn answer(cells: &Cells) -> Numbers {
 /// The first cell that test 11 would refuse if its products were kept in 32 bits.
 fn refused_in_32_bits(cells: &Cells) -> Option<(usize, usize)> {
     let matrix = Matrix::of(cells);
-    let mut pairs = (1..=MOST_DEGREE).flat_map(|k| (k..=MOST_DEGREE).map(move |l| (k, l)));
+    let mut pairs = (1..=MAX_DEGREE).flat_map(|k| (k..=MAX_DEGREE).map(move |l| (k, l)));
     pairs.find(|&(k, l)| matrix.cell(k, l) > matrix.most(k, l) % (1 << 32))
 }
 
@@ -69,11 +69,11 @@ fn the_largest_cells() {
         (40, 40),
         (20, 40),
     ] {
-        let count = MOST_SUM / step(k, l) * step(k, l);
+        let count = MAX_SUM / step(k, l) * step(k, l);
         assert_eq!(answer(&[(k, l, count)]), refused(12, 0, 0), "{k} {l}");
     }
-    assert_eq!(answer(&[(1, 1, MOST_SUM)]), refused(12, 0, 0));
-    assert_eq!(answer(&[(3, 3, MOST_SUM)])[0], 12);
+    assert_eq!(answer(&[(1, 1, MAX_SUM)]), refused(12, 0, 0));
+    assert_eq!(answer(&[(3, 3, MAX_SUM)])[0], 12);
 }
 
 /// Cells on both sides of 2^32, and those whose product would wrap below the cell or not.
@@ -120,8 +120,8 @@ fn many_isolated_vertices() {
         65_536 + 200,
         3 * 65_536 + 1,
         1 << 24,
-        MOST_SUM - 1,
-        MOST_SUM,
+        MAX_SUM - 1,
+        MAX_SUM,
     ] {
         assert_eq!(answer(&[(0, 0, count)]), refused(12, 0, 0), "{count}");
     }
@@ -131,13 +131,13 @@ fn many_isolated_vertices() {
         assert_eq!(answer(&cells), refused(12, 0, 0), "{count}");
     }
     // The other tests come first.
-    let most = MOST_SUM - MOST_COUNT;
+    let most = MAX_SUM - MAX_COUNT;
     assert_eq!(answer(&[(0, 0, most), (2, 2, 5)]), refused(9, 2, 2));
     assert_eq!(answer(&[(0, 0, most), (1, 3, 1)]), refused(10, 3, 0));
     assert_eq!(answer(&[(0, 0, most), (2, 2, 4)]), refused(11, 2, 2));
     assert_eq!(answer(&[(0, 0, most), (2, 2, 8)]), refused(12, 0, 0));
     // Both near what a journal holds: half of the records each.
-    let half = MOST_SUM / 2;
+    let half = MAX_SUM / 2;
     assert_eq!(answer(&[(0, 0, half), (1, 1, half)]), refused(12, 0, 0));
 }
 
@@ -158,15 +158,15 @@ fn random_tables() {
     let mut told_apart = 0;
     for _ in 0..300 {
         let mut cells = Vec::new();
-        let mut records = MOST_RECORDS;
+        let mut records = MAX_JOURNAL_RECORDS;
         for _ in 0..random.between(1, 4) {
             let (k, l) = (
-                random.between(1, MOST_DEGREE),
-                random.between(1, MOST_DEGREE),
+                random.between(1, MAX_DEGREE),
+                random.between(1, MAX_DEGREE),
             );
             let (k, l) = (k.min(l), k.max(l));
             let step = step(k, l);
-            let most = random.below(records as usize + 1) as u64 * MOST_COUNT / step;
+            let most = random.below(records as usize + 1) as u64 * MAX_COUNT / step;
             // Powers of two wrap furthest.
             let steps = match random.below(3) {
                 0 => most,
@@ -175,7 +175,7 @@ fn random_tables() {
             };
             let count = steps * step;
             cells.push((k, l, count));
-            records -= count.div_ceil(MOST_COUNT);
+            records -= count.div_ceil(MAX_COUNT);
         }
         let answer = answer(&cells);
         let wrapped = match refused_in_32_bits(&cells) {

@@ -5,7 +5,7 @@ use comparison::call::{room, Call, Completing};
 use reference::journal::record;
 use reference::numbers::Numbers;
 use reference::refused_at as refused;
-use reference::{ADJACENCY_LENGTH, JOURNAL_LENGTH};
+use reference::{ADJACENCY_BYTES, JOURNAL_BYTES};
 
 const DONE: [u64; 6] = [0; 6];
 /// An edge added without a switch.
@@ -611,12 +611,12 @@ fn lengths() {
         Call::Figures,
     ];
     let lengths = [
-        (JOURNAL_LENGTH - 1, ADJACENCY_LENGTH),
-        (JOURNAL_LENGTH + 1, ADJACENCY_LENGTH),
-        (JOURNAL_LENGTH, ADJACENCY_LENGTH - 1),
-        (JOURNAL_LENGTH, ADJACENCY_LENGTH + 1),
+        (JOURNAL_BYTES - 1, ADJACENCY_BYTES),
+        (JOURNAL_BYTES + 1, ADJACENCY_BYTES),
+        (JOURNAL_BYTES, ADJACENCY_BYTES - 1),
+        (JOURNAL_BYTES, ADJACENCY_BYTES + 1),
         (0, 0),
-        (ADJACENCY_LENGTH, JOURNAL_LENGTH),
+        (ADJACENCY_BYTES, JOURNAL_BYTES),
     ];
     for call in calls {
         for (journal, adjacency) in lengths {
@@ -627,7 +627,7 @@ fn lengths() {
                 assert_eq!(answer, refused(1, 0, 0), "{call:?}");
             }
         }
-        let (journal, adjacency) = (vec![7; JOURNAL_LENGTH], vec![7; ADJACENCY_LENGTH]);
+        let (journal, adjacency) = (vec![7; JOURNAL_BYTES], vec![7; ADJACENCY_BYTES]);
         match call {
             Call::Clear => assert_eq!(both.call_on(journal, adjacency, call), DONE),
             _ => assert_eq!(both.call_on(journal, adjacency, call), refused(2, 0, 0)),
@@ -661,7 +661,7 @@ fn either_way(length: usize) -> [(usize, Completing); 2] {
 
 fn damage(both: &mut Both) {
     let near: Vec<usize> = (0..80).chain([2 + 65, 66, 67, 68, 131, 132]).collect();
-    let far = [JOURNAL_LENGTH - 66, JOURNAL_LENGTH - 65, JOURNAL_LENGTH - 1];
+    let far = [JOURNAL_BYTES - 66, JOURNAL_BYTES - 65, JOURNAL_BYTES - 1];
     for place in near.into_iter().chain(far) {
         for byte in [0, 1, 2, 4, 8, 40, 41, 64, 65, 255] {
             let mut journal = both.journal.clone();

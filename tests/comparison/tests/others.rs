@@ -4,7 +4,7 @@
 
 use reference::graphs::{self, pairs, Graph};
 use reference::random::Random;
-use replica::{graph6_read, graph6_write, MOST_GRAPH6, MOST_PAIRS};
+use replica::{graph6_read, graph6_write, MAX_GRAPH6_BYTES, MAX_PAIRS};
 use std::io::Write;
 use std::process::{Command, Stdio};
 use std::thread;
@@ -176,7 +176,7 @@ fn parsed(printed: &[u8]) -> Vec<Graph> {
 
 /// What the library writes.
 fn written(graph: &Graph) -> Vec<u8> {
-    let mut text = vec![0; MOST_GRAPH6];
+    let mut text = vec![0; MAX_GRAPH6_BYTES];
     let total = graph.vertices() as u64;
     let length = graph6_write(&graph.edge_list(), total, &mut text).expect("a graph");
     text.truncate(length);
@@ -185,7 +185,7 @@ fn written(graph: &Graph) -> Vec<u8> {
 
 /// What the library reads.
 fn read(text: &[u8]) -> Graph {
-    let mut edges = vec![0; 2 * MOST_PAIRS];
+    let mut edges = vec![0; 2 * MAX_PAIRS];
     let (length, total) = graph6_read(text, &mut edges).expect("a text");
     let mut graph = Graph::new(total as usize);
     for edge in edges[..length].chunks(2) {

@@ -1,9 +1,9 @@
 //! The adjacency matrix (document 01: the grid): byte v × 200 + w is 1 if v and w are joined.
 
-use crate::{Matrix, MOST_VERTICES};
+use crate::{Matrix, MAX_VERTICES};
 
 pub fn place(v: usize, w: usize) -> usize {
-    v * MOST_VERTICES + w
+    v * MAX_VERTICES + w
 }
 
 pub fn joined(adjacency: &[u8], v: usize, w: usize) -> bool {
@@ -22,7 +22,7 @@ pub fn remove(adjacency: &mut [u8], v: usize, w: usize) {
 
 /// How many edges v has now.
 pub fn edges_at(adjacency: &[u8], v: usize) -> usize {
-    (0..MOST_VERTICES)
+    (0..MAX_VERTICES)
         .filter(|&w| joined(adjacency, v, w))
         .count()
 }
@@ -30,8 +30,8 @@ pub fn edges_at(adjacency: &[u8], v: usize) -> usize {
 /// All edges (v, w) with v below w, ascending.
 pub fn edges(adjacency: &[u8]) -> Vec<(usize, usize)> {
     let mut edges = Vec::new();
-    for v in 0..MOST_VERTICES {
-        for w in v + 1..MOST_VERTICES {
+    for v in 0..MAX_VERTICES {
+        for w in v + 1..MAX_VERTICES {
             if joined(adjacency, v, w) {
                 edges.push((v, w));
             }
@@ -55,8 +55,8 @@ pub fn counted_at(adjacency: &[u8], degrees: &[usize]) -> Matrix {
 
 /// Symmetric, 0 or 1, with a zero diagonal, and zero outside the first `vertices` rows and columns.
 pub fn well_formed(adjacency: &[u8], vertices: usize) -> bool {
-    for v in 0..MOST_VERTICES {
-        for w in 0..MOST_VERTICES {
+    for v in 0..MAX_VERTICES {
+        for w in 0..MAX_VERTICES {
             let byte = adjacency[place(v, w)];
             if byte > 1 || byte != adjacency[place(w, v)] {
                 return false;

@@ -5,7 +5,7 @@ use crate::graphs::Graph;
 use crate::switching::{self, Join, Switch};
 use crate::{
     adjacency, graph6, join_record, journal, refused, refused_at, shuffling, validity, Matrix,
-    Refused, Table, ADJACENCY_LENGTH, JOURNAL_LENGTH, MOST_BLOCKS, MOST_DEGREE, MOST_VERTICES,
+    Refused, Table, ADJACENCY_BYTES, JOURNAL_BYTES, MAX_BLOCKS, MAX_DEGREE, MAX_VERTICES,
 };
 
 /// What taking a block answers when it is not refused.
@@ -38,7 +38,7 @@ pub struct Figures {
 
 /// Check 1: both lengths, before any byte is looked at.
 fn check_lengths(journal: &[u8], adjacency: &[u8]) -> Result<(), Refused> {
-    if journal.len() != JOURNAL_LENGTH || adjacency.len() != ADJACENCY_LENGTH {
+    if journal.len() != JOURNAL_BYTES || adjacency.len() != ADJACENCY_BYTES {
         return Err(refused(1));
     }
     Ok(())
@@ -112,7 +112,7 @@ pub fn take_block(
     if journal::phase(journal) == journal::LAID {
         return Err(refused(3));
     }
-    if blocks == MOST_BLOCKS {
+    if blocks == MAX_BLOCKS {
         return Err(refused(8));
     }
     let start = journal::slot_start(blocks);
@@ -242,7 +242,7 @@ pub fn jdm_of_edges(edges: &[u8], total: u64, output: &mut [u8]) -> Result<u64, 
         pairs.iter().filter(at).count()
     };
     let degrees: Vec<usize> = (0..total as usize).map(degree_of).collect();
-    if let Some(vertex) = degrees.iter().position(|&degree| degree > MOST_DEGREE) {
+    if let Some(vertex) = degrees.iter().position(|&degree| degree > MAX_DEGREE) {
         return Err(refused_at(20, vertex as u64, 0));
     }
     let mut matrix = Matrix::new();
@@ -256,7 +256,7 @@ pub fn jdm_of_edges(edges: &[u8], total: u64, output: &mut [u8]) -> Result<u64, 
 /// Check 19: a total of at most 200, then a whole number of edges, each with v below w below the total
 /// and above the edge before it.
 fn check_edges(edges: &[u8], total: u64) -> Result<Vec<(usize, usize)>, Refused> {
-    if total > MOST_VERTICES as u64 {
+    if total > MAX_VERTICES as u64 {
         return Err(refused(19));
     }
     if edges.len() % 2 != 0 {

@@ -3,14 +3,14 @@
 //! more.
 
 use crate::graphs::Graph;
-use crate::{refused, Refused, MOST_VERTICES};
+use crate::{refused, Refused, MAX_VERTICES};
 
 /// Added to six bits, so that bytes are 63 to 126.
 const BASE: u8 = 63;
 /// The first byte of a size in its longer form.
 const LONG: u8 = 126;
 /// The largest size that has the shorter form: 6 bits instead of 18.
-const MOST_SHORT: usize = 62;
+const MAX_SHORT: usize = 62;
 
 /// The graph's text.
 pub fn text(graph: &Graph) -> Vec<u8> {
@@ -39,7 +39,7 @@ fn columns(vertices: usize) -> Vec<(usize, usize)> {
 
 /// The bytes of a size: a single one, or byte 126 and three.
 fn size(vertices: usize) -> Vec<u8> {
-    if vertices <= MOST_SHORT {
+    if vertices <= MAX_SHORT {
         return bytes(&binary(vertices, 6));
     }
     [vec![LONG], bytes(&binary(vertices, 18))].concat()
@@ -80,7 +80,7 @@ fn bits(bytes: &[u8]) -> Option<Vec<bool>> {
 fn too_large(text: &[u8]) -> bool {
     match *text {
         [LONG, LONG, ..] => true,
-        [LONG, a, b, c, ..] => bits(&[a, b, c]).is_some_and(|bits| number(&bits) > MOST_VERTICES),
+        [LONG, a, b, c, ..] => bits(&[a, b, c]).is_some_and(|bits| number(&bits) > MAX_VERTICES),
         _ => false,
     }
 }
@@ -93,7 +93,7 @@ fn well_formed(text: &[u8]) -> Option<Graph> {
         _ => text.split_at_checked(1)?,
     };
     let vertices = number(&bits(size)?);
-    let needed = if size.len() == 1 { 0 } else { MOST_SHORT + 1 };
+    let needed = if size.len() == 1 { 0 } else { MAX_SHORT + 1 };
     let columns = columns(vertices);
     if vertices < needed || triangle.len() != columns.len().div_ceil(6) {
         return None;

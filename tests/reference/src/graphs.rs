@@ -2,7 +2,7 @@
 //! realizable without any of the tests of document 01.
 
 use crate::random::Random;
-use crate::{adjacency, Matrix, Table, ADJACENCY_LENGTH, MOST_DEGREE, MOST_VERTICES};
+use crate::{adjacency, Matrix, Table, ADJACENCY_BYTES, MAX_DEGREE, MAX_VERTICES};
 use std::collections::BTreeSet;
 
 /// A simple graph: edges (v, w) with v below w.
@@ -139,7 +139,7 @@ impl Graph {
 
     /// The bytes of its adjacency matrix.
     pub fn adjacency(&self) -> Vec<u8> {
-        let mut bytes = vec![0; ADJACENCY_LENGTH];
+        let mut bytes = vec![0; ADJACENCY_BYTES];
         for &(v, w) in &self.edges {
             adjacency::insert(&mut bytes, v, w);
         }
@@ -197,7 +197,7 @@ fn join_at_random(graph: &mut Graph, caps: &[usize], edges: usize, random: &mut 
 /// About `edges` edges spread evenly, no degree above 40.
 pub fn even(vertices: usize, edges: usize, random: &mut Random) -> Graph {
     let mut graph = Graph::new(vertices);
-    join_at_random(&mut graph, &vec![MOST_DEGREE; vertices], edges, random);
+    join_at_random(&mut graph, &vec![MAX_DEGREE; vertices], edges, random);
     graph
 }
 
@@ -229,7 +229,7 @@ pub fn hubs(vertices: usize, each: usize, random: &mut Random) -> Graph {
     for v in 1..vertices {
         for _ in 0..each {
             let w = *random.pick(&ends);
-            let room = degrees[v] < MOST_DEGREE && degrees[w] < MOST_DEGREE;
+            let room = degrees[v] < MAX_DEGREE && degrees[w] < MAX_DEGREE;
             if w != v && room && !graph.joined(v, w) {
                 graph.join(v, w);
                 degrees[v] += 1;
@@ -248,7 +248,7 @@ pub fn bipartite(left: usize, right: usize, percent: usize, random: &mut Random)
     let mut degrees = vec![0; left + right];
     for v in 0..left {
         for w in left..left + right {
-            let room = degrees[v] < MOST_DEGREE && degrees[w] < MOST_DEGREE;
+            let room = degrees[v] < MAX_DEGREE && degrees[w] < MAX_DEGREE;
             if room && random.chance(percent) {
                 graph.join(v, w);
                 degrees[v] += 1;
@@ -287,7 +287,7 @@ pub fn cliques(vertices: usize, size: usize) -> Graph {
 /// A random graph of any of the kinds above with at most `most` vertices, widened in every second
 /// case by isolated ones.
 pub fn any(most: usize, random: &mut Random) -> Graph {
-    let most = most.min(MOST_VERTICES);
+    let most = most.min(MAX_VERTICES);
     let vertices = random.between(2, most);
     let graph = any_kind(vertices, random);
     match random.below(8) {
@@ -304,7 +304,7 @@ fn any_kind(vertices: usize, random: &mut Random) -> Graph {
             even(vertices, edges, random)
         }
         1 => {
-            let highest = random.between(1, MOST_DEGREE.min(vertices));
+            let highest = random.between(1, MAX_DEGREE.min(vertices));
             spread(vertices, highest, random)
         }
         2 => {

@@ -44,19 +44,19 @@ pub use switching::Switch;
 pub use table::Table;
 
 /// Bytes of a journal: phase, block count, and 64 slots of one length byte and 64 bytes.
-pub const JOURNAL_LENGTH: usize = 4162;
+pub const JOURNAL_BYTES: usize = 4162;
 /// Bytes of an adjacency matrix: 200 rows of 200 bytes.
-pub const ADJACENCY_LENGTH: usize = 40_000;
+pub const ADJACENCY_BYTES: usize = 40_000;
 /// Most blocks in a journal.
-pub const MOST_BLOCKS: usize = 64;
+pub const MAX_BLOCKS: usize = 64;
 /// Most bytes in a block.
-pub const BLOCK_LENGTH: usize = 64;
+pub const MAX_BLOCK_BYTES: usize = 64;
 /// Most vertices in a state, and the width of an adjacency row.
-pub const MOST_VERTICES: usize = 200;
+pub const MAX_VERTICES: usize = 200;
 /// Highest degree.
-pub const MOST_DEGREE: usize = 40;
+pub const MAX_DEGREE: usize = 40;
 /// Most edges in a state: 200 vertices of degree 40.
-pub const MOST_EDGES: usize = MOST_VERTICES * MOST_DEGREE / 2;
+pub const MAX_EDGES: usize = MAX_VERTICES * MAX_DEGREE / 2;
 
 /// A refusal: its number in document 01 and its two places, 0 where none is named.
 #[derive(Clone, Copy, Debug, PartialEq, Eq)]

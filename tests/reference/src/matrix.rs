@@ -1,12 +1,12 @@
 //! The joint degree matrix (document 01: the table).
 
-use crate::{refused_at, Refused, MOST_DEGREE};
+use crate::{refused_at, Refused, MAX_DEGREE};
 
 /// Cell (k, l) counts the edges between a vertex of degree k and one of degree l; cell (k, k)
 /// counts each of its edges twice. Row and column 0 are unused and stay 0.
 #[derive(Clone, Debug, PartialEq, Eq, PartialOrd, Ord)]
 pub struct Matrix {
-    cells: [[u64; MOST_DEGREE + 1]; MOST_DEGREE + 1],
+    cells: [[u64; MAX_DEGREE + 1]; MAX_DEGREE + 1],
 }
 
 impl Default for Matrix {
@@ -19,7 +19,7 @@ impl Matrix {
     /// All cells 0.
     pub fn new() -> Matrix {
         Matrix {
-            cells: [[0; MOST_DEGREE + 1]; MOST_DEGREE + 1],
+            cells: [[0; MAX_DEGREE + 1]; MAX_DEGREE + 1],
         }
     }
 
@@ -68,7 +68,7 @@ impl Matrix {
 
     /// The number of edges: half the sum of all cells, (k, l) and (l, k) both counted.
     pub fn edge_count(&self) -> u64 {
-        let sum: u64 = (1..=MOST_DEGREE).map(|k| self.row_sum(k)).sum();
+        let sum: u64 = (1..=MAX_DEGREE).map(|k| self.row_sum(k)).sum();
         sum / 2
     }
 
@@ -87,18 +87,18 @@ impl Matrix {
 
     /// Tests 9 to 11, each over all cells before the next begins.
     pub fn check_realizable(&self) -> Result<(), Refused> {
-        for k in 1..=MOST_DEGREE {
+        for k in 1..=MAX_DEGREE {
             if self.cell(k, k) % 2 != 0 {
                 return Err(refused_at(9, k as u64, k as u64));
             }
         }
-        for k in 1..=MOST_DEGREE {
+        for k in 1..=MAX_DEGREE {
             if self.row_sum(k) % k as u64 != 0 {
                 return Err(refused_at(10, k as u64, 0));
             }
         }
-        for k in 1..=MOST_DEGREE {
-            for l in k..=MOST_DEGREE {
+        for k in 1..=MAX_DEGREE {
+            for l in k..=MAX_DEGREE {
                 if self.cell(k, l) > self.most(k, l) {
                     return Err(refused_at(11, k as u64, l as u64));
                 }
@@ -110,8 +110,8 @@ impl Matrix {
     /// The non-zero cells (k, l, count) with k at most l, ascending.
     pub fn nonzero_cells(&self) -> Vec<(usize, usize, u64)> {
         let mut cells = Vec::new();
-        for k in 1..=MOST_DEGREE {
-            for l in k..=MOST_DEGREE {
+        for k in 1..=MAX_DEGREE {
+            for l in k..=MAX_DEGREE {
                 if self.cell(k, l) != 0 {
                     cells.push((k, l, self.cell(k, l)));
                 }

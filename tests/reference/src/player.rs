@@ -3,7 +3,7 @@
 
 use crate::adjacency::place;
 use crate::join_record::{LENGTH, UNUSED};
-use crate::MOST_VERTICES;
+use crate::MAX_VERTICES;
 
 /// What is wrong with a record.
 #[derive(Clone, Copy, Debug, PartialEq, Eq)]
@@ -54,7 +54,7 @@ fn play_record(record: &[u8], adjacency: &mut [u8]) -> Result<(), Fault> {
 /// Turns both bytes of a pair from one value to another. False where one of them has not the first.
 fn turn(adjacency: &mut [u8], v: u8, w: u8, from: u8, to: u8) -> Result<bool, Fault> {
     let (v, w) = (v as usize, w as usize);
-    if v == w || v >= MOST_VERTICES || w >= MOST_VERTICES {
+    if v == w || v >= MAX_VERTICES || w >= MAX_VERTICES {
         return Err(Fault::Malformed);
     }
     let places = [place(v, w), place(w, v)];

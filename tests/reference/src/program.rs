@@ -3,7 +3,7 @@
 use crate::graphs::Graph;
 use crate::{
     add_edge, adjacency, complete, complete_shuffled, graph6, join_record, lay_out, take_block,
-    Refused, ADJACENCY_LENGTH, BLOCK_LENGTH, JOURNAL_LENGTH, MOST_EDGES,
+    Refused, ADJACENCY_BYTES, MAX_BLOCK_BYTES, JOURNAL_BYTES, MAX_EDGES,
 };
 
 /// What the program's arguments ask for.
@@ -118,9 +118,9 @@ pub fn lay_with(
     records: &[u8],
     by_hand: &[(u64, u64)],
 ) -> Result<Laid, Refused> {
-    let mut journal = vec![0; JOURNAL_LENGTH];
-    let mut adjacency = vec![0; ADJACENCY_LENGTH];
-    for (number, block) in records.chunks(BLOCK_LENGTH).enumerate() {
+    let mut journal = vec![0; JOURNAL_BYTES];
+    let mut adjacency = vec![0; ADJACENCY_BYTES];
+    for (number, block) in records.chunks(MAX_BLOCK_BYTES).enumerate() {
         take_block(&mut journal, &adjacency, number as u64, block)?;
     }
     let vertices = lay_out(&mut journal, &adjacency)?;
@@ -128,7 +128,7 @@ pub fn lay_with(
         add_edge(&journal, &mut adjacency, v, w)?;
     }
     // Room for any completion.
-    let mut records = vec![0; join_record::LENGTH * MOST_EDGES];
+    let mut records = vec![0; join_record::LENGTH * MAX_EDGES];
     let done = match shuffle {
         None => complete(&journal, &mut adjacency, &mut records)?,
         Some(x) => complete_shuffled(&journal, &mut adjacency, x, &mut records)?.0,

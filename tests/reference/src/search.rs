@@ -3,7 +3,7 @@
 //! the way to one.
 
 use crate::graphs::{all_pairs, from_bits, pairs, Graph};
-use crate::{Matrix, Table, MOST_DEGREE};
+use crate::{Matrix, Table, MAX_DEGREE};
 use std::collections::{BTreeMap, BTreeSet};
 
 /// The tables of all graphs on exactly `vertices` vertices.
@@ -83,7 +83,7 @@ impl Partial {
 /// The ends of edges at vertices of degree k number S(k) in any graph that has the matrix, so it
 /// has exactly S(k) / k of them; nothing else of the tests 9 to 11 is used.
 pub fn find_graph(wanted: &Table) -> Option<Graph> {
-    if (1..=MOST_DEGREE).any(|k| wanted.matrix.row_sum(k) % k as u64 != 0) {
+    if (1..=MAX_DEGREE).any(|k| wanted.matrix.row_sum(k) % k as u64 != 0) {
         return None;
     }
     let degrees = wanted.degrees();

@@ -49,7 +49,7 @@ mod tests {
     use super::*;
     use crate::player::play;
     use crate::random::Random;
-    use crate::{graphs, join_record, switching, Switch, ADJACENCY_LENGTH};
+    use crate::{graphs, join_record, switching, Switch, ADJACENCY_BYTES};
 
     #[test]
     fn steps() {
@@ -68,7 +68,7 @@ mod tests {
     /// 43769; 6, 5, 4 and 3 pairs are open.
     #[test]
     fn a_square_from_empty() {
-        let mut adjacency = vec![0; ADJACENCY_LENGTH];
+        let mut adjacency = vec![0; ADJACENCY_BYTES];
         let (joins, last) = complete(&mut adjacency, &Table::of(&[(2, 2, 8)], 0), 0);
         let join = |v, w, switches: &[Switch]| Join {
             v,
@@ -92,7 +92,7 @@ mod tests {
     #[test]
     fn no_choice() {
         for x in [0, 1, u32::MAX] {
-            let mut adjacency = vec![0; ADJACENCY_LENGTH];
+            let mut adjacency = vec![0; ADJACENCY_BYTES];
             let (joins, last) = complete(&mut adjacency, &Table::of(&[(1, 1, 2)], 3), x);
             let pairs: Vec<_> = joins.iter().map(|join| (join.v, join.w)).collect();
             assert_eq!((pairs, last), (vec![(3, 4)], step(x)));
@@ -106,7 +106,7 @@ mod tests {
     fn pairs_of_several_cells() {
         let wanted = Table::of(&[(1, 3, 1), (2, 2, 2), (2, 3, 2)], 0);
         let degrees = wanted.degrees();
-        let mut adjacency = vec![0; ADJACENCY_LENGTH];
+        let mut adjacency = vec![0; ADJACENCY_BYTES];
         let pairs = |adjacency: &[u8]| {
             let counted = adjacency::counted_at(adjacency, &degrees);
             open_pairs(adjacency, &degrees, &counted, &wanted.matrix).collect::<Vec<_>>()
@@ -127,7 +127,7 @@ mod tests {
             let most = if round < 195 { 25 } else { 200 };
             let graph = graphs::any(most, &mut random).by_rising_degree();
             let percent = random.between(0, 100);
-            let mut adjacency = vec![0; ADJACENCY_LENGTH];
+            let mut adjacency = vec![0; ADJACENCY_BYTES];
             for &(v, w) in graph.edges() {
                 if random.chance(percent) {
                     adjacency::insert(&mut adjacency, v, w);

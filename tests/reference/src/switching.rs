@@ -1,6 +1,6 @@
 //! The neighbour switch, adding one edge, and completing, on a valid laid state.
 
-use crate::{adjacency, Matrix, Table, MOST_DEGREE};
+use crate::{adjacency, Matrix, Table, MAX_DEGREE};
 
 /// A neighbour switch that was made: edge a-t was removed and edge b-t added.
 #[derive(Clone, Copy, Debug, PartialEq, Eq)]
@@ -52,8 +52,8 @@ pub fn join(adjacency: &mut [u8], degrees: &[usize], v: usize, w: usize) -> Join
 
 /// The lowest cell (k, l), k at most l, that counts fewer edges than wanted.
 pub fn lowest_short_cell(counted: &Matrix, wanted: &Matrix) -> Option<(usize, usize)> {
-    for k in 1..=MOST_DEGREE {
-        for l in k..=MOST_DEGREE {
+    for k in 1..=MAX_DEGREE {
+        for l in k..=MAX_DEGREE {
             if counted.cell(k, l) < wanted.cell(k, l) {
                 return Some((k, l));
             }

@@ -2,7 +2,7 @@
 //! (document 02, P1: idle boards). Isolated vertices are in no cell.
 
 use crate::journal::record;
-use crate::{refused, Matrix, Refused, MOST_DEGREE, MOST_VERTICES};
+use crate::{refused, Matrix, Refused, MAX_DEGREE, MAX_VERTICES};
 
 #[derive(Clone, Debug, Default, PartialEq, Eq, PartialOrd, Ord)]
 pub struct Table {
@@ -23,14 +23,14 @@ impl Table {
     /// N, the number of vertices: the isolated ones and all D(k).
     pub fn vertex_count(&self) -> u64 {
         let of_degree = |k| self.matrix.vertices_of_degree(k);
-        self.isolated + (1..=MOST_DEGREE).map(of_degree).sum::<u64>()
+        self.isolated + (1..=MAX_DEGREE).map(of_degree).sum::<u64>()
     }
 
     /// Tests 9 to 12; the number of vertices when they all pass.
     pub fn check(&self) -> Result<u64, Refused> {
         self.matrix.check_realizable()?;
         let vertices = self.vertex_count();
-        if vertices > MOST_VERTICES as u64 {
+        if vertices > MAX_VERTICES as u64 {
             return Err(refused(12));
         }
         Ok(vertices)
@@ -40,7 +40,7 @@ impl Table {
     /// Meant for a table that passes [`Table::check`].
     pub fn degrees(&self) -> Vec<usize> {
         let mut degrees = vec![0; self.isolated as usize];
-        for k in 1..=MOST_DEGREE {
+        for k in 1..=MAX_DEGREE {
             for _ in 0..self.matrix.vertices_of_degree(k) {
                 degrees.push(k);
             }

@@ -1,6 +1,6 @@
 //! When journal and adjacency together are a valid state (document 01: a sound bench).
 
-use crate::{adjacency, journal, Matrix, Table, MOST_DEGREE};
+use crate::{adjacency, journal, Matrix, Table, MAX_DEGREE};
 
 /// For a journal and an adjacency matrix of the right lengths.
 pub fn valid(journal: &[u8], adjacency: &[u8]) -> bool {
@@ -26,5 +26,5 @@ fn no_vertex_above_its_degree(degrees: &[usize], adjacency: &[u8]) -> bool {
 }
 
 fn no_cell_above(counted: &Matrix, wanted: &Matrix) -> bool {
-    (0..=MOST_DEGREE).all(|k| (0..=MOST_DEGREE).all(|l| counted.cell(k, l) <= wanted.cell(k, l)))
+    (0..=MAX_DEGREE).all(|k| (0..=MAX_DEGREE).all(|l| counted.cell(k, l) <= wanted.cell(k, l)))
 }

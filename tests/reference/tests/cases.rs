@@ -4,8 +4,8 @@ use reference::journal::record;
 use reference::program::{lay, output, Laid};
 use reference::{
     add_edge, adjacency, clear, complete, edge_list, figures, held_block, jdm_of_edges, lay_out,
-    refused, refused_at, remove_edge, take_block, Refused, Switch, Table, Take, ADJACENCY_LENGTH,
-    JOURNAL_LENGTH,
+    refused, refused_at, remove_edge, take_block, Refused, Switch, Table, Take, ADJACENCY_BYTES,
+    JOURNAL_BYTES,
 };
 
 fn records(cells: &[(usize, usize, u64)]) -> Vec<u8> {
@@ -25,8 +25,8 @@ fn refusal(cells: &[(usize, usize, u64)]) -> Refused {
 
 /// A laid state without edges.
 fn empty(cells: &[(usize, usize, u64)]) -> (Vec<u8>, Vec<u8>) {
-    let mut journal = vec![0; JOURNAL_LENGTH];
-    let adjacency = vec![0; ADJACENCY_LENGTH];
+    let mut journal = vec![0; JOURNAL_BYTES];
+    let adjacency = vec![0; ADJACENCY_BYTES];
     for (number, block) in records(cells).chunks(64).enumerate() {
         take_block(&mut journal, &adjacency, number as u64, block).unwrap();
     }
@@ -159,8 +159,8 @@ fn the_other_named_vertex_may_take_the_edge() {
 /// Wrong turn: evenness tested for each block instead of the sum.
 #[test]
 fn evenness_is_of_the_sum() {
-    let mut journal = vec![0; JOURNAL_LENGTH];
-    let adjacency = vec![0; ADJACENCY_LENGTH];
+    let mut journal = vec![0; JOURNAL_BYTES];
+    let adjacency = vec![0; ADJACENCY_BYTES];
     let taken = take_block(&mut journal, &adjacency, 0, &[2, 2, 3, 0]);
     assert_eq!(taken, Ok(Take::Taken(1)));
     let taken = take_block(&mut journal, &adjacency, 1, &[2, 2, 3, 0]);
@@ -209,8 +209,8 @@ fn a_column_is_visited_again_after_a_switch() {
 
 #[test]
 fn the_largest_sums_do_not_overflow() {
-    let mut journal = vec![0; JOURNAL_LENGTH];
-    let adjacency = vec![0; ADJACENCY_LENGTH];
+    let mut journal = vec![0; JOURNAL_BYTES];
+    let adjacency = vec![0; ADJACENCY_BYTES];
     let block = record(1, 2, 65_535).repeat(16);
     for number in 0..64 {
         let taken = take_block(&mut journal, &adjacency, number, &block);
@@ -223,8 +223,8 @@ fn the_largest_sums_do_not_overflow() {
 
 #[test]
 fn order_of_checks_when_taking() {
-    let adjacency = vec![0; ADJACENCY_LENGTH];
-    let mut journal = vec![0; JOURNAL_LENGTH];
+    let adjacency = vec![0; ADJACENCY_BYTES];
+    let mut journal = vec![0; JOURNAL_BYTES];
     let good = [1, 1, 2, 0];
     let take = |journal: &mut Vec<u8>, number, block: &[u8]| {
         take_block(journal, &adjacency, number, block)
@@ -259,8 +259,8 @@ fn order_of_checks_when_taking() {
 
 #[test]
 fn sixty_four_blocks() {
-    let adjacency = vec![0; ADJACENCY_LENGTH];
-    let mut journal = vec![0; JOURNAL_LENGTH];
+    let adjacency = vec![0; ADJACENCY_BYTES];
+    let mut journal = vec![0; JOURNAL_BYTES];
     let block = [1, 1, 2, 0];
     for number in 0..64 {
         take_block(&mut journal, &adjacency, number, &block).unwrap();
@@ -296,8 +296,8 @@ fn order_of_checks_when_joining() {
 
 #[test]
 fn entries_that_need_vertices() {
-    let journal = vec![0; JOURNAL_LENGTH];
-    let mut adjacency = vec![0; ADJACENCY_LENGTH];
+    let journal = vec![0; JOURNAL_BYTES];
+    let mut adjacency = vec![0; ADJACENCY_BYTES];
     assert_eq!(add_edge(&journal, &mut adjacency, 0, 0), Err(refused(3)));
     assert_eq!(remove_edge(&journal, &mut adjacency, 0, 0), Err(refused(3)));
     let answer = complete(&journal, &mut adjacency, &mut []);
@@ -352,8 +352,8 @@ fn refusals_of_edge_lists() {
 
 #[test]
 fn lengths_come_before_bytes() {
-    let mut journal = vec![7; JOURNAL_LENGTH];
-    let mut adjacency = vec![7; ADJACENCY_LENGTH - 1];
+    let mut journal = vec![7; JOURNAL_BYTES];
+    let mut adjacency = vec![7; ADJACENCY_BYTES - 1];
     assert_eq!(figures(&journal, &adjacency), Err(refused(1)));
     assert_eq!(clear(&mut journal, &mut adjacency), Err(refused(1)));
     adjacency.push(7);
@@ -401,7 +401,7 @@ fn states_that_are_not_valid() {
     journal_with(3, 0);
     journal_with(5, 6); // a triangle has no room for four edges
     journal_with(7, 1); // after the block's length
-    journal_with(JOURNAL_LENGTH - 1, 1);
+    journal_with(JOURNAL_BYTES - 1, 1);
     let adjacency_with = |changes: &[(usize, usize, u8)]| {
         let mut bytes = state.adjacency.clone();
         for &(v, w, byte) in changes {

@@ -5,7 +5,7 @@ use reference::journal::summed_table;
 use reference::program::output;
 use reference::{
     complete, figures, held_block, lay_out, refused, refused_at, take_block, Table, Take,
-    ADJACENCY_LENGTH, JOURNAL_LENGTH,
+    ADJACENCY_BYTES, JOURNAL_BYTES,
 };
 
 /// One edge between two vertices.
@@ -17,8 +17,8 @@ const WITH_EMPTY: [&[u8]; 5] = [&[], &[1, 3, 1, 0, 2, 2, 2, 0], &[], &PAPER[2], 
 
 /// A journal that has taken these blocks, and a matrix without edges.
 fn taken(blocks: &[&[u8]]) -> (Vec<u8>, Vec<u8>) {
-    let mut journal = vec![0; JOURNAL_LENGTH];
-    let adjacency = vec![0; ADJACENCY_LENGTH];
+    let mut journal = vec![0; JOURNAL_BYTES];
+    let adjacency = vec![0; ADJACENCY_BYTES];
     for (number, block) in (0..).zip(blocks) {
         let answer = take_block(&mut journal, &adjacency, number, block);
         assert_eq!(answer, Ok(Take::Taken(number + 1)));
@@ -67,7 +67,7 @@ fn other_lengths() {
 #[test]
 fn sixty_four_of_them() {
     let (mut journal, adjacency) = taken(&[&[][..]; 64]);
-    let mut expected = vec![0; JOURNAL_LENGTH];
+    let mut expected = vec![0; JOURNAL_BYTES];
     expected[1] = 64;
     assert_eq!(journal, expected);
     let mut take = |number, block: &[u8]| take_block(&mut journal, &adjacency, number, block);

@@ -7,14 +7,14 @@ use reference::random::Random;
 use reference::{graph6, graph6_read, graph6_write, jdm_of_edges, refused, refused_at, Refused};
 
 /// The longest text and the longest list read from one: 200 vertices.
-const MOST_TEXT: usize = 3_321;
-const MOST_LIST: usize = 39_800;
+const MAX_TEXT_BYTES: usize = 3_321;
+const MAX_LIST_BYTES: usize = 39_800;
 
 /// The four edges of document 004's table, as document 01 lists them.
 const PAPER: [u8; 8] = [0, 3, 1, 2, 1, 3, 2, 3];
 
 fn written(edges: &[u8], total: u64) -> Result<Vec<u8>, Refused> {
-    let mut output = vec![7; MOST_TEXT + 1];
+    let mut output = vec![7; MAX_TEXT_BYTES + 1];
     let length = graph6_write(edges, total, &mut output)? as usize;
     assert!(output[length..].iter().all(|&byte| byte == 7));
     output.truncate(length);
@@ -22,7 +22,7 @@ fn written(edges: &[u8], total: u64) -> Result<Vec<u8>, Refused> {
 }
 
 fn read(text: &[u8]) -> Result<(Vec<u8>, u64), Refused> {
-    let mut output = vec![7; MOST_LIST + 1];
+    let mut output = vec![7; MAX_LIST_BYTES + 1];
     let (length, total) = graph6_read(text, &mut output)?;
     assert!(output[length as usize..].iter().all(|&byte| byte == 7));
     output.truncate(length as usize);

@@ -5,7 +5,7 @@ use reference::journal::record;
 use reference::program::{lay, output};
 use reference::{
     add_edge, adjacency, complete, edge_list, figures, jdm_of_edges, journal, lay_out, refused,
-    refused_at, remove_edge, take_block, Refused, Table, Take, ADJACENCY_LENGTH, JOURNAL_LENGTH,
+    refused_at, remove_edge, take_block, Refused, Table, Take, ADJACENCY_BYTES, JOURNAL_BYTES,
 };
 
 /// Three isolated vertices and the table of document 004.
@@ -20,8 +20,8 @@ fn empty(records: &[u8]) -> (Vec<u8>, Vec<u8>) {
 
 /// All records taken, in blocks of 16.
 fn taken(records: &[u8]) -> (Vec<u8>, Vec<u8>) {
-    let mut journal = vec![0; JOURNAL_LENGTH];
-    let adjacency = vec![0; ADJACENCY_LENGTH];
+    let mut journal = vec![0; JOURNAL_BYTES];
+    let adjacency = vec![0; ADJACENCY_BYTES];
     for (number, block) in (0..).zip(records.chunks(64)) {
         let answer = take_block(&mut journal, &adjacency, number, block);
         assert_eq!(answer, Ok(Take::Taken(number + 1)));
@@ -45,8 +45,8 @@ fn surveyed(edges: &[u8], total: u64) -> Result<Vec<u8>, Refused> {
 
 #[test]
 fn records_with_a_zero_degree() {
-    let adjacency = vec![0; ADJACENCY_LENGTH];
-    let take = |block: &[u8]| take_block(&mut vec![0; JOURNAL_LENGTH], &adjacency, 0, block);
+    let adjacency = vec![0; ADJACENCY_BYTES];
+    let take = |block: &[u8]| take_block(&mut vec![0; JOURNAL_BYTES], &adjacency, 0, block);
     assert_eq!(take(&[0, 0, 0, 0]), Ok(Take::Taken(1)));
     assert_eq!(take(&[0, 0, 255, 255]), Ok(Take::Taken(1)));
     for bad in [[0, 3, 1, 0], [3, 0, 1, 0], [0, 40, 0, 0], [0, 41, 0, 0]] {

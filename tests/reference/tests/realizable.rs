@@ -5,7 +5,7 @@ use reference::graphs::{self, from_bits};
 use reference::program::{lay, Laid};
 use reference::random::Random;
 use reference::search::{find_graph, matrices_of_all_graphs, tables_of_all_graphs};
-use reference::{adjacency, Matrix, Table, MOST_DEGREE};
+use reference::{adjacency, Matrix, Table, MAX_DEGREE};
 use std::collections::BTreeSet;
 
 const VERTICES: usize = 6;
@@ -155,7 +155,7 @@ fn random_graphs_pass_and_are_completed() {
     for round in 0..60 {
         let graph = graphs::any(if round < 50 { 40 } else { 200 }, &mut random);
         let table = graph.table();
-        assert!(graph.degrees().iter().all(|&degree| degree <= MOST_DEGREE));
+        assert!(graph.degrees().iter().all(|&degree| degree <= MAX_DEGREE));
         assert_eq!(table.check(), Ok(graph.vertices() as u64));
         let laid = lay(&table.records(), &[]).unwrap();
         assert_eq!(own_table(&laid), table);

@@ -4,12 +4,12 @@
 use reference::graphs::{self, from_bits, pairs, Graph};
 use reference::random::Random;
 use reference::search::{partial_graphs, realizations_by_table, tables_of_all_graphs};
-use reference::{lay_out, take_block, validity, Table, ADJACENCY_LENGTH, JOURNAL_LENGTH};
+use reference::{lay_out, take_block, validity, Table, ADJACENCY_BYTES, JOURNAL_BYTES};
 
 /// The journal of a table that is laid out.
 fn laid(table: &Table) -> Vec<u8> {
-    let mut journal = vec![0; JOURNAL_LENGTH];
-    let adjacency = vec![0; ADJACENCY_LENGTH];
+    let mut journal = vec![0; JOURNAL_BYTES];
+    let adjacency = vec![0; ADJACENCY_BYTES];
     for (number, block) in (0..).zip(table.records().chunks(64)) {
         take_block(&mut journal, &adjacency, number, block).unwrap();
     }

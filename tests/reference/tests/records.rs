@@ -9,7 +9,7 @@ use reference::program::lay;
 use reference::random::Random;
 use reference::{
     add_edge, complete, figures, lay_out, refused, take_block, Completion, Switch, Table,
-    ADJACENCY_LENGTH, JOURNAL_LENGTH,
+    ADJACENCY_BYTES, JOURNAL_BYTES,
 };
 
 /// A byte of a record that is not needed.
@@ -20,8 +20,8 @@ const SQUARE: [u8; 4] = [2, 2, 8, 0];
 
 /// A laid state without edges.
 fn empty(records: &[u8]) -> (Vec<u8>, Vec<u8>) {
-    let mut journal = vec![0; JOURNAL_LENGTH];
-    let adjacency = vec![0; ADJACENCY_LENGTH];
+    let mut journal = vec![0; JOURNAL_BYTES];
+    let adjacency = vec![0; ADJACENCY_BYTES];
     for (number, block) in (0..).zip(records.chunks(64)) {
         take_block(&mut journal, &adjacency, number, block).unwrap();
     }
@@ -266,7 +266,7 @@ fn a_laid_table_is_its_records() {
     ];
     for table in tables {
         let laid = lay(&table.records(), &[]).unwrap();
-        let mut played = vec![0; ADJACENCY_LENGTH];
+        let mut played = vec![0; ADJACENCY_BYTES];
         assert_eq!(play(&laid.records, &mut played), Ok(()));
         assert!(played == laid.adjacency);
         let used = laid.records.chunks(8).map(|record| {
