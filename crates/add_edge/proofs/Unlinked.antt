@@ -11,7 +11,7 @@ use Rattle.answer.specs.declared.AddAnswer.{AddAnswer}
 use Rattle.answer.specs.declared.AddAnswer.the-variants.{Added, Refused}
 use Rattle.graph.specs.Graph.{jdm, DegreeTable}
 use Rattle.graph.specs.Numbering.{total}
-use Rattle.graph.specs.Tests.{degrees, vertices, vertexDegree}
+use Rattle.graph.specs.Tests.{mostClasses, vertices, vertexClass}
 use Rattle.layout.specs.Layout.{mostVertices}
 use Rattle.layout.specs.Inner.Arrays.{countIn, tableIn, Counts}
 use Rattle.layout.proofs.Counted.{counted-total}
@@ -25,7 +25,7 @@ use Rattle.add_edge.specs.Add.{addAdjacency}
 use Rattle.add_edge.specs.Inner.Work.{Unlinked, addedAdjacency}
 
 pub starts-few : (c : List ℕ) {counts : List ℕ} → Counts c counts → vertices (tableIn c (countIn counts 0)) ≤ mostVertices
-    → total degrees (countIn counts) ≤ mostVertices
+    → total mostClasses (countIn counts) ≤ mostVertices
 starts-few c {counts} ed few = rw (counted-total c counts ed) few
 
 -- c: the table's cells; s: the starts of its classes
@@ -42,11 +42,11 @@ module _ (c : List ℕ) {counts s g : List ℕ} {v w : ℕ} (u : Unlinked (table
 
   -- a class found among the starts
   module _ {k : ℕ} (x : ℕ) (is : k ≡ classFrom s x) where
-    pub class-read : k ≡ vertexDegree t x
+    pub class-read : k ≡ vertexClass t x
     class-read = is ∙ ap (λ (cls : ℕ → ℕ). cls x) (table-classes c ed es)
 
     module _ (xn : x < vertices t) where
-      pub class-few : k < degrees
+      pub class-few : k < mostClasses
       class-few = rw class-read (u .target .classed x xn)
 
       -- the whole class is searched
@@ -62,7 +62,7 @@ module _ (c : List ℕ) {counts s g : List ℕ} {v w : ℕ} (u : Unlinked (table
           }
 
   -- the block of the two classes
-  module _ {k l : ℕ} (kd : k < degrees) (ld : l < degrees) where
+  module _ {k l : ℕ} (kd : k < mostClasses) (ld : l < mostClasses) where
     pub block-of : BlockOf g (getD s k 0) (getD s (k + 1) 0) (getD s l 0) (getD s (l + 1) 0)
     block-of =
         record {
@@ -73,16 +73,16 @@ module _ (c : List ℕ) {counts s g : List ℕ} {v w : ℕ} (u : Unlinked (table
           columns = (start-rises numbered l (l + 1) (omega arith) (omega arith), start-most numbered (l + 1) (omega arith));
         }
 
-    pub short-read : (b : Bool) → k ≡ vertexDegree t v → l ≡ vertexDegree t w
+    pub short-read : (b : Bool) → k ≡ vertexClass t v → l ≡ vertexClass t w
         → b ≡ ltb (blockSum (edge g) (getD s k 0) (getD s (k + 1) 0) (getD s l 0) (getD s (l + 1) 0)) (T k l)
-        → ltb (jdm (vertices t) (vertexDegree t) (edge g) (vertexDegree t v) (vertexDegree t w)) (T (vertexDegree t v) (vertexDegree t w)) ≡ b
+        → ltb (jdm (vertices t) (vertexClass t) (edge g) (vertexClass t v) (vertexClass t w)) (T (vertexClass t v) (vertexClass t w)) ≡ b
     short-read b ke le e =
         sym (e
         ∙ ap (λ (i : ℕ). ltb i (T k l))
         (block-cell numbered (edge g) k l kd ld ∙ ap (λ (cls : ℕ → ℕ). jdm (vertices t) cls (edge g) k l) (table-classes c ed es))
-        ∙ ap₂ (λ (i j : ℕ). ltb (jdm (vertices t) (vertexDegree t) (edge g) i j) (T i j)) ke le)
+        ∙ ap₂ (λ (i j : ℕ). ltb (jdm (vertices t) (vertexClass t) (edge g) i j) (T i j)) ke le)
 
-  pub joinable : jdm (vertices t) (vertexDegree t) (edge g) (vertexDegree t v) (vertexDegree t w) < T (vertexDegree t v) (vertexDegree t w)
+  pub joinable : jdm (vertices t) (vertexClass t) (edge g) (vertexClass t v) (vertexClass t w) < T (vertexClass t v) (vertexClass t w)
       → Joinable (vertices t) (classFrom s) g v w
   joinable short =
       rw (table-classes c ed es)
@@ -97,10 +97,10 @@ module _ (c : List ℕ) {counts s g : List ℕ} {v w : ℕ} (u : Unlinked (table
 
   -- joining by the starts is joining by the layout
   module _ {n : ℕ} (en : n ≡ vertices t) where
-    pub join-read : joinBytes n (classFrom s) g v w ≡ joinBytes (vertices t) (vertexDegree t) g v w
+    pub join-read : joinBytes n (classFrom s) g v w ≡ joinBytes (vertices t) (vertexClass t) g v w
     join-read = ap₂ (λ (m : ℕ) (cls : ℕ → ℕ). joinBytes m cls g v w) en (table-classes c ed es)
 
-    pub switches-read : joinSwitches n (classFrom s) g v w ≡ joinSwitches (vertices t) (vertexDegree t) g v w
+    pub switches-read : joinSwitches n (classFrom s) g v w ≡ joinSwitches (vertices t) (vertexClass t) g v w
     switches-read = ap₂ (λ (m : ℕ) (cls : ℕ → ℕ). joinSwitches m cls g v w) en (table-classes c ed es)
 
 -- on the table of a journal

@@ -5,7 +5,7 @@ ghost use lib.Dec.{ltb};
 ghost use lib.ListN.{length, getD};
 ghost use Rattle.answer.specs.Refusals.{refusal};
 ghost use Rattle.answer.specs.declared.Cause.the-variants.{CellNotShort};
-ghost use Rattle.graph.specs.Tests.{degrees};
+ghost use Rattle.graph.specs.Tests.{mostClasses};
 ghost use Rattle.table.specs.Inner.Cells.{matrixOf, AtMost, cellSumMost};
 ghost use Rattle.answer.specs.declared.Verdict.the-variants.{Go};
 ghost use Rattle.layout.specs.Inner.Arrays.{countIn, tableIn, Counts};
@@ -31,7 +31,7 @@ use state::phase_check;
 use state::sum_table;
 use table::cells::CELLS;
 use table::cells::cell;
-use table::degree::DEGREES;
+use table::class::MAX_CLASSES;
 
 // Cell (k, l) of the edges so far is below the table.
 fn is_short(
@@ -41,7 +41,7 @@ fn is_short(
     k: usize,
     l: usize,
 ) -> bool
-    requires { ⌜ (length (now adjacency) ≡ adjacencySize) × (k < degrees) × (l < degrees) × BlockOf (now adjacency) (getD (now starts) k 0) (getD (now starts) (k + 1) 0) (getD (now starts) l 0) (getD (now starts) (l + 1) 0) ⌝ }
+    requires { ⌜ (length (now adjacency) ≡ adjacencySize) × (k < mostClasses) × (l < mostClasses) × BlockOf (now adjacency) (getD (now starts) k 0) (getD (now starts) (k + 1) 0) (getD (now starts) l 0) (getD (now starts) (l + 1) 0) ⌝ }
     ensures { λ r. ⌜ r ≡ ltb (blockSum (edge (now (adjacency .entry))) (getD (now (starts .entry)) k 0) (getD (now (starts .entry)) (k + 1) 0) (getD (now (starts .entry)) l 0) (getD (now (starts .entry)) (l + 1) 0)) (matrixOf (now (cells .entry)) k l) ⌝ }
 {
     let from_k = starts[k];
@@ -65,7 +65,7 @@ fn full_cell(k: usize, l: usize) -> Refusal
 fn add_unlinked(
     adjacency: &mut [u8],
     cells: &[u32; CELLS],
-    counts: &[usize; DEGREES],
+    counts: &[usize; MAX_CLASSES],
     v: usize,
     w: usize,
 ) -> AddAnswer

@@ -14,7 +14,7 @@ use Rattle.finite.specs.Range.{allTo}
 use Rattle.finite.proofs.All.{and-both, allTo-cong}
 use Rattle.finite.proofs.Fold.{fillTo-at}
 use Rattle.graph.specs.Graph.{degree, jdm, DegreeTable}
-use Rattle.graph.specs.Tests.{degrees, vertices, vertexDegree, classCount}
+use Rattle.graph.specs.Tests.{mostClasses, vertices, vertexClass, classCount}
 use Rattle.graph.proofs.Matrix.{jdm-classes}
 use Rattle.graph.proofs.Numbering.{classOf-rises}
 use Rattle.graph.proofs.Counts.{vertex-class}
@@ -29,13 +29,13 @@ module _ (n : ℕ) (cls cls′ : ℕ → ℕ) (same : (v : ℕ) → v < n → cl
       (λ v l. ap (λ (k : ℕ). leb (degree n (edge g) v) k) (same v l))
 
   cellsWithin-same : (T : ℕ → ℕ → ℕ) → cellsWithin n cls T g ≡ cellsWithin n cls′ T g
-  cellsWithin-same T = allTo-cong (row cls) (row cls′) degrees (λ k h. allTo-cong (at cls k) (at cls′ k) degrees (λ l m. cell k l))
+  cellsWithin-same T = allTo-cong (row cls) (row cls′) mostClasses (λ k h. allTo-cong (at cls k) (at cls′ k) mostClasses (λ l m. cell k l))
     where
       at : (ℕ → ℕ) → ℕ → ℕ → Bool
       at c k l = leb (jdm n c (edge g) k l) (T k l)
 
       row : (ℕ → ℕ) → ℕ → Bool
-      row c k = allTo degrees (at c k)
+      row c k = allTo mostClasses (at c k)
 
       cell : (k l : ℕ) → at cls k l ≡ at cls′ k l
       cell k l = ap (λ (x : ℕ). leb x (T k l)) (jdm-classes n cls cls′ (edge g) same k l)
@@ -45,18 +45,18 @@ module _ (n : ℕ) (cls cls′ : ℕ → ℕ) (same : (v : ℕ) → v < n → cl
 
 -- the classes of a table's vertices, as the array has them
 module _ (t : DegreeTable) (small : vertices t ≤ mostVertices) {n : ℕ} {classes : List ℕ} (en : n ≡ vertices t) (ec : classes ≡ classesOf t) where
-  class-at : (v : ℕ) → v < n → classIn classes v ≡ vertexDegree t v
-  class-at v h = rw ec (fillTo-at (vertexDegree t) (replicate mostVertices 0) (vertices t) v (rw length-replicate small) (rw en at h))
+  class-at : (v : ℕ) → v < n → classIn classes v ≡ vertexClass t v
+  class-at v h = rw ec (fillTo-at (vertexClass t) (replicate mostVertices 0) (vertices t) v (rw length-replicate small) (rw en at h))
 
-  pub class-below : (v : ℕ) → v < n → classIn classes v < degrees
+  pub class-below : (v : ℕ) → v < n → classIn classes v < mostClasses
   class-below v h = rw (class-at v h) (vertex-class t v (rw en at h))
 
   pub class-rises : (v w : ℕ) → v ≤ w → w < n → classIn classes v ≤ classIn classes w
-  class-rises v w h l = rw (class-at v (omega arith), class-at w l) (classOf-rises degrees (classCount t) v w h)
+  class-rises v w h l = rw (class-at v (omega arith), class-at w l) (classOf-rises mostClasses (classCount t) v w h)
 
-  pub adjacencyOk-table : (T : ℕ → ℕ → ℕ) (g : List ℕ) → adjacencyOk n (classIn classes) T g ≡ adjacencyOk (vertices t) (vertexDegree t) T g
+  pub adjacencyOk-table : (T : ℕ → ℕ → ℕ) (g : List ℕ) → adjacencyOk n (classIn classes) T g ≡ adjacencyOk (vertices t) (vertexClass t) T g
   adjacencyOk-table T g =
-      adjacencyOk-same n (classIn classes) (vertexDegree t) class-at g T ∙ ap (λ (m : ℕ). adjacencyOk m (vertexDegree t) T g) en
+      adjacencyOk-same n (classIn classes) (vertexClass t) class-at g T ∙ ap (λ (m : ℕ). adjacencyOk m (vertexClass t) T g) en
 
 -- where classes rise and the first vertex not below class k is not of class k, no vertex is
 pub class-absent : (n k start : ℕ) (cls : ℕ → ℕ) → ((v w : ℕ) → v ≤ w → w < n → cls v ≤ cls w)

@@ -14,7 +14,7 @@ use borrow.Author.Tests.{leb-true, le-leb}
 use Rattle.finite.specs.Range.{allTo}
 use Rattle.finite.proofs.All.{and-left, and-right, and-both, allTo-at, allTo-holds}
 use Rattle.graph.specs.Graph.{Simple, degree, jdm}
-use Rattle.graph.specs.Tests.{degrees}
+use Rattle.graph.specs.Tests.{mostClasses}
 use Rattle.slices.specs.Slices.{allZero}
 use Rattle.slices.proofs.Zero.{all-zero-at, zeros-all-zero}
 use Rattle.adjacency.specs.Adjacency.{side, adjacencySize, edge, mirrored, zeroOutside, degreesWithin, cellsWithin, adjacencyOk}
@@ -28,7 +28,7 @@ pub record Facts (n : ℕ) (cls : ℕ → ℕ) (T : ℕ → ℕ → ℕ) (g : Li
   pub simple : Simple n (edge g)
   pub outside : ZeroOutside n g
   pub room : (v : ℕ) → v < n → degree n (edge g) v ≤ cls v
-  pub within : (k l : ℕ) → k < degrees → l < degrees → jdm n cls (edge g) k l ≤ T k l
+  pub within : (k l : ℕ) → k < mostClasses → l < mostClasses → jdm n cls (edge g) k l ≤ T k l
 
 module _ (n : ℕ) (g : List ℕ) where
   -- the bytes of row v behind the first n, and the bytes of the rows from n on
@@ -82,7 +82,7 @@ module _ (n : ℕ) (cls : ℕ → ℕ) (T : ℕ → ℕ → ℕ) (g : List ℕ) 
         simple = mirrored-simple n g (and-left _ (zeroOutside n g) mz);
         outside = zero-outside n g (and-right (mirrored n g) _ mz);
         room = λ v l. leb-true (degree n (edge g) v) (cls v) (allTo-at (λ v. leb (degree n (edge g) v) (cls v)) n room v l);
-        within = λ k l p q. leb-true (jdm n cls (edge g) k l) (T k l) (allTo-at (at k) degrees (row k p) l q);
+        within = λ k l p q. leb-true (jdm n cls (edge g) k l) (T k l) (allTo-at (at k) mostClasses (row k p) l q);
       }
     where
       at : ℕ → ℕ → Bool
@@ -100,13 +100,13 @@ module _ (n : ℕ) (cls : ℕ → ℕ) (T : ℕ → ℕ → ℕ) (g : List ℕ) 
       within : cellsWithin n cls T g ≡ true
       within = and-right (mirrored n g && zeroOutside n g && degreesWithin n cls g) _ h
 
-      row : (k : ℕ) → k < degrees → allTo degrees (at k) ≡ true
-      row = allTo-at (λ k. allTo degrees (at k)) degrees within
+      row : (k : ℕ) → k < mostClasses → allTo mostClasses (at k) ≡ true
+      row = allTo-at (λ k. allTo mostClasses (at k)) mostClasses within
 
   pub facts-adjacency : length g ≡ adjacencySize → n ≤ side → Facts n cls T g → adjacencyOk n cls T g ≡ true
   facts-adjacency long small f =
       and-both _ _
       (and-both _ _ (and-both _ _ (simple-mirrored n g (f .simple)) (outside-zero n g long small (f .outside)))
       (allTo-holds (λ v. leb (degree n (edge g) v) (cls v)) n (λ v l. le-leb (degree n (edge g) v) (cls v) (f .room v l))))
-      (allTo-holds (λ k. allTo degrees (λ l. leb (jdm n cls (edge g) k l) (T k l))) degrees
-      (λ k p. allTo-holds (λ l. leb (jdm n cls (edge g) k l) (T k l)) degrees (λ l q. le-leb (jdm n cls (edge g) k l) (T k l) (f .within k l p q))))
+      (allTo-holds (λ k. allTo mostClasses (λ l. leb (jdm n cls (edge g) k l) (T k l))) mostClasses
+      (λ k p. allTo-holds (λ l. leb (jdm n cls (edge g) k l) (T k l)) mostClasses (λ l q. le-leb (jdm n cls (edge g) k l) (T k l) (f .within k l p q))))

@@ -11,7 +11,7 @@ use borrow.Author.Tests.{eqb-true, eq-eqb, leb-true, le-leb}
 use Rattle.finite.specs.Range.{allTo}
 use Rattle.finite.proofs.All.{and-left, and-right, and-both, allTo-at, allTo-holds, allTo-upper}
 use Rattle.graph.specs.Graph.{Simple, jdm}
-use Rattle.graph.specs.Tests.{degrees}
+use Rattle.graph.specs.Tests.{mostClasses}
 use Rattle.graph.proofs.Necessary.{necessary-always}
 use Rattle.adjacency.specs.Adjacency.{edge, rowMirrored, mirrored, cellsWithin}
 
@@ -61,9 +61,9 @@ module _ (n : ℕ) (g : List ℕ) where
       (λ w m. and-both _ _ (le-leb (edge g v w) 1 (s .binary v w l (omega arith))) (eq-eqb (edge g v w) (edge g w v) (s .symmetric v w l (omega arith))))))
 
   -- against a symmetric table, the cells (k, l) with l from k on are enough
-  pub cellsWithin-upper : mirrored n g ≡ true → (cls : ℕ → ℕ) → ((v : ℕ) → v < n → cls v < degrees)
+  pub cellsWithin-upper : mirrored n g ≡ true → (cls : ℕ → ℕ) → ((v : ℕ) → v < n → cls v < mostClasses)
       → (T : ℕ → ℕ → ℕ) → ((k l : ℕ) → T k l ≡ T l k)
-      → cellsWithin n cls T g ≡ allTo degrees (λ k. allTo degrees (λ l. ltb l k || leb (jdm n cls (edge g) k l) (T k l)))
+      → cellsWithin n cls T g ≡ allTo mostClasses (λ k. allTo mostClasses (λ l. ltb l k || leb (jdm n cls (edge g) k l) (T k l)))
   cellsWithin-upper h cls classed T s =
-      allTo-upper degrees (λ k l. leb (jdm n cls (edge g) k l) (T k l))
-      (λ k l i j. ap₂ leb (necessary-always n degrees cls (edge g) (mirrored-simple h) classed .symmetric k l) (s k l))
+      allTo-upper mostClasses (λ k l. leb (jdm n cls (edge g) k l) (T k l))
+      (λ k l i j. ap₂ leb (necessary-always n mostClasses cls (edge g) (mirrored-simple h) classed .symmetric k l) (s k l))

@@ -15,10 +15,10 @@ use Rattle.finite.specs.Range.{δ, sumTo, allTo}
 use Rattle.finite.proofs.All.{allTo-cong, allTo-holds}
 use Rattle.finite.proofs.Delta.{δ-same, δ-other, δ-times-le}
 use Rattle.finite.proofs.Sum.{sumTo-none, sumTo-more, sumTo-zero, sumTo-cong, sumTo-scale, sumTo-at, sumTo-mono, sumTo-const}
-use Rattle.adjacency.specs.Inner.Sums.{Added, classDegree}
+use Rattle.adjacency.specs.Inner.Sums.{Added, classEdges}
 use Rattle.adjacency.specs.Adjacency.{side}
 use Rattle.graph.specs.Graph.{Graph, jdm}
-use Rattle.graph.specs.Tests.{degrees}
+use Rattle.graph.specs.Tests.{mostClasses}
 use Rattle.graph.proofs.Matrix.{jdm-swap, jdm-none}
 
 -- x more at place p
@@ -69,47 +69,47 @@ row-at n a k w f h m =
     ∙ ap (λ (x : ℕ). δ a k * x) (sumTo-at n w f m)
 
 module _ (cls : ℕ → ℕ) (E : Graph) (k w : ℕ) where
-  pub classDegree-none : classDegree 0 cls E k w ≡ 0
-  classDegree-none = sumTo-none (λ v. δ (cls v) k * E v w)
+  pub classEdges-none : classEdges 0 cls E k w ≡ 0
+  classEdges-none = sumTo-none (λ v. δ (cls v) k * E v w)
 
-  pub classDegree-more : (m : ℕ) → classDegree (m + 1) cls E k w ≡ classDegree m cls E k w + δ (cls m) k * E m w
-  classDegree-more m = sumTo-more (λ v. δ (cls v) k * E v w) m
+  pub classEdges-more : (m : ℕ) → classEdges (m + 1) cls E k w ≡ classEdges m cls E k w + δ (cls m) k * E m w
+  classEdges-more m = sumTo-more (λ v. δ (cls v) k * E v w) m
 
-  pub classDegree-le : (m : ℕ) → ((v : ℕ) → v < m → E v w ≤ 1) → classDegree m cls E k w ≤ m
-  classDegree-le m h =
+  pub classEdges-le : (m : ℕ) → ((v : ℕ) → v < m → E v w ≤ 1) → classEdges m cls E k w ≤ m
+  classEdges-le m h =
       omega (arith, sumTo-mono m (λ v. δ (cls v) k * E v w) (λ v. 1) (λ v l. omega (arith, δ-times-le (cls v) k (E v w), h v l)), sumTo-const 1 m)
 
 -- row v added to the sums of its class
-pub classDegrees-more : (n : ℕ) (cls : ℕ → ℕ) (E : Graph) (s t : List ℕ) (v a : ℕ) → n ≤ side → a ≡ cls v
-    → ((k w : ℕ) → w < n → getD s (k * side + w) 0 ≡ classDegree v cls E k w)
+pub classEdgess-more : (n : ℕ) (cls : ℕ → ℕ) (E : Graph) (s t : List ℕ) (v a : ℕ) → n ≤ side → a ≡ cls v
+    → ((k w : ℕ) → w < n → getD s (k * side + w) 0 ≡ classEdges v cls E k w)
     → Added n (λ i. a * side + i) (E v) s t
-    → (k w : ℕ) → w < n → getD t (k * side + w) 0 ≡ classDegree (v + 1) cls E k w
-classDegrees-more n cls E s t v a h e f d k w l =
+    → (k w : ℕ) → w < n → getD t (k * side + w) 0 ≡ classEdges (v + 1) cls E k w
+classEdgess-more n cls E s t v a h e f d k w l =
     d .sums (k * side + w)
     ∙ ap₂ _+_ (f k w l) (row-at n a k w (E v) h l ∙ ap (λ (b : ℕ). δ b k * E v w) e)
-    ∙ sym (classDegree-more cls E k w v)
+    ∙ sym (classEdges-more cls E k w v)
 
 -- the sums of class k, added up over the vertices of class l, are cell (k, l)
-pub classDegrees-jdm : (n : ℕ) (cls : ℕ → ℕ) (E : Graph) (f : ℕ → ℕ) (k l : ℕ)
-    → ((w : ℕ) → w < n → f w ≡ classDegree n cls E k w) → sumTo n (λ w. δ (cls w) l * f w) ≡ jdm n cls E k l
+pub classEdgess-jdm : (n : ℕ) (cls : ℕ → ℕ) (E : Graph) (f : ℕ → ℕ) (k l : ℕ)
+    → ((w : ℕ) → w < n → f w ≡ classEdges n cls E k w) → sumTo n (λ w. δ (cls w) l * f w) ≡ jdm n cls E k l
 unfolding jdm
-classDegrees-jdm n cls E f k l h =
-    sumTo-cong n (λ w. δ (cls w) l * f w) (λ w. δ (cls w) l * classDegree n cls E k w) (λ w m. ap (λ (x : ℕ). δ (cls w) l * x) (h w m))
+classEdgess-jdm n cls E f k l h =
+    sumTo-cong n (λ w. δ (cls w) l * f w) (λ w. δ (cls w) l * classEdges n cls E k w) (λ w m. ap (λ (x : ℕ). δ (cls w) l * x) (h w m))
     ∙ sym (jdm-swap n cls E k l)
 
 -- class k counted so, against the cells (k, l) with l from k on
-pub classDegrees-within : (n : ℕ) (cls : ℕ → ℕ) (E : Graph) (f : ℕ → ℕ) (T : ℕ → ℕ → ℕ) (k : ℕ)
-    → ((w : ℕ) → w < n → f w ≡ classDegree n cls E k w)
-    → allTo degrees (λ l. ltb l k || leb (sumTo n (λ w. δ (cls w) l * f w)) (T k l)) ≡ allTo degrees (λ l. ltb l k || leb (jdm n cls E k l) (T k l))
-classDegrees-within n cls E f T k h =
-    allTo-cong (λ l. ltb l k || leb (sumTo n (λ w. δ (cls w) l * f w)) (T k l)) (λ l. ltb l k || leb (jdm n cls E k l) (T k l)) degrees
-    (λ l m. ap (λ (x : ℕ). ltb l k || leb x (T k l)) (classDegrees-jdm n cls E f k l h))
+pub classEdgess-within : (n : ℕ) (cls : ℕ → ℕ) (E : Graph) (f : ℕ → ℕ) (T : ℕ → ℕ → ℕ) (k : ℕ)
+    → ((w : ℕ) → w < n → f w ≡ classEdges n cls E k w)
+    → allTo mostClasses (λ l. ltb l k || leb (sumTo n (λ w. δ (cls w) l * f w)) (T k l)) ≡ allTo mostClasses (λ l. ltb l k || leb (jdm n cls E k l) (T k l))
+classEdgess-within n cls E f T k h =
+    allTo-cong (λ l. ltb l k || leb (sumTo n (λ w. δ (cls w) l * f w)) (T k l)) (λ l. ltb l k || leb (jdm n cls E k l) (T k l)) mostClasses
+    (λ l m. ap (λ (x : ℕ). ltb l k || leb x (T k l)) (classEdgess-jdm n cls E f k l h))
 
 -- a class that no vertex has is within any table
 pub absent-within : (n : ℕ) (cls : ℕ → ℕ) (E : Graph) (T : ℕ → ℕ → ℕ) (k : ℕ) → ((v : ℕ) → v < n → cls v ≢ k)
-    → allTo degrees (λ l. ltb l k || leb (jdm n cls E k l) (T k l)) ≡ true
+    → allTo mostClasses (λ l. ltb l k || leb (jdm n cls E k l) (T k l)) ≡ true
 absent-within n cls E T k h =
-    allTo-holds (λ l. ltb l k || leb (jdm n cls E k l) (T k l)) degrees
+    allTo-holds (λ l. ltb l k || leb (jdm n cls E k l) (T k l)) mostClasses
     (λ l m. rw (jdm-none n cls E k l h, leb·zero (T k l)) (or-true (ltb l k)))
 
 -- where no vertex below m is of class l, nothing is counted for l

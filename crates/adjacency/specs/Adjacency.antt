@@ -7,7 +7,7 @@ use lib.Dec.{eqb, leb}
 use lib.ListN.{getD, set, take, drop}
 use Rattle.finite.specs.Range.{allTo}
 use Rattle.graph.specs.Graph.{Graph, degree, jdm}
-use Rattle.graph.specs.Tests.{degrees}
+use Rattle.graph.specs.Tests.{mostClasses, classDegree}
 use Rattle.slices.specs.Slices.{allZero}
 use Rattle.layout.specs.Layout.{mostVertices}
 
@@ -39,12 +39,12 @@ zeroOutside n g = allTo n (λ v. allZero (take (side - n) (drop (v * side + n) g
 
 -- no vertex is above its degree
 abbrev pub degreesWithin : ℕ → (ℕ → ℕ) → List ℕ → Bool
-degreesWithin n cls g = allTo n (λ v. leb (degree n (edge g) v) (cls v))
+degreesWithin n cls g = allTo n (λ v. leb (degree n (edge g) v) (classDegree (cls v)))
 
--- no cell is above the matrix T: the edges are counted as equation (1) does, but at the degrees laid out
+-- no cell is above the matrix T: the edges are counted as equation (1) does, but at the classes laid out
 abbrev pub cellsWithin : ℕ → (ℕ → ℕ) → (ℕ → ℕ → ℕ) → List ℕ → Bool
-cellsWithin n cls T g = allTo degrees (λ k. allTo degrees (λ l. leb (jdm n cls (edge g) k l) (T k l)))
+cellsWithin n cls T g = allTo mostClasses (λ k. allTo mostClasses (λ l. leb (jdm n cls (edge g) k l) (T k l)))
 
--- the matrix of a laid state: n vertices, their degrees cls, the table T
+-- the matrix of a laid state: n vertices, their classes cls, the table T
 abbrev pub adjacencyOk : ℕ → (ℕ → ℕ) → (ℕ → ℕ → ℕ) → List ℕ → Bool
 adjacencyOk n cls T g = mirrored n g && zeroOutside n g && degreesWithin n cls g && cellsWithin n cls T g

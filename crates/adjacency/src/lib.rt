@@ -6,13 +6,13 @@ ghost use lib.Dec.{eqb, leb, ltb};
 ghost use lib.ListN.{length, getD, take, drop};
 ghost use Rattle.finite.specs.Range.{δ, sumTo, allTo};
 ghost use Rattle.graph.specs.Graph.{degree, edges};
-ghost use Rattle.graph.specs.Tests.{degrees};
+ghost use Rattle.graph.specs.Tests.{mostClasses};
 ghost use Rattle.slices.specs.Slices.{allZero};
 ghost use Rattle.table.specs.Inner.Cells.{matrixOf};
 ghost use Rattle.layout.specs.Layout.{mostVertices};
 ghost use Rattle.layout.specs.Inner.Arrays.{classIn};
 ghost use Rattle.adjacency.specs.Adjacency.{adjacencySize, side, edge, setEdge, rowMirrored, mirrored, zeroOutside, degreesWithin, cellsWithin, adjacencyOk};
-ghost use Rattle.adjacency.specs.Inner.Sums.{sumsSize, Added, classDegree};
+ghost use Rattle.adjacency.specs.Inner.Sums.{sumsSize, Added, classEdges};
 use layout::MAX_VERTICES;
 use slices::all_zero;
 use slices::byte_sum;
@@ -20,14 +20,15 @@ use slices::wide;
 use table::cells::CELLS;
 use table::cells::upper_cell;
 use table::cells::wide32;
-use table::degree::DEGREES;
+use table::class::MAX_CLASSES;
+use table::class::class_degree;
 
 pub const SIDE: usize = MAX_VERTICES;
 
 pub const ADJACENCY_BYTES: usize = SIDE * SIDE;
 
-// One sum for each degree and each vertex.
-const SUMS: usize = DEGREES * SIDE;
+// One sum for each class and each vertex.
+const SUMS: usize = MAX_CLASSES * SIDE;
 
 // The byte of v and w.
 pub fn edge_at(adjacency: &[u8], v: usize, w: usize) -> usize
@@ -120,7 +121,7 @@ fn degrees_within(adjacency: &[u8], n: usize, classes: &[u8; MAX_VERTICES]) -> b
 {
     let mut ok = true;
     for v in 0..n {
-        ok = ok & (degree_of(adjacency, n, v) <= wide(classes[v]));
+        ok = ok & (degree_of(adjacency, n, v) <= class_degree(wide(classes[v])));
     }
     ok
 }
@@ -137,8 +138,8 @@ fn add_row(sums: &mut [u8; SUMS], at: usize, adjacency: &[u8], from: usize, n: u
 
 // For each class k and vertex w, how many vertices of class k have an edge to w.
 fn sum_classes(adjacency: &[u8], n: usize, classes: &[u8; MAX_VERTICES], sums: &mut [u8; SUMS])
-    requires { ⌜ (length (now adjacency) ≡ adjacencySize) × (n ≤ side) × (mirrored n (now adjacency) ≡ true) × ((v : ℕ) → v < n → classIn (now classes) v < degrees) × (length (now sums) ≡ sumsSize) × ((p : ℕ) → getD (now sums) p 0 ≡ 0) ⌝ }
-    ensures { λ _. ⌜ ((k w : ℕ) → w < n → getD (now (sums .exit)) (k * side + w) 0 ≡ classDegree n (classIn (now (classes .entry))) (edge (now (adjacency .entry))) k w) ⌝ }
+    requires { ⌜ (length (now adjacency) ≡ adjacencySize) × (n ≤ side) × (mirrored n (now adjacency) ≡ true) × ((v : ℕ) → v < n → classIn (now classes) v < mostClasses) × (length (now sums) ≡ sumsSize) × ((p : ℕ) → getD (now sums) p 0 ≡ 0) ⌝ }
+    ensures { λ _. ⌜ ((k w : ℕ) → w < n → getD (now (sums .exit)) (k * side + w) 0 ≡ classEdges n (classIn (now (classes .entry))) (edge (now (adjacency .entry))) k w) ⌝ }
 {
     for v in 0..n {
         add_row(sums, wide(classes[v]) * SIDE, adjacency, v * SIDE, n);
@@ -176,9 +177,9 @@ fn count_class(
     classes: &[u8; MAX_VERTICES],
     k: usize,
     start: usize,
-    counts: &mut [u32; DEGREES],
+    counts: &mut [u32; MAX_CLASSES],
 )
-    requires { ⌜ (n ≤ side) × (k < degrees) × ((v : ℕ) → v < n → classIn (now classes) v < degrees) × (start ≤ n) × ((w : ℕ) → w < start → classIn (now classes) w < k) × (length (now counts) ≡ degrees) × ((p : ℕ) → getD (now counts) p 0 ≡ 0) ⌝ }
+    requires { ⌜ (n ≤ side) × (k < mostClasses) × ((v : ℕ) → v < n → classIn (now classes) v < mostClasses) × (start ≤ n) × ((w : ℕ) → w < start → classIn (now classes) w < k) × (length (now counts) ≡ mostClasses) × ((p : ℕ) → getD (now counts) p 0 ≡ 0) ⌝ }
     ensures { λ _. ⌜ ((l : ℕ) → k ≤ l → getD (now (counts .exit)) l 0 ≡ sumTo n (λ w. δ (classIn (now (classes .entry)) w) l * getD (now (sums .entry)) (k * side + w) 0)) ⌝ }
 {
     for w in start..n {
@@ -197,13 +198,13 @@ fn class_within(
     k: usize,
     start: usize,
 ) -> bool
-    requires { ⌜ (n ≤ side) × (k < degrees) × ((v : ℕ) → v < n → classIn (now classes) v < degrees) × (start ≤ n) × ((w : ℕ) → w < start → classIn (now classes) w < k) ⌝ }
-    ensures { λ r. ⌜ r ≡ allTo degrees (λ l. ltb l k || leb (sumTo n (λ w. δ (classIn (now (classes .entry)) w) l * getD (now (sums .entry)) (k * side + w) 0)) (matrixOf (now (cells .entry)) k l)) ⌝ }
+    requires { ⌜ (n ≤ side) × (k < mostClasses) × ((v : ℕ) → v < n → classIn (now classes) v < mostClasses) × (start ≤ n) × ((w : ℕ) → w < start → classIn (now classes) w < k) ⌝ }
+    ensures { λ r. ⌜ r ≡ allTo mostClasses (λ l. ltb l k || leb (sumTo n (λ w. δ (classIn (now (classes .entry)) w) l * getD (now (sums .entry)) (k * side + w) 0)) (matrixOf (now (cells .entry)) k l)) ⌝ }
 {
-    let mut counts = [0u32; DEGREES];
+    let mut counts = [0u32; MAX_CLASSES];
     count_class(sums, n, classes, k, start, &mut counts);
     let mut ok = true;
-    for l in k..DEGREES {
+    for l in k..MAX_CLASSES {
         ok = ok & (wide32(counts[l]) <= upper_cell(cells, k, l));
     }
     ok
@@ -217,14 +218,14 @@ fn cells_within(
     classes: &[u8; MAX_VERTICES],
     cells: &[u32; CELLS],
 ) -> bool
-    requires { ⌜ (length (now adjacency) ≡ adjacencySize) × (n ≤ side) × (mirrored n (now adjacency) ≡ true) × ((v : ℕ) → v < n → classIn (now classes) v < degrees) × ((v w : ℕ) → v ≤ w → w < n → classIn (now classes) v ≤ classIn (now classes) w) ⌝ }
+    requires { ⌜ (length (now adjacency) ≡ adjacencySize) × (n ≤ side) × (mirrored n (now adjacency) ≡ true) × ((v : ℕ) → v < n → classIn (now classes) v < mostClasses) × ((v w : ℕ) → v ≤ w → w < n → classIn (now classes) v ≤ classIn (now classes) w) ⌝ }
     ensures { λ r. ⌜ r ≡ cellsWithin n (classIn (now (classes .entry))) (matrixOf (now (cells .entry))) (now (adjacency .entry)) ⌝ }
 {
     let mut sums = [0u8; SUMS];
     sum_classes(adjacency, n, classes, &mut sums);
     let mut ok = true;
     let mut start = 0;
-    for k in 0..DEGREES {
+    for k in 0..MAX_CLASSES {
         start = skip_below(classes, n, k, start);
         if has_class(classes, n, k, start) {
             ok = ok & class_within(&sums, n, classes, cells, k, start);
@@ -249,7 +250,7 @@ pub fn adjacency_ok(
     classes: &[u8; MAX_VERTICES],
     cells: &[u32; CELLS],
 ) -> bool
-    requires { ⌜ (length (now adjacency) ≡ adjacencySize) × (n ≤ mostVertices) × ((v : ℕ) → v < n → classIn (now classes) v < degrees) × ((v w : ℕ) → v ≤ w → w < n → classIn (now classes) v ≤ classIn (now classes) w) ⌝ }
+    requires { ⌜ (length (now adjacency) ≡ adjacencySize) × (n ≤ mostVertices) × ((v : ℕ) → v < n → classIn (now classes) v < mostClasses) × ((v w : ℕ) → v ≤ w → w < n → classIn (now classes) v ≤ classIn (now classes) w) ⌝ }
     ensures { λ r. ⌜ r ≡ adjacencyOk n (classIn (now (classes .entry))) (matrixOf (now (cells .entry))) (now (adjacency .entry)) ⌝ }
 {
     if !is_mirrored(adjacency, n) {

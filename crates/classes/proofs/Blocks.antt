@@ -14,7 +14,7 @@ use Rattle.finite.proofs.Lowest.{lowest-cong}
 use Rattle.finite.proofs.Sum.{sumTo-more, sumTo-le, sumTo-triangle}
 use Rattle.graph.specs.Graph.{Graph, jdm}
 use Rattle.graph.specs.Numbering.{total, classOf}
-use Rattle.graph.specs.Tests.{degrees, vertices, vertexDegree}
+use Rattle.graph.specs.Tests.{mostClasses, vertices, vertexClass}
 use Rattle.graph.proofs.Numbering.{classOf-below, classOf-range}
 use Rattle.graph.proofs.Ranges.{jdm-block}
 use Rattle.layout.specs.Inner.Arrays.{countIn, tableIn, Counts}
@@ -23,22 +23,22 @@ use Rattle.adjacency.specs.Adjacency.{edge}
 use Rattle.classes.specs.Inner.Block.{startsOf, Numbered, classFrom, blockSum, triangleSum, BlockOf}
 
 module _ (counts : List ℕ) where
-  pub start-at : (k : ℕ) → k ≤ degrees → getD (startsOf counts) k 0 ≡ sumTo k (countIn counts)
-  start-at k h = fillTo-at (λ k. sumTo k (countIn counts)) (replicate (degrees + 1) 0) (degrees + 1) k (rw length-replicate (omega arith)) (omega arith)
+  pub start-at : (k : ℕ) → k ≤ mostClasses → getD (startsOf counts) k 0 ≡ sumTo k (countIn counts)
+  start-at k h = fillTo-at (λ k. sumTo k (countIn counts)) (replicate (mostClasses + 1) 0) (mostClasses + 1) k (rw length-replicate (omega arith)) (omega arith)
 
   -- the classes by their starts are those by their counts
-  class-counted : classFrom (startsOf counts) ≡ classOf degrees (countIn counts)
+  class-counted : classFrom (startsOf counts) ≡ classOf mostClasses (countIn counts)
   class-counted =
-      fun-ext (λ v. lowest-cong 0 degrees (λ k. ltb v (getD (startsOf counts) (k + 1) 0)) (λ k. ltb v (sumTo (k + 1) (countIn counts)))
+      fun-ext (λ v. lowest-cong 0 mostClasses (λ k. ltb v (getD (startsOf counts) (k + 1) 0)) (λ k. ltb v (sumTo (k + 1) (countIn counts)))
       (λ k z l. ap (ltb v) (start-at (k + 1) (omega arith))))
 
   run : (k : ℕ) → sumTo (k + 1) (countIn counts) - sumTo k (countIn counts) ≡ countIn counts k
   run k = omega (arith, sumTo-more (countIn counts) k)
 
   -- `E` is any graph on these vertices
-  cell-block : (E : Graph) (k l : ℕ) → k < degrees → l < degrees
+  cell-block : (E : Graph) (k l : ℕ) → k < mostClasses → l < mostClasses
       → blockSum E (getD (startsOf counts) k 0) (getD (startsOf counts) (k + 1) 0) (getD (startsOf counts) l 0) (getD (startsOf counts) (l + 1) 0)
-      ≡ jdm (total degrees (countIn counts)) (classOf degrees (countIn counts)) E k l
+      ≡ jdm (total mostClasses (countIn counts)) (classOf mostClasses (countIn counts)) E k l
   cell-block E k l kd ld =
       rw (
         start-at k (omega arith),
@@ -48,44 +48,44 @@ module _ (counts : List ℕ) where
         run k,
         run l,
       )
-      (sym (jdm-block degrees (countIn counts) E k l kd ld))
+      (sym (jdm-block mostClasses (countIn counts) E k l kd ld))
 
 module _ {n : ℕ} {starts : List ℕ} (m : Numbered n starts) where
-  pub starts-length : length starts ≡ degrees + 1
-  starts-length = ap length (m .started) ∙ fillTo-length (λ k. sumTo k (countIn (m .counts))) (replicate (degrees + 1) 0) (degrees + 1) ∙ length-replicate {A = ℕ} (degrees + 1) 0
+  pub starts-length : length starts ≡ mostClasses + 1
+  starts-length = ap length (m .started) ∙ fillTo-length (λ k. sumTo k (countIn (m .counts))) (replicate (mostClasses + 1) 0) (mostClasses + 1) ∙ length-replicate {A = ℕ} (mostClasses + 1) 0
 
   -- the starts rise, up to the number of vertices
-  pub start-rises : (k l : ℕ) → k ≤ l → l ≤ degrees → getD starts k 0 ≤ getD starts l 0
+  pub start-rises : (k l : ℕ) → k ≤ l → l ≤ mostClasses → getD starts k 0 ≤ getD starts l 0
   start-rises k l h i =
       rw (m .started, start-at (m .counts) k (omega arith), start-at (m .counts) l i) (sumTo-le k l (countIn (m .counts)) h)
 
-  pub start-most : (k : ℕ) → k ≤ degrees → getD starts k 0 ≤ n
-  start-most k h = rw (m .started, start-at (m .counts) k h, ← (m .all)) (sumTo-le k degrees (countIn (m .counts)) h)
+  pub start-most : (k : ℕ) → k ≤ mostClasses → getD starts k 0 ≤ n
+  start-most k h = rw (m .started, start-at (m .counts) k h, ← (m .all)) (sumTo-le k mostClasses (countIn (m .counts)) h)
 
   -- each vertex has a class
-  pub class-below : (v : ℕ) → v < n → classFrom starts v < degrees
+  pub class-below : (v : ℕ) → v < n → classFrom starts v < mostClasses
   class-below v h =
       rw (m .started, ap (λ (cls : ℕ → ℕ). cls v) (class-counted (m .counts)))
-      (classOf-below degrees (countIn (m .counts)) v (omega (arith, m .all)))
+      (classOf-below mostClasses (countIn (m .counts)) v (omega (arith, m .all)))
 
   -- the vertices of class k are those between its start and the next
-  pub class-inside : (k v : ℕ) → k < degrees → getD starts k 0 ≤ v → v < getD starts (k + 1) 0 → classFrom starts v ≡ k
+  pub class-inside : (k v : ℕ) → k < mostClasses → getD starts k 0 ≤ v → v < getD starts (k + 1) 0 → classFrom starts v ≡ k
   class-inside k v kd f t =
       ap (λ (s : List ℕ). classFrom s v) (m .started)
       ∙ ap (λ (cls : ℕ → ℕ). cls v) (class-counted (m .counts))
-      ∙ classOf-range degrees (countIn (m .counts)) v k (omega (arith, m .all, start-most (k + 1) (omega arith))) .1 (
+      ∙ classOf-range mostClasses (countIn (m .counts)) v k (omega (arith, m .all, start-most (k + 1) (omega arith))) .1 (
         rw (m .started, start-at (m .counts) k (omega arith)) at f,
         rw (m .started, start-at (m .counts) (k + 1) (omega arith)) at t,
       )
 
-  pub class-only : (k v : ℕ) → k < degrees → v < n → classFrom starts v ≡ k → (getD starts k 0 ≤ v) × (v < getD starts (k + 1) 0)
+  pub class-only : (k v : ℕ) → k < mostClasses → v < n → classFrom starts v ≡ k → (getD starts k 0 ≤ v) × (v < getD starts (k + 1) 0)
   class-only k v kd vn e =
       rw (m .started, start-at (m .counts) k (omega arith), start-at (m .counts) (k + 1) (omega arith))
-      (classOf-range degrees (countIn (m .counts)) v k (omega (arith, m .all)) .0
+      (classOf-range mostClasses (countIn (m .counts)) v k (omega (arith, m .all)) .0
       (sym (ap (λ (cls : ℕ → ℕ). cls v) (class-counted (m .counts))) ∙ sym (ap (λ (s : List ℕ). classFrom s v) (m .started)) ∙ e))
 
   -- classes rise with the vertices
-  pub class-rises : (v w : ℕ) → v ≤ w → w < n → classFrom starts v < degrees → classFrom starts w < degrees → classFrom starts v ≤ classFrom starts w
+  pub class-rises : (v w : ℕ) → v ≤ w → w < n → classFrom starts v < mostClasses → classFrom starts w < mostClasses → classFrom starts v ≤ classFrom starts w
   class-rises v w vw wn vd wd = go (decLt (classFrom starts w) (classFrom starts v))
     where
       go : Dec (classFrom starts w < classFrom starts v) → classFrom starts v ≤ classFrom starts w
@@ -96,7 +96,7 @@ module _ {n : ℕ} {starts : List ℕ} (m : Numbered n starts) where
       go (no h) = omega arith
 
   -- the ones between the starts of two classes are a cell
-  pub block-cell : (E : Graph) (k l : ℕ) → k < degrees → l < degrees
+  pub block-cell : (E : Graph) (k l : ℕ) → k < mostClasses → l < mostClasses
       → blockSum E (getD starts k 0) (getD starts (k + 1) 0) (getD starts l 0) (getD starts (l + 1) 0) ≡ jdm n (classFrom starts) E k l
   block-cell E k l kd ld =
       rw (m .started) (cell-block (m .counts) E k l kd ld)
@@ -107,8 +107,8 @@ module _ (cells : List ℕ) {counts starts : List ℕ} (ed : Counts cells counts
   pub table-numbered : Numbered (vertices (tableIn cells (countIn counts 0))) starts
   table-numbered = record { counts = counts; started = es; all = counted-total cells counts ed }
 
-  pub table-classes : classFrom starts ≡ vertexDegree (tableIn cells (countIn counts 0))
-  table-classes = ap classFrom es ∙ class-counted counts ∙ ap (classOf degrees) (counted cells counts ed)
+  pub table-classes : classFrom starts ≡ vertexClass (tableIn cells (countIn counts 0))
+  table-classes = ap classFrom es ∙ class-counted counts ∙ ap (classOf mostClasses) (counted cells counts ed)
 
 -- a block on the diagonal of a simple graph
 module _ {g : List ℕ} {top bottom left right : ℕ} (b : BlockOf g top bottom left right) where

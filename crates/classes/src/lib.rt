@@ -4,30 +4,30 @@ ghost use Prim.Native.Nat.{ℕ, _+_, _-_, _*_, _≤_, _<_};
 ghost use lib.ListN.{length, getD};
 ghost use Rattle.finite.specs.Range.{sumTo};
 ghost use Rattle.graph.specs.Numbering.{total};
-ghost use Rattle.graph.specs.Tests.{degrees};
+ghost use Rattle.graph.specs.Tests.{mostClasses};
 ghost use Rattle.layout.specs.Layout.{mostVertices};
 ghost use Rattle.layout.specs.Inner.Arrays.{countIn};
 ghost use Rattle.adjacency.specs.Adjacency.{adjacencySize, side, edge};
 ghost use Rattle.classes.specs.Inner.Block.{startsOf, classFrom, blockSum, triangleSum, BlockOf};
 use adjacency::SIDE;
 use slices::wide;
-use table::degree::DEGREES;
+use table::class::MAX_CLASSES;
 
 // One entry for each class, and one past the last.
-pub const STARTS: usize = DEGREES + 1;
+pub const STARTS: usize = MAX_CLASSES + 1;
 
 // The first vertex of each class: entry k is the number of vertices of the classes below k.
-pub fn starts(counts: &[usize; DEGREES]) -> [usize; STARTS]
-    requires { ⌜ total degrees (countIn (now counts)) ≤ mostVertices ⌝ }
+pub fn starts(counts: &[usize; MAX_CLASSES]) -> [usize; STARTS]
+    requires { ⌜ total mostClasses (countIn (now counts)) ≤ mostVertices ⌝ }
     ensures { λ r. ⌜ r ≡ startsOf (now (counts .entry)) ⌝ }
 {
     let mut t = [0usize; STARTS];
     let mut sum = 0;
-    for k in 0..DEGREES {
+    for k in 0..MAX_CLASSES {
         t[k] = sum;
         sum += counts[k];
     }
-    t[DEGREES] = sum;
+    t[MAX_CLASSES] = sum;
     t
 }
 
@@ -36,7 +36,7 @@ pub fn class_at(starts: &[usize; STARTS], v: usize) -> usize
     ensures { λ r. ⌜ r ≡ classFrom (now (starts .entry)) v ⌝ }
 {
     let mut k = 0;
-    while k < DEGREES {
+    while k < MAX_CLASSES {
         if v < starts[k + 1] {
             return k;
         }

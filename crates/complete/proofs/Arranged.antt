@@ -10,7 +10,7 @@ use lib.Dec.{eqb}
 use lib.ListN.{length, getD}
 use Rattle.finite.specs.Range.{foldTo, δ}
 use Rattle.graph.specs.Graph.{size}
-use Rattle.graph.specs.Tests.{leastDegree, mostDegree, degrees}
+use Rattle.graph.specs.Tests.{leastClass, mostDegree, mostClasses}
 use Rattle.table.specs.Inner.Cells.{matrixOf}
 use Rattle.finite.proofs.Delta.{δ-other}
 use Rattle.finite.proofs.Fold.{foldTo-keeps, foldTo-none}
@@ -33,7 +33,7 @@ none-missing want have false e = omega arith
 
 module _ (n : ℕ) (starts : List ℕ) (numbered : Numbered n starts) where
   -- the vertices of class k
-  range : (k : ℕ) → k < degrees → ClassRange n (classFrom starts) k (getD starts k 0) (getD starts (k + 1) 0)
+  range : (k : ℕ) → k < mostClasses → ClassRange n (classFrom starts) k (getD starts k 0) (getD starts (k + 1) 0)
   range k h =
       record {
         ordered = start-rises numbered k (k + 1) (omega arith) (omega arith);
@@ -42,12 +42,12 @@ module _ (n : ℕ) (starts : List ℕ) (numbered : Numbered n starts) where
         only = λ v vn e. class-only numbered k v h vn e;
       }
 
-  pub ranged : (k l : ℕ) → k < degrees → l < degrees → Ranged n (classFrom starts) (cellIn starts k l)
+  pub ranged : (k l : ℕ) → k < mostClasses → l < mostClasses → Ranged n (classFrom starts) (cellIn starts k l)
   ranged k l kC lC = record { first = kC; second = lC; rows = range k kC; columns = range l lC }
 
 -- a state of the work, and a cell of it
 module _ {n : ℕ} {cells starts held : List ℕ} {room : ℕ} {s : Ran} (p : Working n cells starts held room s)
-    (k l : ℕ) (kC : k < degrees) (lC : l < degrees) where
+    (k l : ℕ) (kC : k < mostClasses) (lC : l < mostClasses) where
   pub countable : Countable (s .adjacency) cells (cellIn starts k l)
   countable =
       let r = ranged n starts (p .arranged .numbered) k l kC lC in
@@ -100,35 +100,35 @@ module _ {n : ℕ} {cells starts held : List ℕ} {room : ℕ} {s : Ran} (p : Wo
 
   -- x: the state after the first i cells of row k, and after the first i rows
   module _ (i : ℕ) (x : Ran) where
-    pub cells-sound : (k : ℕ) → k + i ≤ degrees → x ≡ foldTo i (λ i. fillCell n (classFrom starts) (matrixOf cells) k (k + i)) s
+    pub cells-sound : (k : ℕ) → k + i ≤ mostClasses → x ≡ foldTo i (λ i. fillCell n (classFrom starts) (matrixOf cells) k (k + i)) s
         → Sound n (classFrom starts) (matrixOf cells) room x
     cells-sound k h e = rw e (row-sound n (classFrom starts) (matrixOf cells) room s (p .sound) k i h)
 
-    pub all-sound : i ≤ mostDegree → x ≡ foldTo i (λ i. fillRow n (classFrom starts) (matrixOf cells) (leastDegree + i)) s
+    pub all-sound : i ≤ mostDegree → x ≡ foldTo i (λ i. fillRow n (classFrom starts) (matrixOf cells) (leastClass + i)) s
         → Sound n (classFrom starts) (matrixOf cells) room x
     all-sound h e = rw e (rows-sound n (classFrom starts) (matrixOf cells) room s (p .sound) i h)
 
   -- a class without vertices has no cell to fill
-  module _ (k : ℕ) (kC : k < degrees) (empty : getD starts k 0 ≡ getD starts (k + 1) 0) where
+  module _ (k : ℕ) (kC : k < mostClasses) (empty : getD starts k 0 ≡ getD starts (k + 1) 0) where
     no-vertices : size n (classFrom starts) k ≡ 0
     no-vertices =
         sumTo-zero n (λ v. δ (classFrom starts v) k)
         (λ v vn. δ-other (classFrom starts v) k (λ e. omega (arith, class-only (p .arranged .numbered) k v kC vn e)))
 
-    no-cell : (l : ℕ) → l < degrees → matrixOf cells k l ≡ 0
+    no-cell : (l : ℕ) → l < mostClasses → matrixOf cells k l ≡ 0
     no-cell l lC =
         omega (
           arith,
-          sumTo-term degrees (matrixOf cells k) l lC,
+          sumTo-term mostClasses (matrixOf cells k) l lC,
           p .sound .filling .target .rows k kC ∙ ap (λ (m : ℕ). k * m) no-vertices ∙ mul-zero k,
         )
 
     pub row-empty : s ≡ fillRow n (classFrom starts) (matrixOf cells) k s
     row-empty =
-        sym (foldTo-keeps (λ i x. x ≡ s) (λ i. fillCell n (classFrom starts) (matrixOf cells) k (k + i)) s (degrees - k) refl
+        sym (foldTo-keeps (λ i x. x ≡ s) (λ i. fillCell n (classFrom starts) (matrixOf cells) k (k + i)) s (mostClasses - k) refl
         (λ i x l e. same i x l ∙ e))
       where
-        same : (i : ℕ) (x : Ran) → i < degrees - k → fillCell n (classFrom starts) (matrixOf cells) k (k + i) x ≡ x
+        same : (i : ℕ) (x : Ran) → i < mostClasses - k → fillCell n (classFrom starts) (matrixOf cells) k (k + i) x ≡ x
         same i x l =
             ap (λ (m : ℕ). foldTo m (λ j. cellStep n (classFrom starts) k (k + i)) x)
             (sym (none-missing (matrixOf cells k (k + i)) _ (eqb k (k + i)) (no-cell (k + i) (omega arith))))

@@ -14,7 +14,7 @@ use Rattle.finite.specs.Range.{foldTo}
 use Rattle.finite.proofs.Lowest.{lowest-only}
 use Rattle.finite.proofs.Fold.{iterate-next}
 use Rattle.graph.specs.Graph.{jdm, edges}
-use Rattle.graph.specs.Tests.{leastDegree, mostDegree, degrees}
+use Rattle.graph.specs.Tests.{leastClass, mostDegree, mostClasses}
 use Rattle.graph.proofs.Edge.{atEdge-cell}
 use Rattle.graph.proofs.Necessary.{necessary-always}
 use Rattle.graph.specs.Theorems.{allCells}
@@ -33,22 +33,22 @@ module _ (n : ℕ) (cls : ℕ → ℕ) (T : ℕ → ℕ → ℕ) where
   -- every cell before (k, l) is at its target
   abbrev pub FullBefore : List ℕ → ℕ → ℕ → Type 0
   FullBefore g k l =
-      (i j : ℕ) → leastDegree ≤ i → i ≤ j → j < degrees → (i ≡ k → j < l) → i ≤ k → T i j ≤ jdm n cls (edge g) i j
+      (i j : ℕ) → leastClass ≤ i → i ≤ j → j < mostClasses → (i ≡ k → j < l) → i ≤ k → T i j ≤ jdm n cls (edge g) i j
 
   -- then (k, l), if it is short, is the lowest short cell
-  lowest-cell : (g : List ℕ) (k l : ℕ) → leastDegree ≤ k → k ≤ l → l < degrees → FullBefore g k l → jdm n cls (edge g) k l < T k l
+  lowest-cell : (g : List ℕ) (k l : ℕ) → leastClass ≤ k → k ≤ l → l < mostClasses → FullBefore g k l → jdm n cls (edge g) k l < T k l
       → (shortK n cls T g ≡ k) × (shortL n cls T g k ≡ l)
   lowest-cell g k l k1 kl lC before h = (
-    lowest-only leastDegree degrees (λ i. ltb (shortL n cls T g i) degrees) (omega arith) k k1 (omega arith) (rw here (lt-ltb l degrees lC)) earlier,
+    lowest-only leastClass mostClasses (λ i. ltb (shortL n cls T g i) mostClasses) (omega arith) k k1 (omega arith) (rw here (lt-ltb l mostClasses lC)) earlier,
     here,
   )
     where
       here : shortL n cls T g k ≡ l
       here =
-          lowest-only k degrees (shortCell n cls T g k) (omega arith) l kl lC (lt-ltb (jdm n cls (edge g) k l) (T k l) h)
+          lowest-only k mostClasses (shortCell n cls T g k) (omega arith) l kl lC (lt-ltb (jdm n cls (edge g) k l) (T k l) h)
           (λ j kj jl. le-ltb (jdm n cls (edge g) k j) (T k j) (before k j k1 kj (omega arith) (λ e. jl) (omega arith)))
 
-      earlier : (i : ℕ) → leastDegree ≤ i → i < k → ltb (shortL n cls T g i) degrees ≡ false
+      earlier : (i : ℕ) → leastClass ≤ i → i < k → ltb (shortL n cls T g i) mostClasses ≡ false
       earlier i i1 ik = full-row n cls T g i (omega arith) (λ j ij jC. before i j i1 ij jC (λ e. absurd (omega arith)) (omega arith))
 
   -- a join adds 1 to its cell, or 2 on the diagonal
@@ -56,7 +56,7 @@ module _ (n : ℕ) (cls : ℕ → ℕ) (T : ℕ → ℕ → ℕ) where
   unit k l = cond (eqb k l) 2 1
 
   -- what a cell misses is a whole number of joins
-  whole : (g : List ℕ) → Filling n cls T g → (k l : ℕ) → k < degrees → l < degrees
+  whole : (g : List ℕ) → Filling n cls T g → (k l : ℕ) → k < mostClasses → l < mostClasses
       → jdm n cls (edge g) k l + cellMissing n cls T g k l * unit k l ≡ T k l
   whole g f k l kC lC = go (ℕ-discrete k l)
     where
@@ -69,7 +69,7 @@ module _ (n : ℕ) (cls : ℕ → ℕ) (T : ℕ → ℕ → ℕ) where
       go : Dec (k ≡ l) → have + (T k l - have) / unit k l * unit k l ≡ T k l
       go (yes e) =
           let even-T : T k l % 2 ≡ 0 = rw (← e) (f .target .even k kC) in
-          let even : have % 2 ≡ 0 = rw (← e) (necessary-always n degrees cls (edge g) (f .partial .simple) (f .target .classed) .even k) in
+          let even : have % 2 ≡ 0 = rw (← e) (necessary-always n mostClasses cls (edge g) (f .partial .simple) (f .target .classed) .even k) in
           rw (eq-eqb k l e) (omega (arith, within))
       go (no e) = rw (ne-eqb k l e) (omega (arith, within))
 
@@ -81,7 +81,7 @@ module _ (n : ℕ) (cls : ℕ → ℕ) (T : ℕ → ℕ → ℕ) where
       go false = omega arith
 
   -- i of the joins that cell (k, l) misses
-  module _ (s : Ran) (f : Filling n cls T (s .adjacency)) (k l : ℕ) (kC : k < degrees) (lC : l < degrees) where
+  module _ (s : Ran) (f : Filling n cls T (s .adjacency)) (k l : ℕ) (kC : k < mostClasses) (lC : l < mostClasses) where
     -- the cell's count after them
     abbrev Count : ℕ → Type 0
     Count i = jdm n cls (edge (foldTo i (λ i. cellStep n cls k l) s .adjacency)) k l ≡ jdm n cls (edge (s .adjacency)) k l + i * unit k l
@@ -120,18 +120,18 @@ module _ (n : ℕ) (cls : ℕ → ℕ) (T : ℕ → ℕ → ℕ) where
     part-short i h = count-short i h (part-filling i (omega arith) .1)
 
   -- no more edges than half the cells' sum
-  pub edges-within : (g : List ℕ) → Filling n cls T g → 2 * edges n (edge g) ≤ allCells degrees T
+  pub edges-within : (g : List ℕ) → Filling n cls T g → 2 * edges n (edge g) ≤ allCells mostClasses T
   edges-within g f =
       omega (
         arith,
-        cells-twice n degrees cls (edge g) (f .partial .simple) (f .target .classed),
-        sumTo-mono₂ degrees degrees (jdm n cls (edge g)) T (f .partial .within),
+        cells-twice n mostClasses cls (edge g) (f .partial .simple) (f .target .classed),
+        sumTo-mono₂ mostClasses mostClasses (jdm n cls (edge g)) T (f .partial .within),
       )
 
-  pub room : (fuel : ℕ) → allCells degrees T ≤ 2 * fuel → (g : List ℕ) → Filling n cls T g → edges n (edge g) ≤ fuel
+  pub room : (fuel : ℕ) → allCells mostClasses T ≤ 2 * fuel → (g : List ℕ) → Filling n cls T g → edges n (edge g) ≤ fuel
   room fuel enough g f = omega (arith, edges-within g f)
 
-  module _ (fuel : ℕ) (s₀ : Ran) (start : s₀ .joins ≡ 0) (enough : allCells degrees T ≤ 2 * fuel) where
+  module _ (fuel : ℕ) (s₀ : Ran) (start : s₀ .joins ≡ 0) (enough : allCells mostClasses T ≤ 2 * fuel) where
     -- s is on the way of `run` from s₀
     pub record Progress (s : Ran) : Type 0 where
       pub filling : Filling n cls T (s .adjacency)
@@ -142,7 +142,7 @@ module _ (n : ℕ) (cls : ℕ → ℕ) (T : ℕ → ℕ → ℕ) where
     begin f = record { filling = f; left = rw (start, sub-zero); counted = rw start (omega arith) }
 
     -- one step in the lowest short cell
-    step : (s : Ran) → Progress s → (k l : ℕ) → leastDegree ≤ k → k ≤ l → l < degrees → FullBefore (s .adjacency) k l
+    step : (s : Ran) → Progress s → (k l : ℕ) → leastClass ≤ k → k ≤ l → l < mostClasses → FullBefore (s .adjacency) k l
         → jdm n cls (edge (s .adjacency)) k l < T k l
         → Progress (cellStep n cls k l s) × Stepped n cls T (s .adjacency) (cellStep n cls k l s .adjacency) k l
     step s p k l k1 kl lC before h = (
@@ -170,7 +170,7 @@ module _ (n : ℕ) (cls : ℕ → ℕ) (T : ℕ → ℕ → ℕ) where
         below = omega (arith, p .counted, st .one-more, room fuel enough (cellStep n cls k l s .adjacency) (st .filling))
 
         incomplete : isIncomplete n cls T s ≡ true
-        incomplete = rw (at .0) (lt-ltb k degrees (omega arith))
+        incomplete = rw (at .0) (lt-ltb k mostClasses (omega arith))
 
         same : next n cls T s ≡ cellStep n cls k l s
         same = rw (at .0, at .1)
@@ -185,7 +185,7 @@ module _ (n : ℕ) (cls : ℕ → ℕ) (T : ℕ → ℕ → ℕ) where
     stay g g′ k l i j st before a b a1 ab bC f ak = omega (arith, before a b a1 ab bC f ak, st .cells a b)
 
     -- i of the joins that cell (k, l) misses
-    pub part-filled : (s : Ran) → (k l : ℕ) → leastDegree ≤ k → k ≤ l → l < degrees → Filled s k l
+    pub part-filled : (s : Ran) → (k l : ℕ) → leastClass ≤ k → k ≤ l → l < mostClasses → Filled s k l
         → (i : ℕ) → i ≤ cellMissing n cls T (s .adjacency) k l → Filled (foldTo i (λ i. cellStep n cls k l) s) k l
     unfolding foldTo
     part-filled s k l k1 kl lC f zero h = f
@@ -200,7 +200,7 @@ module _ (n : ℕ) (cls : ℕ → ℕ) (T : ℕ → ℕ → ℕ) where
             record { progress = t .0; before = stay (r .adjacency) (cellStep n cls k l r .adjacency) k l k l (t .1) (q .before) }
 
     -- the cell filled
-    pub cell-filled : (s : Ran) → (k l : ℕ) → leastDegree ≤ k → k ≤ l → l < degrees → Filled s k l → Filled (fillCell n cls T k l s) k (l + 1)
+    pub cell-filled : (s : Ran) → (k l : ℕ) → leastClass ≤ k → k ≤ l → l < mostClasses → Filled s k l → Filled (fillCell n cls T k l s) k (l + 1)
     cell-filled s k l k1 kl lC f =
         record {
           progress = r .progress;
@@ -219,7 +219,7 @@ module _ (n : ℕ) (cls : ℕ → ℕ) (T : ℕ → ℕ → ℕ) where
         count : jdm n cls (edge g′) k l ≡ jdm n cls (edge (s .adjacency)) k l + m * unit k l
         count = part-filling s (f .progress .filling) k l (omega arith) lC m (omega arith) .1
 
-        go : (i j : ℕ) → leastDegree ≤ i → i ≤ j → j < degrees → (i ≡ k → j < l + 1) → i ≤ k → Dec (i ≡ k) → Dec (j ≡ l)
+        go : (i j : ℕ) → leastClass ≤ i → i ≤ j → j < mostClasses → (i ≡ k → j < l + 1) → i ≤ k → Dec (i ≡ k) → Dec (j ≡ l)
             → T i j ≤ jdm n cls (edge g′) i j
         go i j i1 ij jC e ik (yes p) (yes q) =
             rw (p, q) (omega (arith, count, whole (s .adjacency) (f .progress .filling) k l (omega arith) lC))
@@ -227,7 +227,7 @@ module _ (n : ℕ) (cls : ℕ → ℕ) (T : ℕ → ℕ → ℕ) where
         go i j i1 ij jC e ik (no p) q = r .before i j i1 ij jC (λ x. absurd (p x)) ik
 
     -- the first cells of row k
-    pub row-part : (s : Ran) → (k : ℕ) → leastDegree ≤ k → Filled s k k → (i : ℕ) → k + i ≤ degrees
+    pub row-part : (s : Ran) → (k : ℕ) → leastClass ≤ k → Filled s k k → (i : ℕ) → k + i ≤ mostClasses
         → Filled (foldTo i (λ i. fillCell n cls T k (k + i)) s) k (k + i)
     unfolding foldTo
     row-part s k k1 f zero h = rw add-zero f
@@ -236,31 +236,31 @@ module _ (n : ℕ) (cls : ℕ → ℕ) (T : ℕ → ℕ → ℕ) where
         let e : k + suc i ≡ k + i + 1 = omega arith in
         rw e (cell-filled (foldTo i (λ i. fillCell n cls T k (k + i)) s) k (k + i) k1 (omega arith) (omega arith) r)
 
-    pub row-filled : (s : Ran) → (k : ℕ) → leastDegree ≤ k → k < degrees → Filled s k k → Filled (fillRow n cls T k s) (k + 1) (k + 1)
+    pub row-filled : (s : Ran) → (k : ℕ) → leastClass ≤ k → k < mostClasses → Filled s k k → Filled (fillRow n cls T k s) (k + 1) (k + 1)
     row-filled s k k1 kC f =
         record {
           progress = r .progress;
           before = λ i j i1 ij jC e ik. go i j i1 ij jC e ik (ℕ-discrete i (k + 1));
         }
       where
-        r : Filled (fillRow n cls T k s) k (k + (degrees - k))
-        r = row-part s k k1 f (degrees - k) (omega arith)
+        r : Filled (fillRow n cls T k s) k (k + (mostClasses - k))
+        r = row-part s k k1 f (mostClasses - k) (omega arith)
 
-        go : (i j : ℕ) → leastDegree ≤ i → i ≤ j → j < degrees → (i ≡ k + 1 → j < k + 1) → i ≤ k + 1 → Dec (i ≡ k + 1)
+        go : (i j : ℕ) → leastClass ≤ i → i ≤ j → j < mostClasses → (i ≡ k + 1 → j < k + 1) → i ≤ k + 1 → Dec (i ≡ k + 1)
             → T i j ≤ jdm n cls (edge (fillRow n cls T k s .adjacency)) i j
         go i j i1 ij jC e ik (yes p) = absurd (omega (arith, e p))
         go i j i1 ij jC e ik (no p) = r .before i j i1 ij jC (λ x. omega arith) (omega arith)
 
-    pub rows-part : (s : Ran) → Filled s leastDegree leastDegree → (i : ℕ) → i ≤ mostDegree
-        → Filled (foldTo i (λ i. fillRow n cls T (leastDegree + i)) s) (leastDegree + i) (leastDegree + i)
+    pub rows-part : (s : Ran) → Filled s leastClass leastClass → (i : ℕ) → i ≤ mostDegree
+        → Filled (foldTo i (λ i. fillRow n cls T (leastClass + i)) s) (leastClass + i) (leastClass + i)
     unfolding foldTo
     rows-part s f zero h = f
     rows-part s f (suc i) h =
         let r = rows-part s f i (omega arith) in
-        let e : leastDegree + suc i ≡ leastDegree + i + 1 = omega arith in
-        rw e (row-filled (foldTo i (λ i. fillRow n cls T (leastDegree + i)) s) (leastDegree + i) (omega arith) (omega arith) r)
+        let e : leastClass + suc i ≡ leastClass + i + 1 = omega arith in
+        rw e (row-filled (foldTo i (λ i. fillRow n cls T (leastClass + i)) s) (leastClass + i) (omega arith) (omega arith) r)
 
-    pub first-cell : Filling n cls T (s₀ .adjacency) → Filled s₀ leastDegree leastDegree
+    pub first-cell : Filling n cls T (s₀ .adjacency) → Filled s₀ leastClass leastClass
     first-cell f = record { progress = begin f; before = λ i j i1 ij jC e ik. absurd (omega (arith, e (omega arith))) }
 
     -- Cell by cell is what `run` does.
@@ -270,8 +270,8 @@ module _ (n : ℕ) (cls : ℕ → ℕ) (T : ℕ → ℕ → ℕ) where
         s : Ran
         s = fillAll n cls T s₀
 
-        r : Filled s (leastDegree + mostDegree) (leastDegree + mostDegree)
+        r : Filled s (leastClass + mostDegree) (leastClass + mostDegree)
         r = rows-part s₀ (first-cell f) mostDegree (omega arith)
 
-        full : (i j : ℕ) → leastDegree ≤ i → i < degrees → i ≤ j → j < degrees → T i j ≤ jdm n cls (edge (s .adjacency)) i j
+        full : (i j : ℕ) → leastClass ≤ i → i < mostClasses → i ≤ j → j < mostClasses → T i j ≤ jdm n cls (edge (s .adjacency)) i j
         full i j i1 iC ij jC = r .before i j i1 ij jC (λ e. absurd (omega arith)) (omega arith)

@@ -15,11 +15,11 @@ use Rattle.graph.specs.Graph.{jdm, edges, atEdge}
 use Rattle.graph.specs.Target.{Open}
 use Rattle.graph.specs.Switch.{Joined}
 use Rattle.graph.specs.Theorems.{AfterJoin}
-use Rattle.graph.specs.Tests.{degrees}
+use Rattle.graph.specs.Tests.{mostClasses, classDegree}
 use Rattle.graph.proofs.OpenPair.{short-has-open-pair}
 use Rattle.graph.proofs.Join.{join-works}
 use Rattle.adjacency.specs.Adjacency.{edge}
-use Rattle.joining.specs.Join.{own, joinBytes}
+use Rattle.joining.specs.Join.{joinBytes}
 use Rattle.joining.proofs.Bytes.{join-bytes, join-length}
 use Rattle.complete.specs.Choice.{openColumn, openW, openV}
 use Rattle.complete.specs.Inner.Cellwise.{Filling}
@@ -63,7 +63,7 @@ column-facts cls g k l v w h = (
 
 module _ (n : ℕ) (cls : ℕ → ℕ) (T : ℕ → ℕ → ℕ) where
   -- the lowest open pair of a short cell is one
-  pub chosen : (g : List ℕ) → Filling n cls T g → (k l : ℕ) → k < degrees → l < degrees → jdm n cls (edge g) k l < T k l
+  pub chosen : (g : List ℕ) → Filling n cls T g → (k l : ℕ) → k < mostClasses → l < mostClasses → jdm n cls (edge g) k l < T k l
       → Chosen n cls T g k l (openV n cls g k l) (openW n cls g k l (openV n cls g k l))
   chosen g f k l kC lC h =
       record {
@@ -81,7 +81,7 @@ module _ (n : ℕ) (cls : ℕ → ℕ) (T : ℕ → ℕ → ℕ) where
       }
     where
       some : (v w : ℕ) × (cls v ≡ k) × (cls w ≡ l) × (k ≡ l → v < w) × Open n cls T (edge g) v w
-      some = short-has-open-pair n degrees cls own T (edge g) (f .target) (f .partial) k l kC lC h
+      some = short-has-open-pair n mostClasses cls classDegree T (edge g) (f .target) (f .partial) k l kC lC h
 
       v : ℕ
       v = openV n cls g k l
@@ -137,11 +137,11 @@ module _ (n : ℕ) (cls : ℕ → ℕ) (T : ℕ → ℕ → ℕ) where
         one-more = a .one-more;
       }
     where
-      jo : Joined n cls own (edge g) v w (edge (joinBytes n cls g v w))
+      jo : Joined n cls classDegree (edge g) v w (edge (joinBytes n cls g v w))
       jo = join-bytes n cls T g v w (f .sized) (f .few) (f .target) (f .partial) pair
 
-      a : AfterJoin n degrees cls own T (edge g) v w (jo .twice) (edge (joinBytes n cls g v w))
-      a = join-works n degrees cls own T (edge g) v w (f .target) (f .partial) pair (edge (joinBytes n cls g v w)) jo
+      a : AfterJoin n mostClasses cls classDegree T (edge g) v w (jo .twice) (edge (joinBytes n cls g v w))
+      a = join-works n mostClasses cls classDegree T (edge g) v w (f .target) (f .partial) pair (edge (joinBytes n cls g v w)) jo
 
   pub stepped : (g : List ℕ) → Filling n cls T g → (k l v w : ℕ) → Chosen n cls T g k l v w → Stepped g (joinBytes n cls g v w) k l
   stepped g f k l v w c = rw (← (c .row), ← (c .column)) (opened g f v w (c .pair))

@@ -15,11 +15,11 @@ use Rattle.finite.proofs.Lowest.{lowest-before}
 use Rattle.graph.specs.Graph.{Simple}
 use Rattle.graph.specs.Switch.{unsaturated, Joined}
 use Rattle.graph.specs.Theorems.{AfterJoin}
-use Rattle.graph.specs.Tests.{degrees}
+use Rattle.graph.specs.Tests.{mostClasses, classDegree}
 use Rattle.graph.proofs.Join.{join-works}
 use Rattle.graph.proofs.Resume.{RowsFull, join-row, join-rows}
 use Rattle.adjacency.specs.Adjacency.{edge}
-use Rattle.joining.specs.Join.{own, transferAt, joinBytes}
+use Rattle.joining.specs.Join.{transferAt, joinBytes}
 use Rattle.joining.specs.Inner.Work.{freed}
 use Rattle.joining.proofs.Bytes.{join-bytes}
 use Rattle.complete.specs.Choice.{openColumn, openW, openV}
@@ -75,13 +75,13 @@ module _ (n : ℕ) (cls : ℕ → ℕ) (T : ℕ → ℕ → ℕ) (g : List ℕ) 
   simple : Simple n (edge g)
   simple = f .partial .simple
 
-  jo : Joined n cls own (edge g) v w (edge g′)
+  jo : Joined n cls classDegree (edge g) v w (edge g′)
   unfolding v w
   jo = join-bytes n cls T g v w (f .sized) (f .few) (f .target) (f .partial) (c .pair)
 
-  after : AfterJoin n degrees cls own T (edge g) v w (jo .twice) (edge g′)
+  after : AfterJoin n mostClasses cls classDegree T (edge g) v w (jo .twice) (edge g′)
   unfolding v w
-  after = join-works n degrees cls own T (edge g) v w (f .target) (f .partial) (c .pair) (edge g′) jo
+  after = join-works n mostClasses cls classDegree T (edge g) v w (f .target) (f .partial) (c .pair) (edge g′) jo
 
   -- before the join: no row below v has an open column
   row-test : ℕ → Bool
@@ -94,7 +94,7 @@ module _ (n : ℕ) (cls : ℕ → ℕ) (T : ℕ → ℕ → ℕ) (g : List ℕ) 
       (omega (arith, xn, ltb-false (openW n cls g k l u) n (rw (eq-eqb (cls u) k uk) at (lowest-before 0 n row-test (omega arith) u (omega arith) uv))))
 
   -- then they are linked to all their candidates
-  full-before : RowsFull n degrees cls own T (f .target) k l (edge g) v
+  full-before : RowsFull n mostClasses cls classDegree T (f .target) k l (edge g) v
   unfolding v w
   full-before u uv uk x xn xl up =
       closed-linked cls g k l u x (simple .binary u x (omega (arith, c .pair .first)) xn) (rows-before u x uv xn uk) xl up
@@ -115,7 +115,7 @@ module _ (n : ℕ) (cls : ℕ → ℕ) (T : ℕ → ℕ → ℕ) (g : List ℕ) 
               absurd (omega (
                 arith,
                 cf .1,
-                join-rows n degrees cls own T (f .target) (edge g) v w (f .partial) (c .pair) (edge g′) jo k l (c .row) (c .column) (c .above) full-before u uv uk x xn (cf .0) (cf .2),
+                join-rows n mostClasses cls classDegree T (f .target) (edge g) v w (f .partial) (c .pair) (edge g′) jo k l (c .row) (c .column) (c .above) full-before u uv uk x xn (cf .0) (cf .2),
               ))
 
   -- in the row of the pair, the columns below w are done, and below what its switch freed they stay so
@@ -124,7 +124,7 @@ module _ (n : ℕ) (cls : ℕ → ℕ) (T : ℕ → ℕ → ℕ) (g : List ℕ) 
   unfolding v w
   columns-after x h = go (decLt x w)
     where
-      not-freed : unsaturated n cls own (edge g) v ≡ false → x ≢ transferAt n cls g v w
+      not-freed : unsaturated n cls classDegree (edge g) v ≡ false → x ≢ transferAt n cls g v w
       not-freed e q = omega (arith, q, at)
         where
           at : x < transferAt n cls g v w
@@ -133,7 +133,7 @@ module _ (n : ℕ) (cls : ℕ → ℕ) (T : ℕ → ℕ → ℕ) (g : List ℕ) 
       same : edge g v x ≡ 1 → openColumn cls g′ k l v x ≡ false
       same e =
           linked-closed cls g′ k l v x
-          (join-row n degrees cls own T (f .target) (edge g) v w (f .partial) (c .pair) (edge g′) jo x (omega (arith, h, c .pair .second)) e not-freed)
+          (join-row n mostClasses cls classDegree T (f .target) (edge g) v w (f .partial) (c .pair) (edge g′) jo x (omega (arith, h, c .pair .second)) e not-freed)
 
       go : Dec (x < w) → openColumn cls g′ k l v x ≡ false
       go (no p) =

@@ -19,7 +19,7 @@ use Rattle.answer.specs.declared.CompleteAnswer.the-variants.{Completed, Refuse
 use Rattle.answer.proofs.Checks.{unless-passed, unless-stopped-passed}
 use Rattle.finite.specs.Range.{sumTo}
 use Rattle.graph.specs.Graph.{Simple, degree, ownJdm, isolated}
-use Rattle.graph.specs.Tests.{degrees, rowSum, Table}
+use Rattle.graph.specs.Tests.{mostClasses, rowSum, Table, classDegree}
 use Rattle.graph.proofs.Complete.{complete-is-exact}
 use Rattle.graph.proofs.Passes.{Passed, passes-passed}
 use Rattle.graph.proofs.Realizability.{has-table, has-isolated}
@@ -28,7 +28,7 @@ use Rattle.journal.proofs.Table.{jdm-table}
 use Rattle.adjacency.specs.Adjacency.{edge}
 use Rattle.state.specs.Checks.{phaseVerdict}
 use Rattle.state.specs.Valid.{lengthsOk, valid}
-use Rattle.state.specs.Laid.{vertexCount, degreeAt}
+use Rattle.state.specs.Laid.{vertexCount, classAt}
 use Rattle.state.proofs.Facts.{edgeTotal, StateFacts, Laid, valid-facts, lengths-both}
 use Rattle.state.proofs.Checks.{phase-passed, phase-go}
 use Rattle.state.proofs.Graph.{laid-valid}
@@ -94,7 +94,7 @@ module _ (j g : List ℕ) where
       short-refused f h = rw (phase-go 1 j g (f .lengths) (f .sound) (f .phased)) (laid-short h)
 
   -- a valid laid state is where a run may begin
-  pub good-start : CompleteFacts j g → Good (vertexCount j) (degreeAt j) (jdmOf j) (fresh g)
+  pub good-start : CompleteFacts j g → Good (vertexCount j) (classAt j) (jdmOf j) (fresh g)
   good-start f =
       let facts = valid-facts j g (f .lengths) (f .sound) in
       let laid = facts .laid (f .phased) in
@@ -104,7 +104,7 @@ module _ (j g : List ℕ) where
   pub missing-most : CompleteFacts j g → missing j g ≤ mostEdges
   missing-most f =
       let filling = good-start f .0 in
-      omega (arith, few-edges (vertexCount j) (degreeAt j) (jdmOf j) (filling .target) (filling .few))
+      omega (arith, few-edges (vertexCount j) (classAt j) (jdmOf j) (filling .target) (filling .few))
 
   -- after it, in r
   pub record CompleteWorks (r : Ran) : Type 0 where
@@ -113,13 +113,13 @@ module _ (j g : List ℕ) where
     pub more : edgeTotal j (r .adjacency) ≡ edgeTotal j g + r .joins
     pub made : r .joins ≡ missing j g
     pub written : length (r .records) ≡ joinRecordSize * r .joins
-    pub all : sumTo degrees (rowSum (jdmOf j)) ≡ 2 * edgeTotal j (r .adjacency)
+    pub all : sumTo mostClasses (rowSum (jdmOf j)) ≡ 2 * edgeTotal j (r .adjacency)
     pub simple : Simple (vertexCount j) (edge (r .adjacency))
     pub table : (k l : ℕ) → ownJdm (vertexCount j) (edge (r .adjacency)) k l ≡ jdmOf j k l
     pub no-edge : isolated (vertexCount j) (edge (r .adjacency)) ≡ isolatedOf j
-    pub degrees-exact : (v : ℕ) → v < vertexCount j → degree (vertexCount j) (edge (r .adjacency)) v ≡ degreeAt j v
+    pub degrees-exact : (v : ℕ) → v < vertexCount j → degree (vertexCount j) (edge (r .adjacency)) v ≡ classAt j v
 
-  pub finished-works : CompleteFacts j g → (r : Ran) → Finished (vertexCount j) (degreeAt j) (jdmOf j) g r → Recorded r → CompleteWorks r
+  pub finished-works : CompleteFacts j g → (r : Ran) → Finished (vertexCount j) (classAt j) (jdmOf j) g r → Recorded r → CompleteWorks r
   finished-works f r end recorded =
       record {
         lengths = lengths-both j g′ (facts .journal-length) (end .filling .sized);
@@ -131,7 +131,7 @@ module _ (j g : List ℕ) where
         simple = end .filling .partial .simple;
         table = has-table (tableOf j) summed passed (edge g′) (end .filling .partial) (end .full);
         no-edge = has-isolated (tableOf j) summed passed (edge g′) (end .filling .partial) (end .full);
-        degrees-exact = complete-is-exact (vertexCount j) degrees (degreeAt j) (λ k. k) (jdmOf j) (edge g′) (laid .target) (end .filling .partial) (end .full);
+        degrees-exact = complete-is-exact (vertexCount j) mostClasses (classAt j) classDegree (jdmOf j) (edge g′) (laid .target) (end .filling .partial) (end .full);
       }
     where
       facts : StateFacts j g
@@ -151,4 +151,4 @@ module _ (j g : List ℕ) where
 
   pub complete-works : CompleteFacts j g → CompleteWorks (completed j g)
   complete-works f =
-      finished-works f (completed j g) (finishes (vertexCount j) (degreeAt j) (jdmOf j) g (good-start f .0) (good-start f .1)) (completed-length j g)
+      finished-works f (completed j g) (finishes (vertexCount j) (classAt j) (jdmOf j) g (good-start f .0) (good-start f .1)) (completed-length j g)

@@ -12,7 +12,7 @@ use lib.Seq.{getD-append-add}
 use Rattle.finite.specs.Range.{iterate}
 use Rattle.finite.proofs.Fold.{iterate-keeps}
 use Rattle.journal.specs.Journal.{jdmOf}
-use Rattle.state.specs.Laid.{vertexCount, degreeAt}
+use Rattle.state.specs.Laid.{vertexCount, classAt}
 use Rattle.join_records.specs.Record.{joinRecordSize, joinRecord}
 use Rattle.joining.specs.Join.{joinSwitches}
 use Rattle.complete.specs.Complete.{Ran, fresh, joined, mostEdges, completed}
@@ -78,4 +78,4 @@ module _ (n : ℕ) (cls : ℕ → ℕ) (T : ℕ → ℕ → ℕ) {S : Type 0} (c
 
 pub completed-length : (j g : List ℕ) → Recorded (completed j g)
 completed-length j g =
-    records-length (vertexCount j) (degreeAt j) (jdmOf j) (lowest-pair (vertexCount j) (degreeAt j) (jdmOf j)) mostEdges (fresh g) refl
+    records-length (vertexCount j) (classAt j) (jdmOf j) (lowest-pair (vertexCount j) (classAt j) (jdmOf j)) mostEdges (fresh g) refl

@@ -11,7 +11,7 @@ use Rattle.answer.specs.declared.switches.Switches.{Switches}
 use Rattle.answer.specs.declared.switches.Switches.the-variants.{None, One, Two}
 use Rattle.graph.specs.Graph.{jdm}
 use Rattle.graph.specs.Target.{Open}
-use Rattle.graph.specs.Tests.{leastDegree, mostDegree, degrees}
+use Rattle.graph.specs.Tests.{leastClass, mostDegree, mostClasses}
 use Rattle.adjacency.specs.Adjacency.{edge}
 use Rattle.join_records.specs.Record.{joinRecordSize}
 use Rattle.joining.specs.Join.{joinSwitches}
@@ -50,14 +50,14 @@ module _ (n : ℕ) (cls : ℕ → ℕ) (T : ℕ → ℕ → ℕ) (room : ℕ) wh
     joined-room = omega (arith, p .records-fit, st .one-more, edges-within n cls T (joined n cls s v w .adjacency) (st .filling))
 
   -- one join in a short cell
-  step-sound : (s : Ran) → Sound n cls T room s → (k l : ℕ) → k < degrees → l < degrees → jdm n cls (edge (s .adjacency)) k l < T k l
+  step-sound : (s : Ran) → Sound n cls T room s → (k l : ℕ) → k < mostClasses → l < mostClasses → jdm n cls (edge (s .adjacency)) k l < T k l
       → Sound n cls T room (cellStep n cls k l s)
   step-sound s p k l kC lC h =
       let g = s .adjacency in
       joined-sound s p (openV n cls g k l) (openW n cls g k l (openV n cls g k l)) (chosen n cls T g (p .filling) k l kC lC h .pair)
 
   -- i of the joins that a cell misses
-  pub part-sound : (s : Ran) → Sound n cls T room s → (k l : ℕ) → k < degrees → l < degrees → (i : ℕ) → i ≤ cellMissing n cls T (s .adjacency) k l
+  pub part-sound : (s : Ran) → Sound n cls T room s → (k l : ℕ) → k < mostClasses → l < mostClasses → (i : ℕ) → i ≤ cellMissing n cls T (s .adjacency) k l
       → Sound n cls T room (foldTo i (λ i. cellStep n cls k l) s)
   unfolding foldTo
   part-sound s p k l kC lC zero h = p
@@ -65,16 +65,16 @@ module _ (n : ℕ) (cls : ℕ → ℕ) (T : ℕ → ℕ → ℕ) (room : ℕ) wh
       step-sound (foldTo i (λ i. cellStep n cls k l) s) (part-sound s p k l kC lC i (omega arith)) k l kC lC
       (part-short n cls T s (p .filling) k l kC lC i h)
 
-  -- the cells of row k before k + i, and the rows before leastDegree + i
-  pub row-sound : (s : Ran) → Sound n cls T room s → (k : ℕ) → (i : ℕ) → k + i ≤ degrees → Sound n cls T room (foldTo i (λ i. fillCell n cls T k (k + i)) s)
+  -- the cells of row k before k + i, and the rows before leastClass + i
+  pub row-sound : (s : Ran) → Sound n cls T room s → (k : ℕ) → (i : ℕ) → k + i ≤ mostClasses → Sound n cls T room (foldTo i (λ i. fillCell n cls T k (k + i)) s)
   row-sound s p k i h =
       foldTo-keeps (λ i x. Sound n cls T room x) (λ i. fillCell n cls T k (k + i)) s i p
       (λ j x ji q. part-sound x q k (k + j) (omega arith) (omega arith) (cellMissing n cls T (x .adjacency) k (k + j)) (omega arith))
 
-  pub rows-sound : (s : Ran) → Sound n cls T room s → (i : ℕ) → i ≤ mostDegree → Sound n cls T room (foldTo i (λ i. fillRow n cls T (leastDegree + i)) s)
+  pub rows-sound : (s : Ran) → Sound n cls T room s → (i : ℕ) → i ≤ mostDegree → Sound n cls T room (foldTo i (λ i. fillRow n cls T (leastClass + i)) s)
   rows-sound s p i h =
-      foldTo-keeps (λ i x. Sound n cls T room x) (λ i. fillRow n cls T (leastDegree + i)) s i p
-      (λ j x ji q. row-sound x q (leastDegree + j) (degrees - (leastDegree + j)) (omega arith))
+      foldTo-keeps (λ i x. Sound n cls T room x) (λ i. fillRow n cls T (leastClass + i)) s i p
+      (λ j x ji q. row-sound x q (leastClass + j) (mostClasses - (leastClass + j)) (omega arith))
 
 pub joins-most : {n : ℕ} {cls : ℕ → ℕ} {T : ℕ → ℕ → ℕ} {room : ℕ} {s : Ran} → Sound n cls T room s → s .joins ≤ mostEdges
 joins-most {n} {cls} {T} {room} {s} p =

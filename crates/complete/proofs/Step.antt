@@ -17,12 +17,12 @@ use Rattle.answer.specs.declared.switches.Switches.{Switches}
 use Rattle.graph.specs.Graph.{degree}
 use Rattle.graph.specs.Switch.{unsaturated}
 use Rattle.graph.specs.Target.{Open}
-use Rattle.graph.specs.Tests.{degrees}
+use Rattle.graph.specs.Tests.{mostClasses, classDegree}
 use Rattle.graph.proofs.Resume.{join-degree}
 use Rattle.layout.specs.Layout.{mostVertices}
 use Rattle.adjacency.specs.Adjacency.{edge}
 use Rattle.joining.proofs.Held.{held-is}
-use Rattle.joining.specs.Join.{own, joinBytes, joinSwitches}
+use Rattle.joining.specs.Join.{joinBytes, joinSwitches}
 use Rattle.classes.specs.Inner.Block.{classFrom}
 use Rattle.joining.specs.Inner.Work.{degreesOf, Joinable, Placed, freed}
 use Rattle.joining.proofs.Bytes.{join-bytes}
@@ -46,7 +46,7 @@ pub low-saturated : (n : ℕ) (cls : ℕ → ℕ) (g held : List ℕ) (k from to
     → held ≡ degreesOf n g → low ≤ to → Saturated n cls g k low → r ≡ lowest low to (λ i. ltb (getD held i 0) k) → Saturated n cls g k r
 low-saturated n cls g held k from to low r few range eh lt sat er i ir ik = go (decLt i low)
   where
-    go : Dec (i < low) → unsaturated n cls own (edge g) i ≡ false
+    go : Dec (i < low) → unsaturated n cls classDegree (edge g) i ≡ false
     go (yes p) = sat i p ik
     go (no p) =
         let passed = lowest-before low to (λ i. ltb (getD held i 0) k) lt i (omega arith) (omega arith) in
@@ -61,7 +61,7 @@ saturated-stays n cls T g f v w pair k low ln sat i h e =
     (omega (
       arith,
       ltb-false (degree n (edge g) i) (cls i) (sat i h e),
-      join-degree n degrees cls own T (f .target) (edge g) v w (f .partial) pair (edge (joinBytes n cls g v w))
+      join-degree n mostClasses cls classDegree T (f .target) (edge g) v w (f .partial) pair (edge (joinBytes n cls g v w))
           (join-bytes n cls T g v w (f .sized) (f .few) (f .target) (f .partial) pair)
           i
           (omega arith),

@@ -10,7 +10,7 @@ use Rattle.answer.specs.declared.CompleteAnswer.the-variants.{Completed}
 use Rattle.graph.specs.Graph.{Simple, DegreeTable, edges}
 use Rattle.graph.specs.Theorems.{allCells}
 use Rattle.graph.specs.Numbering.{total}
-use Rattle.graph.specs.Tests.{degrees, vertices, vertexDegree}
+use Rattle.graph.specs.Tests.{mostClasses, vertices, vertexClass}
 use Rattle.table.specs.Inner.Cells.{matrixOf}
 use Rattle.layout.specs.Layout.{mostVertices, wanted}
 use Rattle.layout.specs.Inner.Arrays.{countIn, tableIn, Counts}
@@ -53,24 +53,24 @@ module _ (j g cells counts : List ℕ) (passed : phaseVerdict 1 j g ≡ Go) (ed 
   pub vertices-few : vertices t ≤ mostVertices
   vertices-few = subst (λ (u : DegreeTable). vertices u ≤ mostVertices) (sym said) (laid .vertices-le)
 
-  pub total-few : total degrees (countIn counts) ≤ mostVertices
+  pub total-few : total mostClasses (countIn counts) ≤ mostVertices
   total-few = rw (counted-total cells counts ed) vertices-few
 
   outside : ZeroOutside (vertices t) g
   outside = subst (λ (u : DegreeTable). ZeroOutside (vertices u) g) (sym said) (laid .outside)
 
-  filling : Filling (vertices t) (vertexDegree t) (t .cells) g
+  filling : Filling (vertices t) (vertexClass t) (t .cells) g
   filling =
-      subst (λ (u : DegreeTable). Filling (vertices u) (vertexDegree u) (u .cells) g) (sym said)
+      subst (λ (u : DegreeTable). Filling (vertices u) (vertexClass u) (u .cells) g) (sym said)
       (record { sized = facts .adjacency-length; few = laid .vertices-le; target = laid .target; partial = laid .partial })
 
   -- the cells' sum is twice the edges wanted
-  cells-sum : allCells degrees (t .cells) ≡ 2 * wanted (t .cells)
-  cells-sum = omega (arith, finishes (vertices t) (vertexDegree t) (t .cells) g filling outside .missing)
+  cells-sum : allCells mostClasses (t .cells) ≡ 2 * wanted (t .cells)
+  cells-sum = omega (arith, finishes (vertices t) (vertexClass t) (t .cells) g filling outside .missing)
 
   -- the array of degrees: its numbers are few, and it tells how many edges there are
   module _ {n : ℕ} {held : List ℕ} (en : n ≡ vertices t) (eh : held ≡ degreesOf n g) where
-    pub degrees-few : (v : ℕ) → v < n → getD held v 0 ≤ degrees
+    pub degrees-few : (v : ℕ) → v < n → getD held v 0 ≤ mostClasses
     degrees-few v l =
         let vn : v < vertices t = omega (arith, en) in
         let is = held-is n (rw en vertices-few) g eh v l in
@@ -85,10 +85,10 @@ module _ (j g cells counts : List ℕ) (passed : phaseVerdict 1 j g ≡ Go) (ed 
     laid-edges = ee ∙ ap (λ (m : ℕ). edges m (edge g)) en
 
     pub wanted-enough : e ≤ w
-    wanted-enough = omega (arith, laid-edges, cells-sum, edges-within (vertices t) (vertexDegree t) (t .cells) g filling)
+    wanted-enough = omega (arith, laid-edges, cells-sum, edges-within (vertices t) (vertexClass t) (t .cells) g filling)
 
     pub wanted-most : w ≤ mostEdges
-    wanted-most = omega (arith, cells-sum, few-edges (vertices t) (vertexDegree t) (t .cells) (filling .target) (filling .few))
+    wanted-most = omega (arith, cells-sum, few-edges (vertices t) (vertexClass t) (t .cells) (filling .target) (filling .few))
 
     pub missing-is : w - e ≡ missing j g
     missing-is = ap₂ _-_ ew laid-edges ∙ ap (λ (u : DegreeTable). wanted (u .cells) - edges (vertices u) (edge g)) said
@@ -117,7 +117,7 @@ module _ (j g cells counts : List ℕ) (passed : phaseVerdict 1 j g ≡ Go) (ed 
         ∙ sym (fill-all n (classFrom starts) (matrixOf cells) mostEdges (fresh g) refl
         (few-edges n (classFrom starts) (matrixOf cells) (classed-filling .target) (classed-filling .few)) classed-filling)
         ∙ ap₂ (λ (m : ℕ) (cls : ℕ → ℕ). run mostEdges m cls (matrixOf cells) (fresh g)) en (table-classes cells ed es)
-        ∙ ap (λ (u : DegreeTable). run mostEdges (vertices u) (vertexDegree u) (u .cells) (fresh g)) said
+        ∙ ap (λ (u : DegreeTable). run mostEdges (vertices u) (vertexClass u) (u .cells) (fresh g)) said
 
 -- the work done, in the state r; q is what it was to end in
 module _ (j g : List ℕ) {q : Ran} (works : CompleteWorks j g q) {r : Ran} (e : r ≡ q) where

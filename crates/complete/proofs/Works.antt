@@ -16,14 +16,13 @@ use Rattle.finite.proofs.Sum.{sumTo-term, sumTo-mono, sumTo-cong, sumTo-scale, 
 use Rattle.finite.proofs.Lowest.{lowest-ge, lowest-before, lowest-holds}
 use Rattle.graph.specs.Graph.{jdm, edges, size}
 use Rattle.graph.specs.Target.{Target, Open}
-use Rattle.graph.specs.Tests.{leastDegree, mostDegree, degrees}
+use Rattle.graph.specs.Tests.{leastClass, mostDegree, mostClasses, classDegree}
 use Rattle.graph.proofs.Necessary.{necessary-always}
 use Rattle.graph.specs.Theorems.{Rule, allCells, Ended}
 use Rattle.graph.proofs.Completion.{completes-by-any-rule}
 use Rattle.layout.specs.Layout.{mostVertices}
 use Rattle.adjacency.specs.Adjacency.{edge}
 use Rattle.adjacency.proofs.Facts.{ZeroOutside}
-use Rattle.joining.specs.Join.{own}
 use Rattle.joining.proofs.Bytes.{join-bytes, join-outside}
 use Rattle.complete.specs.Choice.{shortCell, shortL, shortK, openW, openV}
 use Rattle.complete.specs.Complete.{Ran, fresh, joined, next, isIncomplete, run, mostEdges}
@@ -32,58 +31,58 @@ use Rattle.complete.proofs.Chosen.{chosen, opened}
 
 module _ (n : ℕ) (cls : ℕ → ℕ) (T : ℕ → ℕ → ℕ) where
   -- every vertex has one class
-  sizes : ((v : ℕ) → v < n → cls v < degrees) → sumTo degrees (size n cls) ≡ n
+  sizes : ((v : ℕ) → v < n → cls v < mostClasses) → sumTo mostClasses (size n cls) ≡ n
   sizes classed =
-      sumTo-swap degrees n (λ k v. δ (cls v) k)
-      ∙ sumTo-cong n (λ v. sumTo degrees (λ k. δ (cls v) k)) (λ v. 1) one
+      sumTo-swap mostClasses n (λ k v. δ (cls v) k)
+      ∙ sumTo-cong n (λ v. sumTo mostClasses (λ k. δ (cls v) k)) (λ v. 1) one
       ∙ sumTo-const 1 n
       ∙ mul-one n
     where
-      one : (v : ℕ) → v < n → sumTo degrees (λ k. δ (cls v) k) ≡ 1
+      one : (v : ℕ) → v < n → sumTo mostClasses (λ k. δ (cls v) k) ≡ 1
       one v p =
-          sumTo-cong degrees (λ k. δ (cls v) k) (λ k. δ k (cls v) * 1) (λ k q. δ-sym (cls v) k ∙ sym (mul-one (δ k (cls v))))
-          ∙ sumTo-at degrees (cls v) (λ k. 1) (classed v p)
+          sumTo-cong mostClasses (λ k. δ (cls v) k) (λ k. δ k (cls v) * 1) (λ k q. δ-sym (cls v) k ∙ sym (mul-one (δ k (cls v))))
+          ∙ sumTo-at mostClasses (cls v) (λ k. 1) (classed v p)
 
   -- 200 vertices of degree at most 40 have at most 4,000 edges
-  pub few-edges : Target n degrees cls own T → n ≤ mostVertices → allCells degrees T ≤ 2 * mostEdges
+  pub few-edges : Target n mostClasses cls classDegree T → n ≤ mostVertices → allCells mostClasses T ≤ 2 * mostEdges
   few-edges target few =
       omega (
         arith,
-        sumTo-mono degrees (λ k. sumTo degrees (T k)) (λ k. mostDegree * size n cls k)
+        sumTo-mono mostClasses (λ k. sumTo mostClasses (T k)) (λ k. mostDegree * size n cls k)
             (λ k p. rw (target .rows k p) (mul-le-mul-right (size n cls k) (le k p))),
-        sumTo-scale mostDegree degrees (size n cls),
+        sumTo-scale mostDegree mostClasses (size n cls),
         sizes (target .classed),
       )
     where
-      le : (k : ℕ) → k < degrees → k ≤ mostDegree
+      le : (k : ℕ) → k < mostClasses → k ≤ mostDegree
       le k p = omega arith
 
   -- a cell of degree 0 holds nothing
-  none-of-0 : Target n degrees cls own T → (l : ℕ) → l < degrees → T 0 l ≡ 0
+  none-of-0 : Target n mostClasses cls classDegree T → (l : ℕ) → l < mostClasses → T 0 l ≡ 0
   none-of-0 target l lC =
-      omega (arith, sumTo-term degrees (T 0) l lC, target .rows 0 (omega arith), zero-mul (size n cls 0))
+      omega (arith, sumTo-term mostClasses (T 0) l lC, target .rows 0 (omega arith), zero-mul (size n cls 0))
 
   -- what holds all along
   abbrev pub Good : Ran → Type 0
   Good s = Filling n cls T (s .adjacency) × ZeroOutside n (s .adjacency)
 
   -- where no cell is short, all are full
-  pub stops : (s : Ran) → Filling n cls T (s .adjacency) → isIncomplete n cls T s ≡ false → (k l : ℕ) → k < degrees → l < degrees
+  pub stops : (s : Ran) → Filling n cls T (s .adjacency) → isIncomplete n cls T s ≡ false → (k l : ℕ) → k < mostClasses → l < mostClasses
       → jdm n cls (edge (s .adjacency)) k l ≡ T k l
   stops s f e k l kC lC = go (decLt l k)
     where
       g : List ℕ
       g = s .adjacency
 
-      upper : (k l : ℕ) → k < degrees → l < degrees → k ≤ l → jdm n cls (edge g) k l ≡ T k l
+      upper : (k l : ℕ) → k < mostClasses → l < mostClasses → k ≤ l → jdm n cls (edge g) k l ≡ T k l
       upper k l kC lC kl = at (decLt 0 k)
         where
           at : Dec (0 < k) → jdm n cls (edge g) k l ≡ T k l
           at (yes k1) =
-              let row = lowest-before leastDegree degrees (λ i. ltb (shortL n cls T g i) degrees) (omega arith) k k1
-              (omega (arith, ltb-false (shortK n cls T g) degrees e)) in
-              let cell = lowest-before k degrees (shortCell n cls T g k) (omega arith) l kl
-              (omega (arith, ltb-false (shortL n cls T g k) degrees row)) in
+              let row = lowest-before leastClass mostClasses (λ i. ltb (shortL n cls T g i) mostClasses) (omega arith) k k1
+              (omega (arith, ltb-false (shortK n cls T g) mostClasses e)) in
+              let cell = lowest-before k mostClasses (shortCell n cls T g k) (omega arith) l kl
+              (omega (arith, ltb-false (shortL n cls T g k) mostClasses row)) in
               omega (arith, ltb-false (jdm n cls (edge g) k l) (T k l) cell, f .partial .within k l kC lC)
           at (no k0) =
               let z : k ≡ 0 = omega arith in
@@ -92,15 +91,15 @@ module _ (n : ℕ) (cls : ℕ → ℕ) (T : ℕ → ℕ → ℕ) where
       go : Dec (l < k) → jdm n cls (edge g) k l ≡ T k l
       go (no h) = upper k l kC lC (omega arith)
       go (yes h) =
-          necessary-always n degrees cls (edge g) (f .partial .simple) (f .target .classed) .symmetric k l
+          necessary-always n mostClasses cls (edge g) (f .partial .simple) (f .target .classed) .symmetric k l
           ∙ upper l k lC kC (omega arith)
           ∙ f .target .symmetric l k lC kC
 
   -- the lowest short cell, where there is one
-  pub short-cell : (g : List ℕ) → ltb (shortK n cls T g) degrees ≡ true
-      → (shortK n cls T g < degrees) × (shortL n cls T g (shortK n cls T g) < degrees)
+  pub short-cell : (g : List ℕ) → ltb (shortK n cls T g) mostClasses ≡ true
+      → (shortK n cls T g < mostClasses) × (shortL n cls T g (shortK n cls T g) < mostClasses)
       × (jdm n cls (edge g) (shortK n cls T g) (shortL n cls T g (shortK n cls T g)) < T (shortK n cls T g) (shortL n cls T g (shortK n cls T g)))
-  short-cell g e = (kC, lC, ltb-true (jdm n cls (edge g) k l) (T k l) (lowest-holds k degrees (shortCell n cls T g k) (omega (arith, kC)) lC))
+  short-cell g e = (kC, lC, ltb-true (jdm n cls (edge g) k l) (T k l) (lowest-holds k mostClasses (shortCell n cls T g k) (omega (arith, kC)) lC))
     where
       k : ℕ
       k = shortK n cls T g
@@ -108,11 +107,11 @@ module _ (n : ℕ) (cls : ℕ → ℕ) (T : ℕ → ℕ → ℕ) where
       l : ℕ
       l = shortL n cls T g k
 
-      kC : k < degrees
-      kC = ltb-true k degrees e
+      kC : k < mostClasses
+      kC = ltb-true k mostClasses e
 
-      lC : l < degrees
-      lC = ltb-true l degrees (lowest-holds leastDegree degrees (λ i. ltb (shortL n cls T g i) degrees) (omega arith) kC)
+      lC : l < mostClasses
+      lC = ltb-true l mostClasses (lowest-holds leastClass mostClasses (λ i. ltb (shortL n cls T g i) mostClasses) (omega arith) kC)
 
   -- the pair that is joined next
   abbrev pub nextV : Ran → ℕ
@@ -137,7 +136,7 @@ module _ (n : ℕ) (cls : ℕ → ℕ) (T : ℕ → ℕ → ℕ) where
       let l = shortL n cls T g k in
       let h = short-cell g e in
       let c = chosen n cls T g (good .0) k l (h .0) (h .1) (h .2) in
-      go (nextV s) (nextW s) k l (c .row) (c .column) (c .above) (lowest-ge k degrees (shortCell n cls T g k) (omega (arith, h .0))) (decLt (nextV s) (nextW s))
+      go (nextV s) (nextW s) k l (c .row) (c .column) (c .above) (lowest-ge k mostClasses (shortCell n cls T g k) (omega (arith, h .0))) (decLt (nextV s) (nextW s))
     where
       go : (v w k l : ℕ) → cls v ≡ k → cls w ≡ l → (k ≡ l → v < w) → k ≤ l → Dec (v < w) → v < w
       go v w k l ev ew above kl (yes p) = p
@@ -165,9 +164,9 @@ module _ (n : ℕ) (cls : ℕ → ℕ) (T : ℕ → ℕ → ℕ) where
   pub record Finished (g : List ℕ) (r : Ran) : Type 0 where
     pub filling : Filling n cls T (r .adjacency)
     pub outside : ZeroOutside n (r .adjacency)
-    pub full : (k l : ℕ) → k < degrees → l < degrees → jdm n cls (edge (r .adjacency)) k l ≡ T k l
+    pub full : (k l : ℕ) → k < mostClasses → l < mostClasses → jdm n cls (edge (r .adjacency)) k l ≡ T k l
     pub counted : r .joins + edges n (edge g) ≡ edges n (edge (r .adjacency))
-    pub missing : allCells degrees T ≡ 2 * edges n (edge (r .adjacency))
+    pub missing : allCells mostClasses T ≡ 2 * edges n (edge (r .adjacency))
 
   -- each is one rule
   module _ {S : Type 0} (c : Chooser S) where
@@ -178,7 +177,7 @@ module _ (n : ℕ) (cls : ℕ → ℕ) (T : ℕ → ℕ → ℕ) where
     pub next-good : (s : S) → Good (c .ran s) → short s ≡ true → Good (c .ran (c .next s))
     next-good s good e = rw (c .joins s) (joined-good (c .ran s) good (c .v s) (c .w s) (c .pair s good e))
 
-    abbrev rule : Rule n degrees cls own T S
+    abbrev rule : Rule n mostClasses cls classDegree T S
     rule =
         record {
           graph = λ s. edge (c .ran s .adjacency);
@@ -215,9 +214,9 @@ module _ (n : ℕ) (cls : ℕ → ℕ) (T : ℕ → ℕ → ℕ) where
         good : Good (c .ran s)
         good = rw start (f, out)
 
-        r : Ended n degrees cls own T rule s (iterate mostEdges short (c .next) s)
+        r : Ended n mostClasses cls classDegree T rule s (iterate mostEdges short (c .next) s)
         r =
-            completes-by-any-rule n degrees cls own T (f .target) S rule mostEdges s good
+            completes-by-any-rule n mostClasses cls classDegree T (f .target) S rule mostEdges s good
             (omega (arith, few-edges (f .target) (f .few)))
 
   -- the lowest open pair is one choice

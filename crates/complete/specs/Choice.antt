@@ -7,7 +7,7 @@ use Prim.Native.Nat.{ℕ}
 use lib.Dec.{eqb, ltb}
 use Rattle.finite.specs.Range.{lowest}
 use Rattle.graph.specs.Graph.{jdm}
-use Rattle.graph.specs.Tests.{leastDegree, degrees}
+use Rattle.graph.specs.Tests.{leastClass, mostClasses}
 use Rattle.adjacency.specs.Adjacency.{edge}
 
 -- cell (k, l) is below the table
@@ -16,10 +16,10 @@ shortCell n cls T g k l = ltb (jdm n cls (edge g) k l) (T k l)
 
 -- the lowest l from k on with (k, l) short, and the lowest k that has one; past the degrees where there is none
 abbrev pub shortL : ℕ → (ℕ → ℕ) → (ℕ → ℕ → ℕ) → List ℕ → ℕ → ℕ
-shortL n cls T g k = lowest k degrees (shortCell n cls T g k)
+shortL n cls T g k = lowest k mostClasses (shortCell n cls T g k)
 
 abbrev pub shortK : ℕ → (ℕ → ℕ) → (ℕ → ℕ → ℕ) → List ℕ → ℕ
-shortK n cls T g = lowest leastDegree degrees (λ k. ltb (shortL n cls T g k) degrees)
+shortK n cls T g = lowest leastClass mostClasses (λ k. ltb (shortL n cls T g k) mostClasses)
 
 -- w has degree l, is not linked to v and is not v; for k = l it is above v
 abbrev pub openColumn : (ℕ → ℕ) → List ℕ → ℕ → ℕ → ℕ → ℕ → Bool

@@ -13,12 +13,12 @@ use Rattle.answer.specs.declared.Cause.the-variants.{OutputTooShort}
 use Rattle.answer.specs.declared.CompleteAnswer.{CompleteAnswer}
 use Rattle.answer.specs.declared.CompleteAnswer.the-variants.{Completed, Refused}
 use Rattle.graph.specs.Graph.{edges}
-use Rattle.graph.specs.Tests.{mostDegree, degrees}
+use Rattle.graph.specs.Tests.{mostDegree, mostClasses}
 use Rattle.layout.specs.Layout.{mostVertices, wanted}
 use Rattle.journal.specs.Journal.{jdmOf}
 use Rattle.adjacency.specs.Adjacency.{edge}
 use Rattle.state.specs.Checks.{phaseVerdict}
-use Rattle.state.specs.Laid.{vertexCount, degreeAt}
+use Rattle.state.specs.Laid.{vertexCount, classAt}
 use Rattle.joining.specs.Join.{joinBytes, joinSwitches}
 use Rattle.complete.specs.Choice.{shortK, shortL, openV, openW}
 use Rattle.join_records.specs.Record.{joinRecordSize, joinRecord}
@@ -55,7 +55,7 @@ next n cls T s =
 
 -- some cell is short
 abbrev pub isIncomplete : ℕ → (ℕ → ℕ) → (ℕ → ℕ → ℕ) → Ran → Bool
-isIncomplete n cls T s = ltb (shortK n cls T (s .adjacency)) degrees
+isIncomplete n cls T s = ltb (shortK n cls T (s .adjacency)) mostClasses
 
 -- at most `fuel` joins, while a cell is short
 abbrev pub run : ℕ → ℕ → (ℕ → ℕ) → (ℕ → ℕ → ℕ) → Ran → Ran
@@ -67,7 +67,7 @@ mostEdges = mostVertices * mostDegree / 2
 
 -- a laid state completed
 abbrev pub completed : List ℕ → List ℕ → Ran
-completed j g = run mostEdges (vertexCount j) (degreeAt j) (jdmOf j) (fresh g)
+completed j g = run mostEdges (vertexCount j) (classAt j) (jdmOf j) (fresh g)
 
 -- the edges that are missing: wanted, less those laid
 abbrev pub missing : List ℕ → List ℕ → ℕ

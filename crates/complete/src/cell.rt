@@ -22,6 +22,7 @@ use join_records::put_record;
 use joining::End;
 use layout::MAX_VERTICES;
 use slices::least;
+use table::class::class_degree;
 
 // Edges added and switches made.
 pub struct Totals {
@@ -85,8 +86,8 @@ fn fill_step(
     ensures { λ _. ⌜ now (held .exit) ≡ degreesOf n (now (adjacency .exit)) ⌝ }
 {
     let pair = open_pair(adjacency, cell, cursor.at.v, cursor.at.w);
-    let v = advance(held, cursor.low.v, cell.rows.to, cell.k);
-    let w = advance(held, cursor.low.w, cell.columns.to, cell.l);
+    let v = advance(held, cursor.low.v, cell.rows.to, class_degree(cell.k));
+    let w = advance(held, cursor.low.w, cell.columns.to, class_degree(cell.l));
     let row = End {
         at: pair.v,
         class: cell.k,

@@ -4,7 +4,7 @@ ghost use mathlib.Core.Bool.{cond};
 ghost use Prim.Native.Nat.{_+_, _-_, _/_, _<_};
 ghost use lib.Dec.{eqb};
 ghost use lib.ListN.{length};
-ghost use Rattle.graph.specs.Tests.{degrees};
+ghost use Rattle.graph.specs.Tests.{mostClasses};
 ghost use Rattle.table.specs.Inner.Cells.{matrixOf};
 ghost use Rattle.adjacency.specs.Adjacency.{adjacencySize, edge};
 ghost use Rattle.joining.specs.Inner.Work.{degreesOf};
@@ -20,11 +20,12 @@ use classes::block_sum;
 use layout::MAX_VERTICES;
 use table::cells::CELLS;
 use table::cells::cell;
-use table::degree::DEGREES;
+use table::class::LEAST_CLASS;
+use table::class::MAX_CLASSES;
 
 // Cell (k, l) between the starts of its classes.
 fn cell_at(starts: &[usize; STARTS], k: usize, l: usize) -> Cell
-    requires { ⌜ (k < degrees) × (l < degrees) ⌝ }
+    requires { ⌜ (k < mostClasses) × (l < mostClasses) ⌝ }
     ensures { λ r. ⌜ r ≡ cellIn (now (starts .entry)) k l ⌝ }
 {
     Cell {
@@ -82,7 +83,7 @@ fn complete_cell(
     l: usize,
     totals: Totals,
 ) -> Totals
-    requires { ⌜ Working n (now cells) (now starts) (now held) (length (now output)) (ran (now adjacency) (now output) totals) × (k < degrees) × (l < degrees) ⌝ }
+    requires { ⌜ Working n (now cells) (now starts) (now held) (length (now output)) (ran (now adjacency) (now output) totals) × (k < mostClasses) × (l < mostClasses) ⌝ }
     ensures { λ r. ⌜ ran (now (adjacency .exit)) (now (output .exit)) r ≡ fillCell n (classFrom (now (starts .entry))) (matrixOf (now (cells .entry))) k l (ran (now (adjacency .entry)) (now (output .entry)) totals) ⌝ }
     ensures { λ r. ⌜ WroteRecords (totals .joins) (r .joins) (now (output .entry)) (now (output .exit)) ⌝ }
     ensures { λ _. ⌜ now (held .exit) ≡ degreesOf n (now (adjacency .exit)) ⌝ }
@@ -103,7 +104,7 @@ fn complete_row(
     k: usize,
     totals: Totals,
 ) -> Totals
-    requires { ⌜ Working n (now cells) (now starts) (now held) (length (now output)) (ran (now adjacency) (now output) totals) × (k < degrees) ⌝ }
+    requires { ⌜ Working n (now cells) (now starts) (now held) (length (now output)) (ran (now adjacency) (now output) totals) × (k < mostClasses) ⌝ }
     ensures { λ r. ⌜ ran (now (adjacency .exit)) (now (output .exit)) r ≡ fillRow n (classFrom (now (starts .entry))) (matrixOf (now (cells .entry))) k (ran (now (adjacency .entry)) (now (output .entry)) totals) ⌝ }
     ensures { λ r. ⌜ WroteRecords (totals .joins) (r .joins) (now (output .entry)) (now (output .exit)) ⌝ }
     ensures { λ _. ⌜ now (held .exit) ≡ degreesOf n (now (adjacency .exit)) ⌝ }
@@ -112,7 +113,7 @@ fn complete_row(
         return totals;
     }
     let mut sum = totals;
-    for i in 0..DEGREES - k {
+    for i in 0..MAX_CLASSES - k {
         sum = complete_cell(adjacency, output, held, cells, starts, n, k, k + i, sum);
     }
     sum
@@ -133,8 +134,17 @@ pub fn complete_rows(
     ensures { λ r. ⌜ WroteRecords (totals .joins) (r .joins) (now (output .entry)) (now (output .exit)) ⌝ }
 {
     let mut sum = totals;
-    for i in 0..DEGREES - 1 {
-        sum = complete_row(adjacency, output, held, cells, starts, n, 1 + i, sum);
+    for i in 0..MAX_CLASSES - LEAST_CLASS {
+        sum = complete_row(
+            adjacency,
+            output,
+            held,
+            cells,
+            starts,
+            n,
+            LEAST_CLASS + i,
+            sum,
+        );
     }
     sum
 }

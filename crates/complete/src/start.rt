@@ -11,11 +11,11 @@ use layout::edges_wanted;
 use layout::vertex_count;
 use state::sum_table;
 use table::cells::CELLS;
-use table::degree::DEGREES;
+use table::class::MAX_CLASSES;
 
 // How many vertices each degree has, and how many there are; the degrees that they have so far; and the edges that are missing.
 pub struct Start {
-    pub counts: [usize; DEGREES],
+    pub counts: [usize; MAX_CLASSES],
     pub n: usize,
     pub held: [usize; MAX_VERTICES],
     pub missing: usize,

@@ -12,7 +12,7 @@ use lib.ListN.{length, getD, set, replicate, length-set, length-replicate}
 use lib.Seq.{getD-set-same, getD-set-other}
 use borrow.Author.Tests.{lt-ltb, le-ltb, ltb-true, eq-eqb, ne-eqb}
 use Rattle.finite.specs.Range.{bit}
-use Rattle.graph.specs.Tests.{degrees}
+use Rattle.graph.specs.Tests.{mostClasses}
 use Rattle.slices.proofs.Zero.{getD-zeros}
 use Rattle.table.specs.Inner.Cells.{cellsSize, matrixOf}
 use Rattle.adjacency.specs.Adjacency.{side, edge}
@@ -25,9 +25,9 @@ use Rattle.complete.specs.Inner.Work.{Arranged}
 use Rattle.complete_shuffled.specs.Inner.Track.{cellPlace, cellHas, Countable, Counted}
 
 -- a cell on or above the diagonal stands at its place
-pub cell-at : (x : List ℕ) (k l : ℕ) → k ≤ l → l < degrees → matrixOf x k l ≡ getD x (cellPlace k l) 0
+pub cell-at : (x : List ℕ) (k l : ℕ) → k ≤ l → l < mostClasses → matrixOf x k l ≡ getD x (cellPlace k l) 0
 cell-at x k l kl ld =
-    rw (lt-ltb k degrees (omega arith), lt-ltb l degrees ld) (ap (λ (p : ℕ). getD x p 0) (omega arith))
+    rw (lt-ltb k mostClasses (omega arith), lt-ltb l mostClasses ld) (ap (λ (p : ℕ). getD x p 0) (omega arith))
 
 -- a place other than p is before the next one where it is before p
 before-next : (q p : ℕ) → q ≢ p → ltb q (p + 1) ≡ ltb q p
@@ -38,12 +38,12 @@ before-next q p h = go (decLt q p)
     go (no l) = le-ltb q (p + 1) (omega (arith, h)) ∙ sym (le-ltb q p (omega arith))
 
 -- the vertices of class l
-module _ {n : ℕ} {starts : List ℕ} (a : Arranged n starts) (l : ℕ) (ld : l < degrees) where
+module _ {n : ℕ} {starts : List ℕ} (a : Arranged n starts) (l : ℕ) (ld : l < mostClasses) where
   pub class-range : (getD starts l 0 ≤ getD starts (l + 1) 0) × (getD starts (l + 1) 0 ≤ n)
   class-range = (start-rises (a .numbered) l (l + 1) (omega arith) (omega arith), start-most (a .numbered) (l + 1) (omega arith))
 
   -- flags marked for them stay flags
-  module _ {g full : List ℕ} (s : Scannable n g full) (k : ℕ) (kd : k < degrees) where
+  module _ {g full : List ℕ} (s : Scannable n g full) (k : ℕ) (kd : k < mostClasses) where
     few : getD starts (l + 1) 0 ≤ side
     few = omega (arith, class-range .1, a .few)
 
@@ -92,7 +92,7 @@ module _ {n : ℕ} {cells starts g : List ℕ} (c : Countable n cells starts g) 
       zero p = ap (λ (f : List ℕ). getD f p 0) ef ∙ getD-zeros flagsSize p
 
   -- the same cells stand before p as before q
-  pub counted-same : (p q : ℕ) {have full : List ℕ} → ((k l : ℕ) → k ≤ l → l < degrees → ltb (cellPlace k l) p ≡ ltb (cellPlace k l) q)
+  pub counted-same : (p q : ℕ) {have full : List ℕ} → ((k l : ℕ) → k ≤ l → l < mostClasses → ltb (cellPlace k l) p ≡ ltb (cellPlace k l) q)
       → Counted p n cells starts g have full → Counted q n cells starts g have full
   counted-same p q s d =
       record {
@@ -106,16 +106,16 @@ module _ {n : ℕ} {cells starts g : List ℕ} (c : Countable n cells starts g) 
       }
 
   -- row k begins with its cell on the diagonal
-  pub counted-row : (k : ℕ) {have full : List ℕ} → k < degrees → Counted (cellPlace k 0) n cells starts g have full → Counted (cellPlace k k) n cells starts g have full
+  pub counted-row : (k : ℕ) {have full : List ℕ} → k < mostClasses → Counted (cellPlace k 0) n cells starts g have full → Counted (cellPlace k k) n cells starts g have full
   counted-row k kd = counted-same (cellPlace k 0) (cellPlace k k) (λ i j ij jd. same i j ij jd (decLt (cellPlace i j) (cellPlace k 0)))
     where
-      same : (i j : ℕ) → i ≤ j → j < degrees → Dec (cellPlace i j < cellPlace k 0) → ltb (cellPlace i j) (cellPlace k 0) ≡ ltb (cellPlace i j) (cellPlace k k)
+      same : (i j : ℕ) → i ≤ j → j < mostClasses → Dec (cellPlace i j < cellPlace k 0) → ltb (cellPlace i j) (cellPlace k 0) ≡ ltb (cellPlace i j) (cellPlace k k)
       same i j ij jd (yes h) = lt-ltb (cellPlace i j) (cellPlace k 0) h ∙ sym (lt-ltb (cellPlace i j) (cellPlace k k) (omega arith))
       same i j ij jd (no h) =
           le-ltb (cellPlace i j) (cellPlace k 0) (omega arith) ∙ sym (le-ltb (cellPlace i j) (cellPlace k k) (omega arith))
 
   -- cell (k, l)
-  module _ (k l : ℕ) (kl : k ≤ l) (ld : l < degrees) where
+  module _ (k l : ℕ) (kl : k ≤ l) (ld : l < mostClasses) where
     pub cell-block : BlockOf g (getD starts k 0) (getD starts (k + 1) 0) (getD starts l 0) (getD starts (l + 1) 0)
     cell-block =
         record {
@@ -134,7 +134,7 @@ module _ {n : ℕ} {cells starts g : List ℕ} (c : Countable n cells starts g) 
 
     -- What it has is written down, and it is flagged where it is full: full′ is what the flags are then.
     module _ {have full : List ℕ} (d : Counted (cellPlace k l) n cells starts g have full) (m : ℕ) (e : m ≡ cellHas n starts g k l) where
-      has-next : (i j : ℕ) → i ≤ j → j < degrees → cellPlace i j < cellPlace k l + 1
+      has-next : (i j : ℕ) → i ≤ j → j < mostClasses → cellPlace i j < cellPlace k l + 1
           → getD (set have (cellPlace k l) m) (cellPlace i j) 0 ≡ cellHas n starts g i j
       has-next i j ij jd h = go (ℕ-discrete (cellPlace i j) (cellPlace k l))
         where
@@ -157,7 +157,7 @@ module _ {n : ℕ} {cells starts g : List ℕ} (c : Countable n cells starts g) 
             flagged = λ j w jd wn jl. go j w jd wn jl (class-below (c .arranged .numbered) w wn) (ℕ-discrete (cellPlace j (classFrom starts w)) (cellPlace k l));
           }
         where
-          go : (j w : ℕ) → j < degrees → w < n → j ≤ classFrom starts w → classFrom starts w < degrees → Dec (cellPlace j (classFrom starts w) ≡ cellPlace k l)
+          go : (j w : ℕ) → j < mostClasses → w < n → j ≤ classFrom starts w → classFrom starts w < mostClasses → Dec (cellPlace j (classFrom starts w) ≡ cellPlace k l)
               → getD full′ (j * side + w) 0
               ≡ bit (ltb (cellPlace j (classFrom starts w)) (cellPlace k l + 1) && eqb (cellHas n starts g j (classFrom starts w)) (matrixOf cells j (classFrom starts w)))
           go j w jd wn jl cd (yes q) =

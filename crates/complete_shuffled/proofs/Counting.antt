@@ -8,7 +8,7 @@ use Rattle.finite.specs.Range.{sumTo}
 use Rattle.finite.proofs.Sum.{sumTo-cong}
 use Rattle.finite.proofs.Fold.{iterate-next, iterate-stop}
 use Rattle.graph.specs.Graph.{jdm, edges}
-use Rattle.graph.specs.Tests.{degrees}
+use Rattle.graph.specs.Tests.{mostClasses}
 use Rattle.graph.proofs.Completion.{cells-twice}
 use Rattle.layout.specs.Layout.{wanted}
 use Rattle.adjacency.specs.Adjacency.{edge}
@@ -28,9 +28,9 @@ module _ (n : ℕ) (cls : ℕ → ℕ) (T : ℕ → ℕ → ℕ) where
   stopped s f e =
       omega (
         arith,
-        sumTo-cong degrees (λ k. sumTo degrees (T k)) (λ k. sumTo degrees (jdm n cls (edge (s .adjacency)) k))
-            (λ k p. sumTo-cong degrees (T k) (jdm n cls (edge (s .adjacency)) k) (λ l q. sym (stops n cls T s f e k l p q))),
-        cells-twice n degrees cls (edge (s .adjacency)) (f .partial .simple) (f .target .classed),
+        sumTo-cong mostClasses (λ k. sumTo mostClasses (T k)) (λ k. sumTo mostClasses (jdm n cls (edge (s .adjacency)) k))
+            (λ k p. sumTo-cong mostClasses (T k) (jdm n cls (edge (s .adjacency)) k) (λ l q. sym (stops n cls T s f e k l p q))),
+        cells-twice n mostClasses cls (edge (s .adjacency)) (f .partial .simple) (f .target .classed),
       )
 
   module _ (s : Shuffled) (f : Filling n cls T (s .ran .adjacency)) where

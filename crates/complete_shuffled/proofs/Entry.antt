@@ -9,7 +9,7 @@ use Rattle.finite.proofs.Fold.{fillTo-at}
 use Rattle.answer.specs.declared.ShuffleAnswer.the-variants.{Completed}
 use Rattle.answer.specs.declared.Verdict.the-variants.{Go}
 use Rattle.graph.specs.Graph.{DegreeTable}
-use Rattle.graph.specs.Tests.{vertices, vertexDegree}
+use Rattle.graph.specs.Tests.{vertices, vertexClass}
 use Rattle.table.specs.Inner.Cells.{matrixOf}
 use Rattle.layout.specs.Layout.{mostVertices}
 use Rattle.layout.specs.Inner.Arrays.{countIn, tableIn, classesOf}
@@ -40,7 +40,7 @@ module _ (j g cells : List ℕ) (b : Start) (passed : phaseVerdict 1 j g ≡ Go)
   pub begin-classes : {classes : List ℕ} → classes ≡ classesOf t → ClassArray (b .n) starts classes
   begin-classes ec v vn =
       ap (λ (l : List ℕ). getD l v 0) ec
-      ∙ fillTo-at (vertexDegree t) (replicate mostVertices 0) (vertices t) v (rw length-replicate few) (omega (arith, s .total))
+      ∙ fillTo-at (vertexClass t) (replicate mostVertices 0) (vertices t) v (rw length-replicate few) (omega (arith, s .total))
       ∙ ap (λ (cls : ℕ → ℕ). cls v) (sym (table-classes cells (s .counted) es))
 
   pub begin-lacks : Lacks (b .n) cells g (b .missing)
@@ -59,7 +59,7 @@ module _ (j g cells : List ℕ) (b : Start) (passed : phaseVerdict 1 j g ≡ Go)
     shuffled-is =
         e
         ∙ ap₂ (λ (m : ℕ) (cls : ℕ → ℕ). runShuffled mostEdges m cls (matrixOf cells) (begins g x)) (s .total) (table-classes cells (s .counted) es)
-        ∙ ap (λ (u : DegreeTable). runShuffled mostEdges (vertices u) (vertexDegree u) (u .cells) (begins g x)) (s .said)
+        ∙ ap (λ (u : DegreeTable). runShuffled mostEdges (vertices u) (vertexClass u) (u .cells) (begins g x)) (s .said)
 
     ran-is : r .ran ≡ shuffled j g x .ran
     ran-is = ap (λ (s : Shuffled). s .ran) shuffled-is

@@ -18,7 +18,7 @@ use Rattle.answer.specs.declared.switches.Switch.{Switch}
 use Rattle.answer.specs.declared.switches.Switches.{Switches}
 use Rattle.answer.specs.declared.switches.Switches.the-variants.{None, One, Two}
 use Rattle.graph.specs.Target.{Open}
-use Rattle.graph.specs.Tests.{degrees}
+use Rattle.graph.specs.Tests.{mostClasses}
 use Rattle.graph.proofs.Edge.{atEdge-cell, atEdge-upper}
 use Rattle.table.specs.Inner.Cells.{cellsSize, matrixOf}
 use Rattle.adjacency.specs.Adjacency.{side, edge}
@@ -80,10 +80,10 @@ module _ {n : ℕ} {cells starts classes g have full counts sums : List ℕ} (t 
   st : Stepped n (classFrom starts) (matrixOf cells) g g′ k l
   st = opened n (classFrom starts) (matrixOf cells) g f v w pair
 
-  pub row-class : k < degrees
+  pub row-class : k < mostClasses
   row-class = f .target .classed v (pair .first)
 
-  pub column-class : l < degrees
+  pub column-class : l < mostClasses
   column-class = f .target .classed w (pair .second)
 
   -- classes rise with the vertices
@@ -104,7 +104,7 @@ module _ {n : ℕ} {cells starts classes g have full counts sums : List ℕ} (t 
   others : (i j : ℕ) → i ≤ j → (i ≡ k → j ≡ l → ⊥) → cellHas n starts g′ i j ≡ cellHas n starts g i j
   others i j ij h = omega (arith, st .cells i j, atEdge-upper k l i j classes-rise ij h)
 
-  has-after : (i j : ℕ) → i ≤ j → j < degrees → getD (haveAfter k l have) (cellPlace i j) 0 ≡ cellHas n starts g′ i j
+  has-after : (i j : ℕ) → i ≤ j → j < mostClasses → getD (haveAfter k l have) (cellPlace i j) 0 ≡ cellHas n starts g′ i j
   has-after i j ij jd = go (ℕ-discrete i k) (ℕ-discrete j l)
     where
       elsewhere : (i ≡ k → j ≡ l → ⊥) → getD (haveAfter k l have) (cellPlace i j) 0 ≡ cellHas n starts g′ i j
@@ -148,10 +148,10 @@ module _ {n : ℕ} {cells starts classes g have full counts sums : List ℕ} (t 
   abbrev flag : List ℕ → ℕ → ℕ → ℕ
   flag h i x = bit (ltb (cellPlace i (classFrom starts x)) cellsSize && eqb (cellHas n starts h i (classFrom starts x)) (matrixOf cells i (classFrom starts x)))
 
-  flag-is : (h : List ℕ) (i x : ℕ) → i < degrees → x < n → flag h i x ≡ bit (eqb (cellHas n starts h i (classFrom starts x)) (matrixOf cells i (classFrom starts x)))
+  flag-is : (h : List ℕ) (i x : ℕ) → i < mostClasses → x < n → flag h i x ≡ bit (eqb (cellHas n starts h i (classFrom starts x)) (matrixOf cells i (classFrom starts x)))
   flag-is h i x id xn = rw (lt-ltb (cellPlace i (classFrom starts x)) cellsSize (omega (arith, f .target .classed x xn)))
 
-  flagged-after : (b : Bool) → isFullNow cells k l have ≡ b → (i x : ℕ) → i < degrees → x < n → i ≤ classFrom starts x
+  flagged-after : (b : Bool) → isFullNow cells k l have ≡ b → (i x : ℕ) → i < mostClasses → x < n → i ≤ classFrom starts x
       → getD (cond b (markFull k from to full) full) (i * side + x) 0 ≡ flag g′ i x
   flagged-after b eb i x id xn ix = go b eb (ℕ-discrete i k) (ℕ-discrete (classFrom starts x) l)
     where

@@ -9,7 +9,7 @@ use lib.ListN.{length, getD}
 use lib.Seq.{sets}
 use Rattle.answer.specs.declared.switches.Switches.{Switches}
 use Rattle.graph.specs.Target.{Open}
-use Rattle.graph.specs.Tests.{degrees}
+use Rattle.graph.specs.Tests.{mostClasses}
 use Rattle.table.specs.Inner.Cells.{matrixOf}
 use Rattle.adjacency.specs.Adjacency.{side, edge}
 use Rattle.classes.specs.Inner.Block.{classFrom}
@@ -72,7 +72,7 @@ module _ {n : ℕ} {cells starts classes g have full counts sums low held : List
     -- k and l are their classes, g′ the matrix after the join, s its switches
     module _ {k l : ℕ} (ek : k ≡ classFrom starts v) (el : l ≡ classFrom starts w) {g′ : List ℕ}
         (eg : g′ ≡ joinBytes n (classFrom starts) g v w) {s : Switches} (es : s ≡ joinSwitches n (classFrom starts) g v w) where
-      pub update-asks : (Scannable n g′ full × Classed n classes × Within n s) × ((k ≤ l) × (l < degrees) × (hasNow k l have ≤ matrixOf cells k l))
+      pub update-asks : (Scannable n g′ full × Classed n classes × Within n s) × ((k ≤ l) × (l < mostClasses) × (hasNow k l have ≤ matrixOf cells k l))
       update-asks =
           rw (eg, es, ek, el) (
             (

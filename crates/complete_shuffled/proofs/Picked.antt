@@ -17,11 +17,10 @@ use Rattle.finite.proofs.Lowest.{lowest-only, lowest-none}
 use Rattle.finite.proofs.All.{and-left, and-right, and-both}
 use Rattle.graph.specs.Graph.{jdm}
 use Rattle.graph.specs.Target.{Open}
-use Rattle.graph.specs.Tests.{degrees}
+use Rattle.graph.specs.Tests.{mostClasses, classDegree}
 use Rattle.graph.proofs.Necessary.{necessary-always}
 use Rattle.graph.proofs.OpenPair.{short-has-open-pair}
 use Rattle.adjacency.specs.Adjacency.{edge}
-use Rattle.joining.specs.Join.{own}
 use Rattle.complete.specs.Choice.{shortK, shortL, shortCell}
 use Rattle.complete.specs.Inner.Cellwise.{Filling}
 use Rattle.complete.proofs.Works.{short-cell}
@@ -145,21 +144,21 @@ module _ (n : ℕ) (cls : ℕ → ℕ) (T : ℕ → ℕ → ℕ) (g : List ℕ) 
           unlinked = f .partial .simple .symmetric w v (o .second) (o .first) ∙ o .unlinked;
           short =
               rw (
-                necessary-always n degrees cls (edge g) (f .partial .simple) (f .target .classed) .symmetric (cls w) (cls v),
+                necessary-always n mostClasses cls (edge g) (f .partial .simple) (f .target .classed) .symmetric (cls w) (cls v),
                 f .target .symmetric (cls w) (cls v) (f .target .classed w (o .second)) (f .target .classed v (o .first)),
               )
               (o .short);
         }
 
-    pub some-open : ltb (shortK n cls T g) degrees ≡ true → 0 < openCount n cls T g
+    pub some-open : ltb (shortK n cls T g) mostClasses ≡ true → 0 < openCount n cls T g
     some-open e =
         let h = short-cell n cls T g e in
-        let s = short-has-open-pair n degrees cls own T (edge g) (f .target) (f .partial) (shortK n cls T g) (shortL n cls T g (shortK n cls T g)) (h .0) (h .1) (h .2) in
+        let s = short-has-open-pair n mostClasses cls classDegree T (edge g) (f .target) (f .partial) (shortK n cls T g) (shortL n cls T g (shortK n cls T g)) (h .0) (h .1) (h .2) in
         go (s .0) (s .1) (s .5) (decLt (s .0) (s .1))
       where
         go : (v w : ℕ) → Open n cls T (edge g) v w → Dec (v < w) → 0 < openCount n cls T g
         go v w o (yes h) = counted v w h o
         go v w o (no h) = counted w v (omega (arith, o .distinct)) (turned v w o)
 
-    pub position-below : ltb (shortK n cls T g) degrees ≡ true → (x : ℕ) → position n cls T g x < openCount n cls T g
+    pub position-below : ltb (shortK n cls T g) mostClasses ≡ true → (x : ℕ) → position n cls T g x < openCount n cls T g
     position-below e x = mod-lt _ (some-open e)

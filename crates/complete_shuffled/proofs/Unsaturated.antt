@@ -9,7 +9,7 @@ use lib.Dec.{ltb}
 use lib.ListN.{length, getD, set, length-set}
 use lib.Seq.{getD-set-same, getD-set-other}
 use Rattle.finite.proofs.Lowest.{lowest-le, lowest-ge}
-use Rattle.graph.specs.Tests.{degrees}
+use Rattle.graph.specs.Tests.{mostClasses}
 use Rattle.adjacency.specs.Adjacency.{side}
 use Rattle.classes.specs.Inner.Block.{classFrom}
 use Rattle.classes.proofs.Blocks.{starts-length, start-most}
@@ -37,7 +37,7 @@ module _ {n : ℕ} {starts g low : List ℕ} (arranged : Arranged n starts) (u :
       }
 
   -- the search in class k, by the degrees in `held`
-  module _ {held : List ℕ} (eh : held ≡ degreesOf n g) (k : ℕ) (kd : k < degrees) where
+  module _ {held : List ℕ} (eh : held ≡ degreesOf n g) (k : ℕ) (kd : k < mostClasses) where
     not-before : getD low k 0 ≤ lowFrom held starts low k
     not-before = lowest-ge (getD low k 0) (getD starts (k + 1) 0) (λ i. ltb (getD held i 0) k) (u .to k kd)
 
@@ -81,18 +81,18 @@ module _ {n : ℕ} {starts g low : List ℕ} (arranged : Arranged n starts) (u :
         long : k < length low
         long = omega (arith, u .sized, starts-length (arranged .numbered))
 
-        from : (i : ℕ) → i < degrees → Dec (i ≡ k) → getD starts i 0 ≤ getD (set low k (lowFrom held starts low k)) i 0
+        from : (i : ℕ) → i < mostClasses → Dec (i ≡ k) → getD starts i 0 ≤ getD (set low k (lowFrom held starts low k)) i 0
         from i id (yes e) = rw (e, here long) (omega (arith, u .from k kd, not-before))
         from i id (no d) = rw (else i d) (u .from i id)
 
-        to : (i : ℕ) → i < degrees → Dec (i ≡ k) → getD (set low k (lowFrom held starts low k)) i 0 ≤ getD starts (i + 1) 0
+        to : (i : ℕ) → i < mostClasses → Dec (i ≡ k) → getD (set low k (lowFrom held starts low k)) i 0 ≤ getD starts (i + 1) 0
         to i id (yes e) = rw (e, here long) not-behind
         to i id (no d) = rw (else i d) (u .to i id)
 
-        saturated : (i : ℕ) → i < degrees → Dec (i ≡ k) → Saturated n (classFrom starts) g i (getD (set low k (lowFrom held starts low k)) i 0)
+        saturated : (i : ℕ) → i < mostClasses → Dec (i ≡ k) → Saturated n (classFrom starts) g i (getD (set low k (lowFrom held starts low k)) i 0)
         saturated i id (yes e) = rw (e, here long) passed
         saturated i id (no d) = rw (else i d) (u .saturated i id)
 
 -- the end of a class is within the array of vertices
-pub class-end : {n : ℕ} {starts : List ℕ} → Arranged n starts → (k : ℕ) → k < degrees → getD starts (k + 1) 0 ≤ side
+pub class-end : {n : ℕ} {starts : List ℕ} → Arranged n starts → (k : ℕ) → k < mostClasses → getD starts (k + 1) 0 ≤ side
 class-end arranged k kd = omega (arith, arranged .few, start-most (arranged .numbered) (k + 1) (omega arith))

@@ -9,7 +9,7 @@ use Rattle.finite.proofs.Fold.{foldTo-none, foldTo-more, iterate-keeps}
 use Rattle.answer.specs.declared.Finish.{Finish}
 use Rattle.answer.specs.declared.Finish.the-variants.{Lowest, Picked as PickedFrom}
 use Rattle.journal.specs.Journal.{jdmOf}
-use Rattle.state.specs.Laid.{vertexCount, degreeAt}
+use Rattle.state.specs.Laid.{vertexCount, classAt}
 use Rattle.complete.specs.Complete.{fresh, mostEdges}
 use Rattle.complete.proofs.Works.{Good, Chooser, finishes-by}
 use Rattle.complete.proofs.Records.{records-length}
@@ -53,7 +53,7 @@ module _ (j g : List ℕ) (x : ℕ) where
   pub shuffled-works : CompleteFacts j g → CompleteWorks j g (shuffled j g x .ran)
   shuffled-works f =
       let n = vertexCount j in
-      let cls = degreeAt j in
+      let cls = classAt j in
       let start : Shuffled = record { ran = fresh g; x = x } in
       finished-works j g f (shuffled j g x .ran)
       (finishes-by n cls (jdmOf j) (shuffled-pair n cls (jdmOf j)) start g refl (good-start j g f .0) (good-start j g f .1))
@@ -62,8 +62,8 @@ module _ (j g : List ℕ) (x : ℕ) where
   -- the last x
   pub shuffled-last : shuffled j g x .x ≡ stepsX (shuffled j g x .ran .joins) x
   shuffled-last =
-      iterate-keeps (λ (s : Shuffled). s .x ≡ stepsX (s .ran .joins) x) (isShort (vertexCount j) (degreeAt j) (jdmOf j))
-      (nextShuffled (vertexCount j) (degreeAt j) (jdmOf j)) mostEdges (record { ran = fresh g; x = x })
+      iterate-keeps (λ (s : Shuffled). s .x ≡ stepsX (s .ran .joins) x) (isShort (vertexCount j) (classAt j) (jdmOf j))
+      (nextShuffled (vertexCount j) (classAt j) (jdmOf j)) mostEdges (record { ran = fresh g; x = x })
       (sym (foldTo-none (λ i. nextX) x))
       (λ s h t. ap nextX h ∙ sym (foldTo-more (λ i. nextX) x (s .ran .joins)))
 

@@ -12,7 +12,7 @@ use Rattle.answer.specs.declared.CompleteAnswer.the-variants as Complete
 use Rattle.answer.specs.declared.ShuffleAnswer.{ShuffleAnswer}
 use Rattle.answer.specs.declared.ShuffleAnswer.the-variants.{Completed, Refused}
 use Rattle.journal.specs.Journal.{jdmOf}
-use Rattle.state.specs.Laid.{vertexCount, degreeAt}
+use Rattle.state.specs.Laid.{vertexCount, classAt}
 use Rattle.complete.specs.Complete.{Ran, fresh, joined, isIncomplete, mostEdges, finishAnswer, finishAdjacency, finishOutput}
 use Rattle.complete_shuffled.specs.Choice.{nextX, pairV, pairW, position}
 
@@ -40,7 +40,7 @@ runShuffled fuel n cls T s = iterate fuel (isShort n cls T) (nextShuffled n cls 
 
 -- a laid state completed, from x on
 abbrev pub shuffled : List ℕ → List ℕ → ℕ → Shuffled
-shuffled j g x = runShuffled mostEdges (vertexCount j) (degreeAt j) (jdmOf j) (record { ran = fresh g; x = x })
+shuffled j g x = runShuffled mostEdges (vertexCount j) (classAt j) (jdmOf j) (record { ran = fresh g; x = x })
 
 -- an answer, and x besides where it is no refusal
 abbrev pub withX : ℕ → CompleteAnswer → ShuffleAnswer

@@ -17,10 +17,10 @@ use layout::MAX_VERTICES;
 use open_pairs::refresh::refresh_range;
 use open_pairs::row::SUMS;
 use table::cells::CELLS;
-use table::degree::DEGREES;
+use table::class::MAX_CLASSES;
 
 // One flag for each class and vertex.
-const FLAGS: usize = DEGREES * SIDE;
+const FLAGS: usize = MAX_CLASSES * SIDE;
 
 // m joins: as many as are missing.
 pub fn shuffle_cells(

@@ -3,7 +3,7 @@ ghost use mathlib.Core.Path.{_≡_};
 ghost use mathlib.Core.Bool.{true};
 ghost use Prim.Native.Nat.{_+_, _≤_, _<_};
 ghost use lib.ListN.{length, getD, set};
-ghost use Rattle.graph.specs.Tests.{degrees};
+ghost use Rattle.graph.specs.Tests.{mostClasses};
 ghost use Rattle.table.specs.Inner.Cells.{matrixOf};
 ghost use Rattle.adjacency.specs.Adjacency.{side};
 ghost use Rattle.classes.specs.Inner.Block.{classFrom};
@@ -26,6 +26,7 @@ use layout::MAX_VERTICES;
 use open_pairs::row::SUMS;
 use slices::wide;
 use table::cells::CELLS;
+use table::class::class_degree;
 
 // Edges added and switches made, and x.
 pub struct Shuffle {
@@ -40,11 +41,11 @@ fn low_of(
     low: &mut [usize; STARTS],
     k: usize,
 ) -> usize
-    requires { ⌜ (k < degrees) × (getD (now starts) (k + 1) 0 ≤ side) ⌝ }
+    requires { ⌜ (k < mostClasses) × (getD (now starts) (k + 1) 0 ≤ side) ⌝ }
     ensures { λ r. ⌜ r ≡ lowFrom (now (held .entry)) (now (starts .entry)) (now (low .entry)) k ⌝ }
     ensures { λ _. ⌜ now (low .exit) ≡ set (now (low .entry)) k (lowFrom (now (held .entry)) (now (starts .entry)) (now (low .entry)) k) ⌝ }
 {
-    let v = advance(held, low[k], starts[k + 1], k);
+    let v = advance(held, low[k], starts[k + 1], class_degree(k));
     low[k] = v;
     v
 }

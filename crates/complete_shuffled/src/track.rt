@@ -3,7 +3,7 @@
 ghost use mathlib.Core.Path.{_≡_};
 ghost use Prim.Native.Nat.{_+_, _≤_, _<_};
 ghost use lib.ListN.{replicate};
-ghost use Rattle.graph.specs.Tests.{degrees};
+ghost use Rattle.graph.specs.Tests.{mostClasses};
 ghost use Rattle.table.specs.Inner.Cells.{cellsSize, matrixOf};
 ghost use Rattle.open_pairs.specs.Inner.Rows.{flagsSize, Scannable, Summed};
 ghost use Rattle.open_pairs.specs.Inner.Refresh.{Classed, Within};
@@ -21,7 +21,7 @@ use open_pairs::refresh::refresh_switches;
 use open_pairs::row::SUMS;
 use table::cells::CELLS;
 use table::cells::upper_cell;
-use table::degree::DEGREES;
+use table::class::MAX_CLASSES;
 
 // Cell (k, l), k ≤ l, of n vertices: how much it has, and a flag where it is full.
 fn count_cell(
@@ -34,7 +34,7 @@ fn count_cell(
     k: usize,
     l: usize,
 )
-    requires { ⌜ Countable n (now cells) (now starts) (now adjacency) × Counted (cellPlace k l) n (now cells) (now starts) (now adjacency) (now have) (now full) × (k ≤ l) × (l < degrees) ⌝ }
+    requires { ⌜ Countable n (now cells) (now starts) (now adjacency) × Counted (cellPlace k l) n (now cells) (now starts) (now adjacency) (now have) (now full) × (k ≤ l) × (l < mostClasses) ⌝ }
     ensures { λ _. ⌜ Counted (cellPlace k l + 1) n (now (cells .entry)) (now (starts .entry)) (now (adjacency .entry)) (now (have .exit)) (now (full .exit)) ⌝ }
 {
     let want = upper_cell(cells, k, l);
@@ -48,7 +48,7 @@ fn count_cell(
             starts[l + 1],
         );
     }
-    have[k * DEGREES + l] = sum as u32;
+    have[k * MAX_CLASSES + l] = sum as u32;
     if sum == want {
         mark_full(full, k, starts[l], starts[l + 1]);
     }
@@ -64,10 +64,10 @@ fn count_row(
     n: usize,
     k: usize,
 )
-    requires { ⌜ Countable n (now cells) (now starts) (now adjacency) × Counted (cellPlace k 0) n (now cells) (now starts) (now adjacency) (now have) (now full) × (k < degrees) ⌝ }
+    requires { ⌜ Countable n (now cells) (now starts) (now adjacency) × Counted (cellPlace k 0) n (now cells) (now starts) (now adjacency) (now have) (now full) × (k < mostClasses) ⌝ }
     ensures { λ _. ⌜ Counted (cellPlace (k + 1) 0) n (now (cells .entry)) (now (starts .entry)) (now (adjacency .entry)) (now (have .exit)) (now (full .exit)) ⌝ }
 {
-    for l in k..DEGREES {
+    for l in k..MAX_CLASSES {
         count_cell(adjacency, cells, starts, have, full, n, k, l);
     }
 }
@@ -84,20 +84,20 @@ pub fn count_cells(
     requires { ⌜ Countable n (now cells) (now starts) (now adjacency) × (now have ≡ replicate cellsSize 0) × (now full ≡ replicate flagsSize 0) ⌝ }
     ensures { λ _. ⌜ Counted cellsSize n (now (cells .entry)) (now (starts .entry)) (now (adjacency .entry)) (now (have .exit)) (now (full .exit)) ⌝ }
 {
-    for k in 0..DEGREES {
+    for k in 0..MAX_CLASSES {
         count_row(adjacency, cells, starts, have, full, n, k);
     }
 }
 
 // One more edge in cell (k, l), k ≤ l. Whether it is full now.
 fn add_to_cell(cells: &[u32; CELLS], have: &mut [u32; CELLS], k: usize, l: usize) -> bool
-    requires { ⌜ (k ≤ l) × (l < degrees) × (hasNow k l (now have) ≤ matrixOf (now cells) k l) ⌝ }
+    requires { ⌜ (k ≤ l) × (l < mostClasses) × (hasNow k l (now have) ≤ matrixOf (now cells) k l) ⌝ }
     ensures { λ r. ⌜ r ≡ isFullNow (now (cells .entry)) k l (now (have .entry)) ⌝ }
     ensures { λ _. ⌜ now (have .exit) ≡ haveAfter k l (now (have .entry)) ⌝ }
 {
     let want = upper_cell(cells, k, l);
     let sum = upper_cell(have, k, l) + unit(k, l);
-    have[k * DEGREES + l] = sum as u32;
+    have[k * MAX_CLASSES + l] = sum as u32;
     sum == want
 }
 
@@ -118,7 +118,7 @@ pub fn update(
     made: Switches,
 )
     requires { ⌜ Scannable n (now adjacency) (now full) × Classed n (now classes) × Summed (now counts) (now sums) × Arranged n (now starts) × Within n made ⌝ }
-    requires { ⌜ (v < n) × (k ≤ l) × (l < degrees) × (hasNow k l (now have) ≤ matrixOf (now cells) k l) ⌝ }
+    requires { ⌜ (v < n) × (k ≤ l) × (l < mostClasses) × (hasNow k l (now have) ≤ matrixOf (now cells) k l) ⌝ }
     ensures { λ _. ⌜ now (have .exit) ≡ haveAfter k l (now (have .entry)) ⌝ }
     ensures { λ _. ⌜ now (full .exit) ≡ flagsAfter (now (cells .entry)) (now (starts .entry)) k l (now (have .entry)) (now (full .entry)) ⌝ }
     ensures { λ _. ⌜ now (counts .exit) ≡ countsAfter n (now (starts .entry)) (now (classes .entry)) (now (adjacency .entry)) (flagsAfter (now (cells .entry)) (now (starts .entry)) k l (now (have .entry)) (now (full .entry))) v k (isFullNow (now (cells .entry)) k l (now (have .entry))) made (now (counts .entry)) ⌝ }

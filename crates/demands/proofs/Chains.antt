@@ -34,7 +34,7 @@ use Rattle.answer.specs.declared.WrittenAnswer.the-variants as Write
 use Rattle.answer.specs.declared.ReadAnswer.{ReadAnswer}
 use Rattle.answer.specs.declared.ReadAnswer.the-variants as Read
 use Rattle.graph.specs.Graph.{DegreeTable}
-use Rattle.graph.specs.Tests.{degrees, firstOdd, firstUneven, firstOverfull, firstOverfullIn, vertices}
+use Rattle.graph.specs.Tests.{mostClasses, firstOdd, firstUneven, firstOverfull, firstOverfullIn, vertices}
 use Rattle.layout.specs.Layout.{mostVertices, layoutVerdict}
 use Rattle.table.specs.Block.{records, firstBad}
 use Rattle.journal.specs.Journal.{mostBlocks, phase, blocks, sameBlock}
@@ -173,7 +173,7 @@ verdict-chain true true true true i j k l = tt
 pub layout-numbers : (t : DegreeTable) → OfVerdict (1 ∷ 2 ∷ 3 ∷ 9 ∷ 10 ∷ 11 ∷ 12 ∷ []) (layoutVerdict t)
 layout-numbers t =
     let T = t .cells in
-    verdict-chain (eqb (firstOdd T) degrees) (eqb (firstUneven T) degrees) (eqb (firstOverfull T) degrees) (leb (vertices t) mostVertices)
+    verdict-chain (eqb (firstOdd T) mostClasses) (eqb (firstUneven T) mostClasses) (eqb (firstOverfull T) mostClasses) (leb (vertices t) mostVertices)
     (firstOdd T) (firstUneven T) (firstOverfull T) (firstOverfullIn T (firstOverfull T))
 
 pub add-chain : (d e f g h : Bool) (k l : ℕ) (s : Switches)

@@ -37,7 +37,7 @@ use Rattle.journal.specs.Journal.{blocks, slotLength, tableOf}
 use Rattle.adjacency.specs.Adjacency.{edge}
 use Rattle.state.specs.Checks.{stateVerdict, phaseVerdict}
 use Rattle.state.specs.Valid.{lengthsOk}
-use Rattle.state.specs.Laid.{vertexCount, degreeAt, isShort}
+use Rattle.state.specs.Laid.{vertexCount, classAt, isShort}
 use Rattle.joining.specs.Join.{joinSwitches}
 use Rattle.clear.specs.Clear.{clearBytes}
 use Rattle.take_block.specs.Take.{takeOnValid, takeJournal}
@@ -155,8 +155,8 @@ demand-1 =
       add = λ j g v w r e. (
         subst (OfAdd (1 ∷ 2 ∷ 3 ∷ 13 ∷ 14 ∷ 15 ∷ 16 ∷ [])) e
             (behind OfAdd _ (phaseVerdict 1 j g) Add.Refused (addLaid j g v w) (λ r h. h) (phase-numbers 1 j g _)
-            (add-chain (ltb v (vertexCount j)) (ltb w (vertexCount j)) (not (eqb v w)) (eqb (edge g v w) 0) (isShort j g (degreeAt j v) (degreeAt j w))
-            (min (degreeAt j v) (degreeAt j w)) (max (degreeAt j v) (degreeAt j w)) (joinSwitches (vertexCount j) (degreeAt j) g v w))),
+            (add-chain (ltb v (vertexCount j)) (ltb w (vertexCount j)) (not (eqb v w)) (eqb (edge g v w) 0) (isShort j g (classAt j v) (classAt j w))
+            (min (classAt j v) (classAt j w)) (max (classAt j v) (classAt j w)) (joinSwitches (vertexCount j) (classAt j) g v w))),
         ap (λ (a : AddAnswer). addAdjacency a j g v w) e,
       );
       remove = λ j g v w r e. (

@@ -22,7 +22,7 @@ use Rattle.answer.specs.declared.CompleteAnswer.the-variants.{Completed, Refuse
 use Rattle.answer.specs.declared.Finish.{Finish}
 use Rattle.finite.proofs.All.{and-left, and-right, and-false}
 use Rattle.graph.specs.Graph.{jdm, DegreeTable, noTable}
-use Rattle.graph.specs.Tests.{degrees, Table}
+use Rattle.graph.specs.Tests.{mostClasses, Table}
 use Rattle.graph.proofs.Counts.{same-table}
 use Rattle.table.specs.Block.{wellFormed, blockCell, blockIsolated, plus}
 use Rattle.graph.proofs.Passes.{Passed, passes-passed}
@@ -31,7 +31,7 @@ use Rattle.journal.specs.Journal.{phase, blocks, jdmOf, tableOf}
 use Rattle.journal.proofs.Table.{jdm-table}
 use Rattle.adjacency.specs.Adjacency.{edge}
 use Rattle.state.specs.Valid.{lengthsOk, valid}
-use Rattle.state.specs.Laid.{vertexCount, degreeAt}
+use Rattle.state.specs.Laid.{vertexCount, classAt}
 use Rattle.state.proofs.Facts.{StateFacts, Laid, valid-facts}
 use Rattle.take_block.specs.Take.{takeAnswer}
 use Rattle.take_block.proofs.Take.{isTaken, taken-facts, held-facts, take-taken}
@@ -282,8 +282,8 @@ finished-has s lengths sound phased full =
     passed : Passed (jdmOf (s .journal))
     passed = passes-passed (jdmOf (s .journal)) .0 (laid .passed)
 
-    filled : (k l : ℕ) → k < degrees → l < degrees
-        → jdm (vertexCount (s .journal)) (degreeAt (s .journal)) (edge (s .adjacency)) k l ≡ jdmOf (s .journal) k l
+    filled : (k l : ℕ) → k < mostClasses → l < mostClasses
+        → jdm (vertexCount (s .journal)) (classAt (s .journal)) (edge (s .adjacency)) k l ≡ jdmOf (s .journal) k l
     filled k l p q = omega (arith, laid .partial .within k l p q, full k l)
 
 pub demand-2 : Demand2

@@ -9,7 +9,7 @@ use native.Mathlib.Omega.{arith}
 use lib.ListN.{length}
 use Rattle.graph.specs.Graph.{Simple, DegreeTable}
 use Rattle.graph.specs.Target.{Open}
-use Rattle.graph.specs.Tests.{degrees}
+use Rattle.graph.specs.Tests.{mostClasses, classDegree}
 use Rattle.graph.specs.Theorems.{Realized}
 use Rattle.graph.proofs.OpenPair.{short-has-open-pair}
 use Rattle.graph.proofs.Necessary.{necessary-always}
@@ -23,7 +23,7 @@ use Rattle.journal.specs.Journal.{phase, jdmOf, tableOf}
 use Rattle.journal.proofs.Table.{jdm-table}
 use Rattle.adjacency.specs.Adjacency.{edge}
 use Rattle.state.specs.Valid.{valid}
-use Rattle.state.specs.Laid.{vertexCount, degreeAt}
+use Rattle.state.specs.Laid.{vertexCount, classAt}
 use Rattle.state.proofs.Facts.{edgeTotal, StateFacts, Laid, valid-facts}
 use Rattle.lay_out.proofs.LayOut.{lay-out-honest}
 use Rattle.add_edge.specs.Add.{addAnswer, addAdjacency}
@@ -59,7 +59,7 @@ module _ (s : State) (lengths : Rattle.state.specs.Valid.lengthsOk (s .journal)
   simple : Simple (vertexCount (s .journal)) (edge (s .adjacency))
   simple = laid .partial .simple
 
-  open-pair : (v w : ℕ) → D.OpenPair (tableOf (s .journal)) s v w → Open (vertexCount (s .journal)) (degreeAt (s .journal)) (jdmOf (s .journal)) (edge (s .adjacency)) v w
+  open-pair : (v w : ℕ) → D.OpenPair (tableOf (s .journal)) s v w → Open (vertexCount (s .journal)) (classAt (s .journal)) (jdmOf (s .journal)) (edge (s .adjacency)) v w
   open-pair v w o =
       record {
         first = o .first;
@@ -81,9 +81,9 @@ module _ (s : State) (lengths : Rattle.state.specs.Valid.lengthsOk (s .journal)
             omega (
               arith,
               o .short,
-              necessary-always (vertexCount (s .journal)) degrees (degreeAt (s .journal)) (edge (s .adjacency)) simple (laid .target .classed) .symmetric
-                  (degreeAt (s .journal) v) (degreeAt (s .journal) w),
-              jdm-table (s .journal) (facts .journal-ok) .symmetric (degreeAt (s .journal) v) (degreeAt (s .journal) w),
+              necessary-always (vertexCount (s .journal)) mostClasses (classAt (s .journal)) (edge (s .adjacency)) simple (laid .target .classed) .symmetric
+                  (classAt (s .journal) v) (classAt (s .journal) w),
+              jdm-table (s .journal) (facts .journal-ok) .symmetric (classAt (s .journal) v) (classAt (s .journal) w),
             );
       }
 
@@ -93,17 +93,17 @@ module _ (s : State) (lengths : Rattle.state.specs.Valid.lengthsOk (s .journal)
       f : AddFacts (s .journal) (s .adjacency) v w
       f = record { lengths = lengths; sound = sound; phased = phased; pair = open-pair v w o }
 
-      to : addAnswer (s .journal) (s .adjacency) v w ≡ Added (joinSwitches (vertexCount (s .journal)) (degreeAt (s .journal)) (s .adjacency) v w)
+      to : addAnswer (s .journal) (s .adjacency) v w ≡ Added (joinSwitches (vertexCount (s .journal)) (classAt (s .journal)) (s .adjacency) v w)
           → addAdjacency (addAnswer (s .journal) (s .adjacency) v w) (s .journal) (s .adjacency) v w
-          ≡ joinBytes (vertexCount (s .journal)) (degreeAt (s .journal)) (s .adjacency) v w
+          ≡ joinBytes (vertexCount (s .journal)) (classAt (s .journal)) (s .adjacency) v w
       to e = ap (λ (a : AddAnswer). addAdjacency a (s .journal) (s .adjacency) v w) e
 
-      go : addAnswer (s .journal) (s .adjacency) v w ≡ Added (joinSwitches (vertexCount (s .journal)) (degreeAt (s .journal)) (s .adjacency) v w)
-          → AddWorks (s .journal) (s .adjacency) v w (joinBytes (vertexCount (s .journal)) (degreeAt (s .journal)) (s .adjacency) v w)
+      go : addAnswer (s .journal) (s .adjacency) v w ≡ Added (joinSwitches (vertexCount (s .journal)) (classAt (s .journal)) (s .adjacency) v w)
+          → AddWorks (s .journal) (s .adjacency) v w (joinBytes (vertexCount (s .journal)) (classAt (s .journal)) (s .adjacency) v w)
           → D.CanBeJoined (tableOf (s .journal)) s v w
       go e x =
           record {
-            switches = joinSwitches (vertexCount (s .journal)) (degreeAt (s .journal)) (s .adjacency) v w;
+            switches = joinSwitches (vertexCount (s .journal)) (classAt (s .journal)) (s .adjacency) v w;
             answer = e;
             sound = subst (λ (h : List ℕ). valid (s .journal) h ≡ true) (sym (to e)) (x .sound);
             linked = subst (λ (h : List ℕ). edge h v w ≡ 1) (sym (to e)) (x .linked);
@@ -113,7 +113,7 @@ module _ (s : State) (lengths : Rattle.state.specs.Valid.lengthsOk (s .journal)
   -- a short cell has an open pair; no cell past the degrees is short
   some-pair : (k l : ℕ) → Short (tableOf (s .journal)) s k l → (v w : ℕ) × D.OpenPair (tableOf (s .journal)) s v w
   some-pair k l h =
-      let o = short-has-open-pair (vertexCount (s .journal)) degrees (degreeAt (s .journal)) (λ k. k) (jdmOf (s .journal)) (edge (s .adjacency)) (laid .target)
+      let o = short-has-open-pair (vertexCount (s .journal)) mostClasses (classAt (s .journal)) classDegree (jdmOf (s .journal)) (edge (s .adjacency)) (laid .target)
       (laid .partial) k l (below k l h) (below l k (mirrored k l h)) h in (
         o .0,
         o .1,
@@ -126,10 +126,10 @@ module _ (s : State) (lengths : Rattle.state.specs.Valid.lengthsOk (s .journal)
         },
       )
     where
-      below : (k l : ℕ) → Short (tableOf (s .journal)) s k l → k < degrees
-      below k l h = go (native.Mathlib.Decide.decLt k degrees)
+      below : (k l : ℕ) → Short (tableOf (s .journal)) s k l → k < mostClasses
+      below k l h = go (native.Mathlib.Decide.decLt k mostClasses)
         where
-          go : Dec (k < degrees) → k < degrees
+          go : Dec (k < mostClasses) → k < mostClasses
           go (yes p) = p
           go (no p) = absurd (omega (arith, h, jdm-table (s .journal) (facts .journal-ok) .none-above k l (omega arith)))
 
@@ -138,7 +138,7 @@ module _ (s : State) (lengths : Rattle.state.specs.Valid.lengthsOk (s .journal)
           omega (
             arith,
             h,
-            necessary-always (vertexCount (s .journal)) degrees (degreeAt (s .journal)) (edge (s .adjacency)) simple (laid .target .classed) .symmetric k l,
+            necessary-always (vertexCount (s .journal)) mostClasses (classAt (s .journal)) (edge (s .adjacency)) simple (laid .target .classed) .symmetric k l,
             jdm-table (s .journal) (facts .journal-ok) .symmetric k l,
           )
 

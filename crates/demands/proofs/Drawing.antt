@@ -13,12 +13,12 @@ use Rattle.answer.specs.declared.RemoveAnswer.{RemoveAnswer}
 use Rattle.answer.specs.declared.RemoveAnswer.the-variants.{Removed}
 use Rattle.graph.specs.Graph.{Graph, Simple, degree, jdm, AddsEdge, SameOn}
 use Rattle.graph.specs.Target.{Open}
-use Rattle.graph.specs.Tests.{leastDegree, degrees}
+use Rattle.graph.specs.Tests.{leastClass, mostClasses, classDegree}
 use Rattle.graph.proofs.Matrix.{jdm-cong, jdm-classes}
 use Rattle.journal.specs.Journal.{jdmOf, tableOf}
 use Rattle.adjacency.specs.Adjacency.{edge, setEdge}
 use Rattle.adjacency.proofs.Set.{set-adds, set-removes}
-use Rattle.state.specs.Laid.{vertexCount, degreeAt, cellAt}
+use Rattle.state.specs.Laid.{vertexCount, classAt, cellAt}
 use Rattle.state.proofs.Facts.{StateFacts, Laid, valid-facts}
 use Rattle.joining.specs.Join.{joinBytes, joinSwitches}
 use Rattle.joining.proofs.Alone.{room-none, none-alone}
@@ -100,8 +100,8 @@ module _ (j : List ℕ) where
 
   -- One edge of the drawing more.
   module _ (H : Graph) (drawing : Replica (tableOf j) H) where
-    at-table : (k l : ℕ) → jdm (vertexCount j) (degreeAt j) H k l ≡ jdmOf j k l
-    at-table k l = sym (jdm-classes (vertexCount j) (degree (vertexCount j) H) (degreeAt j) H (drawing .degrees) k l) ∙ drawing .table k l
+    at-table : (k l : ℕ) → jdm (vertexCount j) (classAt j) H k l ≡ jdmOf j k l
+    at-table k l = sym (jdm-classes (vertexCount j) (degree (vertexCount j) H) (classAt j) H (drawing .degrees) k l) ∙ drawing .table k l
 
     module _ (g : List ℕ) (s : ValidLaid (on g)) (p : Pair) (ps : List Pair)
         (together : (v w : ℕ) → v < vertexCount j → w < vertexCount j → edge g v w + named (p ∷ ps) v w ≡ H v w)
@@ -109,25 +109,25 @@ module _ (j : List ℕ) where
       simple : Simple (vertexCount j) (edge g)
       simple = laid g s .partial .simple
 
-      pair : Open (vertexCount j) (degreeAt j) (jdmOf j) (edge g) (p .0) (p .1)
-      pair = next-open (vertexCount j) (degreeAt j) (λ k. k) (jdmOf j) H (drawing .simple) (drawing .degrees) at-table (edge g) simple p ps together o
+      pair : Open (vertexCount j) (classAt j) (jdmOf j) (edge g) (p .0) (p .1)
+      pair = next-open (vertexCount j) (classAt j) classDegree (jdmOf j) H (drawing .simple) (drawing .degrees) at-table (edge g) simple p ps together o
 
       add-facts : AddFacts j g (p .0) (p .1)
       add-facts = record { lengths = s .lengths; sound = s .sound; phased = s .phased; pair = pair }
 
-      no-switch : joinSwitches (vertexCount j) (degreeAt j) g (p .0) (p .1) ≡ None
+      no-switch : joinSwitches (vertexCount j) (classAt j) g (p .0) (p .1) ≡ None
       no-switch =
-          room-none (vertexCount j) (degreeAt j) g (p .0) (p .1)
-          (lt-ltb (degree (vertexCount j) (edge g) (p .0)) (degreeAt j (p .0))
-          (room-first (vertexCount j) (degreeAt j) (λ k. k) (jdmOf j) H (drawing .simple) (drawing .degrees) at-table (edge g) simple p ps together o))
-          (lt-ltb (degree (vertexCount j) (edge g) (p .1)) (degreeAt j (p .1))
-          (room-second (vertexCount j) (degreeAt j) (λ k. k) (jdmOf j) H (drawing .simple) (drawing .degrees) at-table (edge g) simple p ps together o))
+          room-none (vertexCount j) (classAt j) g (p .0) (p .1)
+          (lt-ltb (degree (vertexCount j) (edge g) (p .0)) (classAt j (p .0))
+          (room-first (vertexCount j) (classAt j) classDegree (jdmOf j) H (drawing .simple) (drawing .degrees) at-table (edge g) simple p ps together o))
+          (lt-ltb (degree (vertexCount j) (edge g) (p .1)) (classAt j (p .1))
+          (room-second (vertexCount j) (classAt j) classDegree (jdmOf j) H (drawing .simple) (drawing .degrees) at-table (edge g) simple p ps together o))
 
       add-answer : addAnswer j g (p .0) (p .1) ≡ Added None
       add-answer = facts-added j g (p .0) (p .1) add-facts ∙ ap Added no-switch
 
-      alone : joinBytes (vertexCount j) (degreeAt j) g (p .0) (p .1) ≡ setEdge g (p .0) (p .1) 1
-      alone = none-alone (vertexCount j) (degreeAt j) g (p .0) (p .1) no-switch
+      alone : joinBytes (vertexCount j) (classAt j) g (p .0) (p .1) ≡ setEdge g (p .0) (p .1) 1
+      alone = none-alone (vertexCount j) (classAt j) g (p .0) (p .1) no-switch
 
       after-add : after (on g) (add (p .0) (p .1)) ≡ on (setEdge g (p .0) (p .1) 1)
       after-add = ap (λ (a : AddAnswer). on (addAdjacency a j g (p .0) (p .1))) add-answer ∙ ap on alone
@@ -177,8 +177,8 @@ module _ (j : List ℕ) where
       complete-facts : CompleteFacts j g
       complete-facts = record { lengths = s .lengths; sound = s .sound; phased = s .phased }
 
-      full : (k l : ℕ) → leastDegree ≤ k → k < degrees → k ≤ l → l < degrees → jdmOf j k l ≤ cellAt j g k l
-      full k l k1 kC kl lC = omega (arith, jdm-cong (vertexCount j) (degreeAt j) (edge g) H whole k l, at-table k l)
+      full : (k l : ℕ) → leastClass ≤ k → k < mostClasses → k ≤ l → l < mostClasses → jdmOf j k l ≤ cellAt j g k l
+      full k l k1 kC kl lC = omega (arith, jdm-cong (vertexCount j) (classAt j) (edge g) H whole k l, at-table k l)
 
       nothing-left : NothingToComplete (on g)
       nothing-left =

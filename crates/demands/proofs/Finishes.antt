@@ -11,10 +11,10 @@ use Rattle.answer.specs.declared.CompleteAnswer.{CompleteAnswer}
 use Rattle.answer.specs.declared.CompleteAnswer.the-variants.{Completed}
 use Rattle.answer.specs.declared.Finish.{Finish}
 use Rattle.answer.specs.declared.Finish.the-variants.{Lowest, Picked}
-use Rattle.graph.specs.Tests.{leastDegree, degrees, classCount}
+use Rattle.graph.specs.Tests.{leastClass, mostClasses, classCount}
 use Rattle.graph.proofs.Numbering.{classOf-rises}
 use Rattle.journal.specs.Journal.{jdmOf, tableOf}
-use Rattle.state.specs.Laid.{vertexCount, degreeAt, cellAt}
+use Rattle.state.specs.Laid.{vertexCount, classAt, cellAt}
 use Rattle.join_records.specs.Record.{joinRecordSize}
 use Rattle.complete.specs.Complete.{Ran, fresh, mostEdges, missing, finishAnswer, finishAdjacency}
 use Rattle.complete.proofs.Works.{Good, Chooser, short, lowest-pair, next-rising}
@@ -29,20 +29,20 @@ use Rattle.demands.specs.Matrix.{HasTable}
 -- r is what one way to choose pairs, each named lower vertex first, ends in from the matrix g
 pub record By (j g : List ℕ) (r : Ran) : Type 1 where
   pub S : Type 0
-  pub way : Chooser (vertexCount j) (degreeAt j) (jdmOf j) S
-  pub rises : (s : S) → Good (vertexCount j) (degreeAt j) (jdmOf j) (way .ran s) → short (vertexCount j) (degreeAt j) (jdmOf j) way s ≡ true
+  pub way : Chooser (vertexCount j) (classAt j) (jdmOf j) S
+  pub rises : (s : S) → Good (vertexCount j) (classAt j) (jdmOf j) (way .ran s) → short (vertexCount j) (classAt j) (jdmOf j) way s ≡ true
       → way .v s < way .w s
   pub start : S
   pub begins : way .ran start ≡ fresh g
-  pub ends : r ≡ way .ran (iterate mostEdges (short (vertexCount j) (degreeAt j) (jdmOf j) way) (way .next) start)
+  pub ends : r ≡ way .ran (iterate mostEdges (short (vertexCount j) (classAt j) (jdmOf j) way) (way .next) start)
 
 module _ (j g : List ℕ) where
   pub by : (f : Finish) → By j g (outcome f j g)
   by Lowest =
       record {
         S = Ran;
-        way = lowest-pair (vertexCount j) (degreeAt j) (jdmOf j);
-        rises = next-rising (vertexCount j) (degreeAt j) (jdmOf j) (classOf-rises degrees (classCount (tableOf j)));
+        way = lowest-pair (vertexCount j) (classAt j) (jdmOf j);
+        rises = next-rising (vertexCount j) (classAt j) (jdmOf j) (classOf-rises mostClasses (classCount (tableOf j)));
         start = fresh g;
         begins = refl;
         ends = refl;
@@ -50,8 +50,8 @@ module _ (j g : List ℕ) where
   by (Picked x) =
       record {
         S = Shuffled;
-        way = shuffled-pair (vertexCount j) (degreeAt j) (jdmOf j);
-        rises = shuffled-rises (vertexCount j) (degreeAt j) (jdmOf j);
+        way = shuffled-pair (vertexCount j) (classAt j) (jdmOf j);
+        rises = shuffled-rises (vertexCount j) (classAt j) (jdmOf j);
         start = record { ran = fresh g; x = x };
         begins = refl;
         ends = refl;
@@ -66,12 +66,12 @@ module _ (j g : List ℕ) where
         ∙ ap (Completed (outcome f j g .joins) (outcome f j g .switches)) (outcome-works f j g facts .written)
 
     -- Where every cell is full, no join is missing: none is made, whatever the output, and the matrix stays as it is.
-    module _ (full : (k l : ℕ) → leastDegree ≤ k → k < degrees → k ≤ l → l < degrees → jdmOf j k l ≤ cellAt j g k l) where
+    module _ (full : (k l : ℕ) → leastClass ≤ k → k < mostClasses → k ≤ l → l < mostClasses → jdmOf j k l ≤ cellAt j g k l) where
       pub full-outcome : outcome f j g ≡ fresh g
       full-outcome =
           let b = by f in
           b .ends
-          ∙ ap (b .way .ran) (full-run (vertexCount j) (degreeAt j) (jdmOf j) (b .way) (b .start) (rw (b .begins) full) mostEdges)
+          ∙ ap (b .way .ran) (full-run (vertexCount j) (classAt j) (jdmOf j) (b .way) (b .start) (rw (b .begins) full) mostEdges)
           ∙ b .begins
 
       pub full-answer : (m : ℕ) → finishAnswer (outcome f j g) j g m ≡ Completed 0 0 0

@@ -11,19 +11,18 @@ use Rattle.finite.specs.Range.{sumTo}
 use Rattle.finite.proofs.All.{and-false}
 use Rattle.finite.proofs.Sum.{sumTo-none, sumTo-more, sumTo-term}
 use Rattle.graph.specs.Graph.{degree}
-use Rattle.graph.specs.Tests.{degrees, classCount, Table}
+use Rattle.graph.specs.Tests.{mostClasses, classCount, Table, classDegree}
 use Rattle.graph.proofs.Counts.{vertices-total}
 use Rattle.graph.proofs.Numbering.{classOf-range}
 use Rattle.journal.specs.Journal.{jdmOf, isolatedOf, tableOf}
 use Rattle.journal.proofs.Table.{jdm-table}
 use Rattle.adjacency.specs.Adjacency.{edge}
-use Rattle.state.specs.Laid.{vertexCount, degreeAt, cellAt}
+use Rattle.state.specs.Laid.{vertexCount, classAt, cellAt}
 use Rattle.state.proofs.Facts.{StateFacts, Laid, valid-facts}
-use Rattle.joining.specs.Join.{own}
 use Rattle.demands.specs.Isolated.{Alone, IsolatedAlone}
 
 -- class 0 comes first
-isolated-first : (j : List ℕ) (v : ℕ) → v < vertexCount j → (degreeAt j v ≡ 0) ↔ (v < isolatedOf j)
+isolated-first : (j : List ℕ) (v : ℕ) → v < vertexCount j → (classAt j v ≡ 0) ↔ (v < isolatedOf j)
 isolated-first j v h = (λ e. omega (arith, range .0 e, first), λ l. range .1 (omega (arith, first, none), omega (arith, first)))
   where
     none : sumTo 0 (classCount (tableOf j)) ≡ 0
@@ -32,10 +31,10 @@ isolated-first j v h = (λ e. omega (arith, range .0 e, first), λ l. range .1 (
     first : sumTo (0 + 1) (classCount (tableOf j)) ≡ isolatedOf j
     first = sumTo-more (classCount (tableOf j)) 0 ∙ omega (arith, none)
 
-    range : (degreeAt j v ≡ 0) ↔ (sumTo 0 (classCount (tableOf j)) ≤ v) × (v < sumTo (0 + 1) (classCount (tableOf j)))
-    range = classOf-range degrees (classCount (tableOf j)) v 0 (rw (← (vertices-total (tableOf j))) h)
+    range : (classAt j v ≡ 0) ↔ (sumTo 0 (classCount (tableOf j)) ≤ v) × (v < sumTo (0 + 1) (classCount (tableOf j)))
+    range = classOf-range mostClasses (classCount (tableOf j)) v 0 (rw (← (vertices-total (tableOf j))) h)
 
-module _ (j g : List ℕ) (facts : StateFacts j g) (laid : Laid j g) (v : ℕ) (h : v < vertexCount j) (e : degreeAt j v ≡ 0) where
+module _ (j g : List ℕ) (facts : StateFacts j g) (laid : Laid j g) (v : ℕ) (h : v < vertexCount j) (e : classAt j v ≡ 0) where
   table : Table (jdmOf j)
   table = jdm-table j (facts .journal-ok)
 
@@ -44,11 +43,11 @@ module _ (j g : List ℕ) (facts : StateFacts j g) (laid : Laid j g) (v : ℕ) (
       record {
         no-edge = λ w l. omega (arith, sumTo-term (vertexCount j) (edge g v) w l, laid .partial .room v h, e);
         no-cell = λ w. (
-          le-ltb (cellAt j g (degreeAt j v) (degreeAt j w)) _ (rw (e, table .none-of-0 (degreeAt j w)) (omega arith)),
-          le-ltb (cellAt j g (degreeAt j w) (degreeAt j v)) _ (rw (e, table .symmetric (degreeAt j w) 0, table .none-of-0 (degreeAt j w)) (omega arith)),
+          le-ltb (cellAt j g (classAt j v) (classAt j w)) _ (rw (e, table .none-of-0 (classAt j w)) (omega arith)),
+          le-ltb (cellAt j g (classAt j w) (classAt j v)) _ (rw (e, table .symmetric (classAt j w) 0, table .none-of-0 (classAt j w)) (omega arith)),
         );
         no-substitute = λ a other.
-            rw (le-ltb (degree (vertexCount j) (edge g) v) (own (degreeAt j v)) (rw e (omega arith)), and-false (eqb (degreeAt j v) (degreeAt j a)));
+            rw (le-ltb (degree (vertexCount j) (edge g) v) (classDegree (classAt j v)) (rw e (omega arith)), and-false (eqb (classAt j v) (classAt j a)));
       }
 
 pub isolated-alone : IsolatedAlone

@@ -19,7 +19,7 @@ use Rattle.answer.specs.declared.CompleteAnswer.the-variants.{Completed}
 use Rattle.answer.specs.declared.Finish.{Finish}
 use Rattle.journal.specs.Journal.{phase, jdmOf}
 use Rattle.state.specs.Valid.{lengthsOk, valid}
-use Rattle.state.specs.Laid.{vertexCount, degreeAt}
+use Rattle.state.specs.Laid.{vertexCount, classAt}
 use Rattle.state.proofs.Facts.{StateFacts, Laid, valid-facts}
 use Rattle.joining.specs.Join.{joinSwitches}
 use Rattle.add_edge.specs.Add.{addAnswer, addAdjacency}
@@ -70,7 +70,7 @@ completing-plays f j g out lengths sound phased room =
           ap (λ (a : CompleteAnswer). play (take (8 * r .joins) (finishOutput a r out)) g) e
           ∙ ap (λ (k : ℕ). play (take k (sets out 0 (r .records))) g) (sym (x .written))
           ∙ ap (λ (l : List ℕ). play l g) (take-sets out (r .records) (omega (arith, x .written, x .made)))
-          ∙ rw (b .ends) (run-plays (vertexCount j) (degreeAt j) (jdmOf j) (b .way) g mostEdges (b .start) (b .begins) (good-start j g checked))
+          ∙ rw (b .ends) (run-plays (vertexCount j) (classAt j) (jdmOf j) (b .way) g mostEdges (b .start) (b .begins) (good-start j g checked))
           ∙ sym (ap (λ (a : CompleteAnswer). fits (finishAdjacency a r g)) e);
       rising = λ i l. rw (e, there (8 * i) (omega (arith, x .written)), there (8 * i + 1) (omega (arith, x .written))) (rising i l);
     }
@@ -94,7 +94,7 @@ completing-plays f j g out lengths sound phased room =
     rising : Rising (vertexCount j) (outcome f j g)
     rising =
         rw (b .ends)
-        (records-rising (vertexCount j) (degreeAt j) (jdmOf j) (b .way) (b .rises) mostEdges (b .start) g (b .begins) (good-start j g checked))
+        (records-rising (vertexCount j) (classAt j) (jdmOf j) (b .way) (b .rises) mostEdges (b .start) g (b .begins) (good-start j g checked))
 
     e : finishAnswer (outcome f j g) j g (length out) ≡ Completed (outcome f j g .joins) (outcome f j g .switches) (8 * outcome f j g .joins)
     e = outcome-answer j g f checked (length out) room
@@ -105,7 +105,7 @@ adding-plays j g v w s e =
     play-more [] 0 v w s g refl
     ∙ ap (playJoin v w s) (play-none g)
     ∙ ap (λ (x : Switches). playJoin v w x (fits g)) (added-facts j g v w s e .1)
-    ∙ join-plays (vertexCount j) (degreeAt j) (jdmOf j) g v w (facts .adjacency-length) (laid .vertices-le) (laid .target) (laid .partial) (f .pair)
+    ∙ join-plays (vertexCount j) (classAt j) (jdmOf j) g v w (facts .adjacency-length) (laid .vertices-le) (laid .target) (laid .partial) (f .pair)
     ∙ sym (ap (λ (a : AddAnswer). fits (addAdjacency a j g v w)) e)
   where
     f : AddFacts j g v w

@@ -17,12 +17,12 @@ use Rattle.answer.specs.declared.switches.Switch.{Switch}
 use Rattle.answer.specs.declared.switches.Switches.{Switches}
 use Rattle.graph.specs.Switch.{unsaturated}
 use Rattle.graph.specs.Target.{Target, Partial, Open}
-use Rattle.graph.specs.Tests.{degrees}
+use Rattle.graph.specs.Tests.{mostClasses, classDegree}
 use Rattle.graph.proofs.Switch.{switch-works}
 use Rattle.layout.specs.Layout.{mostVertices}
 use Rattle.adjacency.specs.Adjacency.{adjacencySize, edge, setEdge}
 use Rattle.adjacency.proofs.Set.{set-other}
-use Rattle.joining.specs.Join.{own, substituteAt, transferAt, neighborSwitch, relieveBytes, joinBytes, switchAt, inOrder, joinSwitches}
+use Rattle.joining.specs.Join.{substituteAt, transferAt, neighborSwitch, relieveBytes, joinBytes, switchAt, inOrder, joinSwitches}
 use Rattle.joining.proofs.Bytes.{ready-v, pair-w, sized-once}
 use Rattle.join_records.specs.Record.{joinRecord}
 use Rattle.demands.specs.Playback.{Played, removeEdge, addEdge, playTriple, playRecord, play}
@@ -55,35 +55,35 @@ in-order false false x y p = refl
 
 module _ (n : ℕ) (cls : ℕ → ℕ) (T : ℕ → ℕ → ℕ) where
   -- Room at a, o being the other named vertex: the switch's choices are right, and no vertex has the number of an unused byte.
-  module _ (g : List ℕ) (a o : ℕ) (sized : length g ≡ adjacencySize) (few : n ≤ mostVertices) (target : Target n degrees cls own T)
-      (partial : Partial n degrees cls own T (edge g)) (pair : Open n cls T (edge g) a o) where
-    switch-plays : unsaturated n cls own (edge g) a ≡ false
+  module _ (g : List ℕ) (a o : ℕ) (sized : length g ≡ adjacencySize) (few : n ≤ mostVertices) (target : Target n mostClasses cls classDegree T)
+      (partial : Partial n mostClasses cls classDegree T (edge g)) (pair : Open n cls T (edge g) a o) where
+    switch-plays : unsaturated n cls classDegree (edge g) a ≡ false
         → playSwitch (switchAt n cls g a o) (fits g) ≡ fits (neighborSwitch n cls g a o)
     switch-plays e =
         let b = substituteAt n cls g a o in
         let t = transferAt n cls g a o in
-        let c = switch-works n degrees cls own T (edge g) a o target partial pair e .0 in
+        let c = switch-works n mostClasses cls classDegree T (edge g) a o target partial pair e .0 in
         let still = set-other g a t 0 sized (omega (arith, pair .first)) (omega (arith, c .t-vertex)) b t (omega (arith, c .b-vertex))
         (omega (arith, c .t-vertex)) (λ q. c .b-other (q .0)) (λ q. c .t-not-b (sym (q .0))) in
         rw (ne-eqb a 255 (λ z. omega (arith, pair .first)))
         (ap (addEdge b t) (remove-fits g a t (c .t-linked)) ∙ add-fits (setEdge g a t 0) b t (still ∙ c .t-unlinked))
 
-    relief-plays : playSwitch (cond (unsaturated n cls own (edge g) a) noSwitch (switchAt n cls g a o)) (fits g) ≡ fits (relieveBytes n cls g a o)
-    relief-plays = go (unsaturated n cls own (edge g) a) refl
+    relief-plays : playSwitch (cond (unsaturated n cls classDegree (edge g) a) noSwitch (switchAt n cls g a o)) (fits g) ≡ fits (relieveBytes n cls g a o)
+    relief-plays = go (unsaturated n cls classDegree (edge g) a) refl
       where
-        go : (u : Bool) → unsaturated n cls own (edge g) a ≡ u → playSwitch (cond u noSwitch (switchAt n cls g a o)) (fits g)
+        go : (u : Bool) → unsaturated n cls classDegree (edge g) a ≡ u → playSwitch (cond u noSwitch (switchAt n cls g a o)) (fits g)
             ≡ fits (cond u g (neighborSwitch n cls g a o))
         go true e = refl
         go false e = switch-plays e
 
   -- The whole join.
-  pub join-plays : (g : List ℕ) (v w : ℕ) → length g ≡ adjacencySize → n ≤ mostVertices → Target n degrees cls own T
-      → Partial n degrees cls own T (edge g) → Open n cls T (edge g) v w
+  pub join-plays : (g : List ℕ) (v w : ℕ) → length g ≡ adjacencySize → n ≤ mostVertices → Target n mostClasses cls classDegree T
+      → Partial n mostClasses cls classDegree T (edge g) → Open n cls T (edge g) v w
       → playJoin v w (joinSwitches n cls g v w) (fits g) ≡ fits (joinBytes n cls g v w)
   join-plays g v w sized few target partial pair =
       ap (addEdge v w)
-      (in-order (unsaturated n cls own (edge g) v) (unsaturated n cls own (edge once) w) (switchAt n cls g v w) (switchAt n cls once w v) (fits g)
-      ∙ ap (playSwitch (cond (unsaturated n cls own (edge once) w) noSwitch (switchAt n cls once w v))) (relief-plays g v w sized few target partial pair)
+      (in-order (unsaturated n cls classDegree (edge g) v) (unsaturated n cls classDegree (edge once) w) (switchAt n cls g v w) (switchAt n cls once w v) (fits g)
+      ∙ ap (playSwitch (cond (unsaturated n cls classDegree (edge once) w) noSwitch (switchAt n cls once w v))) (relief-plays g v w sized few target partial pair)
       ∙ relief-plays once w v sized′ few target partial′ pair′)
       ∙ add-fits (relieveBytes n cls once w v) v w (pair-w n cls T once w v sized′ few target partial′ pair′ .unlinked)
     where
@@ -93,7 +93,7 @@ module _ (n : ℕ) (cls : ℕ → ℕ) (T : ℕ → ℕ → ℕ) where
       sized′ : length once ≡ adjacencySize
       sized′ = sized-once n cls T g v w sized few target partial pair
 
-      partial′ : Partial n degrees cls own T (edge once)
+      partial′ : Partial n mostClasses cls classDegree T (edge once)
       partial′ = ready-v n cls T g v w sized few target partial pair .partial
 
       pair′ : Open n cls T (edge once) w v

@@ -11,7 +11,7 @@ use Rattle.answer.specs.declared.CompleteAnswer.{CompleteAnswer}
 use Rattle.answer.specs.declared.CompleteAnswer.the-variants as Complete
 use Rattle.answer.specs.declared.ShuffleAnswer.the-variants.{Completed}
 use Rattle.answer.specs.declared.Finish.the-variants.{Picked}
-use Rattle.graph.specs.Tests.{leastDegree, degrees}
+use Rattle.graph.specs.Tests.{leastClass, mostClasses}
 use Rattle.journal.specs.Journal.{phase, jdmOf, tableOf}
 use Rattle.state.specs.Valid.{lengthsOk, valid}
 use Rattle.state.specs.Laid.{cellAt}
@@ -71,7 +71,7 @@ left-alone s x out lengths sound phased none =
     checked : CompleteFacts (s .journal) (s .adjacency)
     checked = record { lengths = lengths; sound = sound; phased = phased }
 
-    full : (k l : ℕ) → leastDegree ≤ k → k < degrees → k ≤ l → l < degrees → jdmOf (s .journal) k l ≤ cellAt (s .journal) (s .adjacency) k l
+    full : (k l : ℕ) → leastClass ≤ k → k < mostClasses → k ≤ l → l < mostClasses → jdmOf (s .journal) k l ≤ cellAt (s .journal) (s .adjacency) k l
     full k l a b c d = omega (arith, none k l)
 
     ended : shuffled (s .journal) (s .adjacency) x .ran ≡ fresh (s .adjacency)

@@ -22,7 +22,7 @@ use Rattle.answer.specs.declared.Finish.{Finish}
 use Rattle.table.specs.Block.{wellFormed, blockIsolated}
 use Rattle.adjacency.specs.Adjacency.{edge, setEdge}
 use Rattle.journal.specs.Journal.{mostBlocks, tableOf}
-use Rattle.state.specs.Laid.{vertexCount, degreeAt}
+use Rattle.state.specs.Laid.{vertexCount, classAt}
 use Rattle.take_block.specs.Take.{takeAnswer}
 use Rattle.joining.proofs.Alone.{none-alone}
 use Rattle.add_edge.specs.Add.{addAnswer, addAdjacency}
@@ -125,5 +125,5 @@ nothing-moves s v e H d before p rest o =
     let x = afterAll s (adds before) in
     let a = added-at before p rest s (every-replica-within-reach .from-empty s v e H d (before ++ p ∷ rest) o .added) in
     ap (λ (a : AddAnswer). addAdjacency a (x .journal) (x .adjacency) (p .0) (p .1)) a
-    ∙ none-alone (vertexCount (x .journal)) (degreeAt (x .journal)) (x .adjacency) (p .0) (p .1)
+    ∙ none-alone (vertexCount (x .journal)) (classAt (x .journal)) (x .adjacency) (p .0) (p .1)
     (sym (added-facts (x .journal) (x .adjacency) (p .0) (p .1) None a .1))

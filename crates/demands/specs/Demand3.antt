@@ -8,7 +8,7 @@ use Prim.Native.Nat.{ℕ, _+_, _*_, _≤_, _<_}
 use lib.ListN.{length}
 use Rattle.finite.specs.Range.{sumTo}
 use Rattle.graph.specs.Graph.{edges, DegreeTable}
-use Rattle.graph.specs.Tests.{degrees, rowSum, vertices, vertexDegree}
+use Rattle.graph.specs.Tests.{mostClasses, rowSum, vertices, vertexClass}
 use Rattle.graph.specs.Theorems.{Realized}
 use Rattle.answer.specs.Numbers.{layOutNumbers}
 use Rattle.answer.specs.Refusals.{refusal}
@@ -44,7 +44,7 @@ pub record OpenPair (t : DegreeTable) (s : State) (v w : ℕ) : Type 0 where
   pub second : w < vertices t
   pub different : v ≢ w
   pub unlinked : edge (s .adjacency) v w ≢ 1
-  pub short : Short t s (vertexDegree t v) (vertexDegree t w)
+  pub short : Short t s (vertexClass t v) (vertexClass t w)
 
 -- joining v and w is not refused; afterwards the state is valid, the pair is linked, and there is exactly one edge more
 pub record CanBeJoined (t : DegreeTable) (s : State) (v w : ℕ) : Type 0 where
@@ -60,7 +60,7 @@ pub record Completes (t : Tally) (s : State) (f : Finish) (out : List ℕ) : Typ
   pub joins : ℕ
   pub switches : ℕ
   pub answer : finishAnswer (outcome f (s .journal) (s .adjacency)) (s .journal) (s .adjacency) (length out) ≡ Completed joins switches (joinRecordSize * joins)
-  pub missing : 2 * (t .edges + joins) ≡ sumTo degrees (rowSum (t .table .cells))
+  pub missing : 2 * (t .edges + joins) ≡ sumTo mostClasses (rowSum (t .table .cells))
   pub more : edgesLaid (t .table) (after s (complete f out)) ≡ edgesLaid (t .table) s + joins
   pub has-table : HasTable (t .table) (after s (complete f out))
 

@@ -3,13 +3,13 @@
 use mathlib.Core.Path.{_≡_}
 use Prim.Native.Nat.{ℕ, _<_}
 use Rattle.graph.specs.Graph.{Simple, jdm, ownJdm, isolated, DegreeTable}
-use Rattle.graph.specs.Tests.{vertices, vertexDegree}
+use Rattle.graph.specs.Tests.{vertices, vertexClass}
 use Rattle.adjacency.specs.Adjacency.{edge}
 use Rattle.demands.specs.Calls.{State}
 
 -- The edges counted as equation (1) does, but at the degrees laid out, stay below t in the cell (k, l).
 abbrev pub Short : DegreeTable → State → ℕ → ℕ → Type 0
-Short t s k l = jdm (vertices t) (vertexDegree t) (edge (s .adjacency)) k l < t .cells k l
+Short t s k l = jdm (vertices t) (vertexClass t) (edge (s .adjacency)) k l < t .cells k l
 
 -- "a simple graph whose table, counted by equation (1) .., equals in every cell" that of t: on N vertices, at the graph's own degrees; and of
 -- these N exactly as many as t says have no edge

@@ -11,7 +11,7 @@ use lib.Dec.{ltb}
 use lib.ListN.{length}
 use Rattle.finite.specs.Range.{catTo}
 use Rattle.graph.specs.Graph.{Graph, Simple, degree, edges, ownJdm, atEdge, DegreeTable}
-use Rattle.graph.specs.Tests.{vertices, vertexDegree}
+use Rattle.graph.specs.Tests.{vertices, vertexClass, classDegree}
 use Rattle.answer.specs.declared.switches.Switches.the-variants.{None}
 use Rattle.answer.specs.declared.AddAnswer.{AddAnswer}
 use Rattle.answer.specs.declared.AddAnswer.the-variants as Add
@@ -34,7 +34,7 @@ use Rattle.demands.specs.Tally.{noTally, missingEdges, tallyAll}
 -- for it, and t in every cell by equation (1)
 pub record Replica (t : DegreeTable) (H : Graph) : Type 0 where
   pub simple : Simple (vertices t) H
-  pub degrees : (v : ℕ) → v < vertices t → degree (vertices t) H v ≡ vertexDegree t v
+  pub degrees : (v : ℕ) → v < vertices t → degree (vertices t) H v ≡ classDegree (vertexClass t v)
   pub table : (k l : ℕ) → ownJdm (vertices t) H k l ≡ t .cells k l
 
 -- an edge, its ends named in either direction

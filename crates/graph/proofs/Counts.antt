@@ -7,7 +7,7 @@ use borrow.Author.Tests.{le-ltb}
 use Rattle.finite.proofs.Sum.{sumTo-none, sumTo-more, sumTo-cong, sumTo-split}
 use Rattle.graph.specs.Graph.{size, DegreeTable}
 use Rattle.graph.specs.Numbering.{total}
-use Rattle.graph.specs.Tests.{leastDegree, mostDegree, degrees, count, classCount, vertices, vertexDegree}
+use Rattle.graph.specs.Tests.{leastClass, mostDegree, mostClasses, count, classCount, vertices, vertexClass}
 use Rattle.graph.proofs.Numbering.{classOf-below, classOf-size}
 
 -- tables with the same cells and the same isolated vertices are the same
@@ -19,22 +19,22 @@ same-table c i = ap₂ made (fun-ext (λ k. fun-ext (λ l. c k l))) i
 
 module _ (t : DegreeTable) where
   -- a degree of the table has D(k) vertices
-  pub count-at : (k : ℕ) → leastDegree ≤ k → classCount t k ≡ count (t .cells) k
-  count-at k a = rw (le-ltb k leastDegree a)
+  pub count-at : (k : ℕ) → leastClass ≤ k → classCount t k ≡ count (t .cells) k
+  count-at k a = rw (le-ltb k leastClass a)
 
-  pub vertices-total : vertices t ≡ total degrees (classCount t)
+  pub vertices-total : vertices t ≡ total mostClasses (classCount t)
   vertices-total =
-      sym (sumTo-split leastDegree mostDegree (classCount t)
+      sym (sumTo-split leastClass mostDegree (classCount t)
       ∙ omega (
         arith,
         sumTo-more (classCount t) 0,
         sumTo-none (classCount t),
-        sumTo-cong mostDegree (λ i. classCount t (leastDegree + i)) (λ i. count (t .cells) (leastDegree + i))
-            (λ i h. count-at (leastDegree + i) (omega arith)),
+        sumTo-cong mostDegree (λ i. classCount t (leastClass + i)) (λ i. count (t .cells) (leastClass + i))
+            (λ i h. count-at (leastClass + i) (omega arith)),
       ))
 
-  pub vertex-class : (v : ℕ) → v < vertices t → vertexDegree t v < degrees
-  vertex-class v h = classOf-below degrees (classCount t) v (rw (← vertices-total) h)
+  pub vertex-class : (v : ℕ) → v < vertices t → vertexClass t v < mostClasses
+  vertex-class v h = classOf-below mostClasses (classCount t) v (rw (← vertices-total) h)
 
-  pub class-size : (k : ℕ) → k < degrees → size (vertices t) (vertexDegree t) k ≡ classCount t k
-  class-size k h = ap (λ (n : ℕ). size n (vertexDegree t) k) vertices-total ∙ classOf-size degrees (classCount t) k h
+  pub class-size : (k : ℕ) → k < mostClasses → size (vertices t) (vertexClass t) k ≡ classCount t k
+  class-size k h = ap (λ (n : ℕ). size n (vertexClass t) k) vertices-total ∙ classOf-size mostClasses (classCount t) k h

@@ -17,7 +17,7 @@ use Rattle.finite.proofs.Delta.{δ-self, δ-same, δ-other, δ-le}
 use Rattle.finite.proofs.Lowest.{lowest-before, lowest-cong}
 use Rattle.finite.proofs.Sum.{sumTo-none, sumTo-mono, sumTo-const, sumTo-cong, sumTo-zero}
 use Rattle.graph.specs.Graph.{degree, size, isolated, jdm, atEdge}
-use Rattle.graph.specs.Tests.{mostDegree, degrees}
+use Rattle.graph.specs.Tests.{mostDegree, mostClasses}
 use Rattle.graph.proofs.Edge.{Place, forth, back, elsewhere, place as placed, atEdge-here, atEdge-back}
 use Rattle.graph.proofs.Matrix.{jdm-cong, jdm-empty}
 use Rattle.graph.proofs.Update.{handshake, degree-adds, jdm-adds}
@@ -65,7 +65,7 @@ degrees-more e total i d few g s h v l =
 -- 2. Cells.
 
 -- where an edge counts, it counts as equation (1) has it
-module _ (a b k l : ℕ) (ha : a < degrees) (hb : b < degrees) (hk : k < degrees) (hl : l < degrees) where
+module _ (a b k l : ℕ) (ha : a < mostClasses) (hb : b < mostClasses) (hk : k < mostClasses) (hl : l < mostClasses) where
   counted-here : place k l ≡ place a b → timesCounted a b ≡ atEdge a b k l
   counted-here e = go (ℕ-discrete a b) (ℕ-discrete k a)
     where
@@ -91,7 +91,7 @@ module _ (a b k l : ℕ) (ha : a < degrees) (hb : b < degrees) (hk : k < degrees
       go (elsewhere z) = z
 
   matrix-countCell : (c : List ℕ) → length c ≡ cellsSize → matrixOf (countCell a b c) k l ≡ matrixOf c k l + atEdge a b k l
-  matrix-countCell c s = rw (lt-ltb k degrees hk, lt-ltb l degrees hl) (go (ℕ-discrete (place k l) (place a b)))
+  matrix-countCell c s = rw (lt-ltb k mostClasses hk, lt-ltb l mostClasses hl) (go (ℕ-discrete (place k l) (place a b)))
     where
       go : Dec (place k l ≡ place a b) → getD (countCell a b c) (place k l) 0 ≡ getD c (place k l) 0 + atEdge a b k l
       go (yes e) =
@@ -107,7 +107,7 @@ cells-none cls e total k l hk hl =
     ap (λ (T : ℕ → ℕ → ℕ). T k l) matrix-none
     ∙ sym (jdm-cong total cls (graphTo e 0) (λ v w. 0) (λ v w p q. sumTo-none _) k l ∙ jdm-empty total cls k l)
 
-pub cells-more : (cls : ℕ → ℕ) (e : List ℕ) (total i : ℕ) (c : List ℕ) → Good e total i → cls (endV e i) < degrees → cls (endW e i) < degrees
+pub cells-more : (cls : ℕ → ℕ) (e : List ℕ) (total i : ℕ) (c : List ℕ) → Good e total i → cls (endV e i) < mostClasses → cls (endW e i) < mostClasses
     → length c ≡ cellsSize → HasCells c total cls (graphTo e i)
     → HasCells (countCell (cls (endV e i)) (cls (endW e i)) c) total cls (graphTo e (i + 1))
 cells-more cls e total i c g ha hb s h k l hk hl =
@@ -173,12 +173,12 @@ module _ (e : List ℕ) (total : ℕ) (well : firstBadEdge e total ≡ listed e)
         )
 
     pub cells-small : total ≤ mostVertices → (cls : ℕ → ℕ) (c : List ℕ) (n : ℕ) → n ≤ listed e → HasCells c total cls (graphTo e n) → CellsSmall c
-    cells-small few cls c n h has k l = go (decLt k degrees) (decLt l degrees)
+    cells-small few cls c n h has k l = go (decLt k mostClasses) (decLt l mostClasses)
       where
-        go : Dec (k < degrees) → Dec (l < degrees) → matrixOf c k l ≤ cellMostOwn
+        go : Dec (k < mostClasses) → Dec (l < mostClasses) → matrixOf c k l ≤ cellMostOwn
         go (yes p) (yes q) = rw (has k l p q) (omega (arith, jdm-most cls k l n h, few-edges few))
-        go (yes p) (no q) = rw (le-ltb l degrees (omega arith), and-false (ltb k degrees)) (omega arith)
-        go (no p) q = rw (le-ltb k degrees (omega arith)) (omega arith)
+        go (yes p) (no q) = rw (le-ltb l mostClasses (omega arith), and-false (ltb k mostClasses)) (omega arith)
+        go (no p) q = rw (le-ltb k mostClasses (omega arith)) (omega arith)
 
 -- what the array says of the vertices is what the graph says
 module _ (e d : List ℕ) (total : ℕ) (has : HasDegrees d total (graphOf e)) where
@@ -191,5 +191,5 @@ module _ (e d : List ℕ) (total : ℕ) (has : HasDegrees d total (graphOf e)) w
   isolated-same = sumTo-cong total (λ v. δ (degreeIn d v) 0) (λ v. δ (degree total (graphOf e) v) 0) (λ v l. ap (λ (m : ℕ). δ m 0) (has v l))
 
 -- a small cell as it stands in the array
-pub cell-room : (c : List ℕ) (k l : ℕ) → CellsSmall c → k < degrees → l < degrees → getD c (place k l) 0 ≤ cellMostOwn
-cell-room c k l h hk hl = rw (lt-ltb k degrees hk, lt-ltb l degrees hl) at (h k l)
+pub cell-room : (c : List ℕ) (k l : ℕ) → CellsSmall c → k < mostClasses → l < mostClasses → getD c (place k l) 0 ≤ cellMostOwn
+cell-room c k l h hk hl = rw (lt-ltb k mostClasses hk, lt-ltb l mostClasses hl) at (h k l)

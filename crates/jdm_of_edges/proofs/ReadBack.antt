@@ -17,7 +17,7 @@ use Rattle.finite.proofs.Delta.{δ-same, δ-other}
 use Rattle.finite.proofs.Lowest.{lowest-none}
 use Rattle.finite.proofs.Sum.{sumTo-cong, sumTo-scale, sumTo-at, sumTo-zero}
 use Rattle.graph.specs.Graph.{DegreeTable}
-use Rattle.graph.specs.Tests.{leastDegree, mostDegree, degrees, Table}
+use Rattle.graph.specs.Tests.{leastClass, mostDegree, mostClasses, Table}
 use Rattle.table.specs.Block.{records, recordK, recordL, recordCount, goodRecord, firstBad, blockCell, blockIsolated, samePair}
 use Rattle.table.proofs.Block.{samePair-straight, samePair-crossed, samePair-none, blockCell-sym, blockCell-none-above}
 use Rattle.jdm_of_edges.specs.Survey.{countRecord, cellRecord, cellRecords, recordsOf}
@@ -69,15 +69,15 @@ module _ (f : ℕ → ℕ → ℕ → ℕ) where
 -- The records of a table, which is 0 at degree 0 and above 40.
 module _ (t : DegreeTable) (table : Table (t .cells)) where
   -- row by row
-  cells-back : (f : ℕ → ℕ → ℕ → ℕ) → added f (cellRecords (t .cells)) ≡ sumTo degrees (λ i. sumTo degrees (λ j. added f (cellRecord (t .cells) i j)))
+  cells-back : (f : ℕ → ℕ → ℕ → ℕ) → added f (cellRecords (t .cells)) ≡ sumTo mostClasses (λ i. sumTo mostClasses (λ j. added f (cellRecord (t .cells) i j)))
   cells-back f =
-      cat-back f (λ i. catTo degrees (cellRecord (t .cells) i)) degrees (λ i h. row i .0) .1
-      ∙ sumTo-cong degrees (λ i. added f (catTo degrees (cellRecord (t .cells) i))) (λ i. sumTo degrees (λ j. added f (cellRecord (t .cells) i j)))
+      cat-back f (λ i. catTo mostClasses (cellRecord (t .cells) i)) mostClasses (λ i h. row i .0) .1
+      ∙ sumTo-cong mostClasses (λ i. added f (catTo mostClasses (cellRecord (t .cells) i))) (λ i. sumTo mostClasses (λ j. added f (cellRecord (t .cells) i j)))
       (λ i h. row i .1)
     where
-      row : (i : ℕ) → Whole (catTo degrees (cellRecord (t .cells) i))
-          × (added f (catTo degrees (cellRecord (t .cells) i)) ≡ sumTo degrees (λ j. added f (cellRecord (t .cells) i j)))
-      row i = cat-back f (cellRecord (t .cells) i) degrees (cell-whole t table i)
+      row : (i : ℕ) → Whole (catTo mostClasses (cellRecord (t .cells) i))
+          × (added f (catTo mostClasses (cellRecord (t .cells) i)) ≡ sumTo mostClasses (λ j. added f (cellRecord (t .cells) i j)))
+      row i = cat-back f (cellRecord (t .cells) i) mostClasses (cell-whole t table i)
 
   not-isolated : (i j : ℕ) → t .cells i j ≢ 0 → eqb i 0 ≡ false
   not-isolated i j h = ne-eqb i 0 (λ z. omega (arith, cell-least t table i j h))
@@ -139,18 +139,18 @@ module _ (t : DegreeTable) (table : Table (t .cells)) where
       ∙ ap (λ (s : ℕ). s + added f (cellRecords (t .cells))) (count-back f 0 0 (t .isolated) z)
 
   -- read back, the records are the matrix
-  records-back : (k l : ℕ) → k < degrees → l < degrees → blockCell (recordsOf t) k l ≡ t .cells k l
+  records-back : (k l : ℕ) → k < mostClasses → l < mostClasses → blockCell (recordsOf t) k l ≡ t .cells k l
   records-back k l hk hl =
       first-back (toCell k l) (none (samePair k l 0 0 && false))
       ∙ rw (and-false (samePair k l 0 0)) (zero-add (added (toCell k l) (cellRecords (t .cells))))
       ∙ cells-back (toCell k l)
-      ∙ sumTo-cong degrees (λ i. sumTo degrees (λ j. added (toCell k l) (cellRecord (t .cells) i j)))
-      (λ i. δ i (min k l) * sumTo degrees (λ j. δ j (max k l) * t .cells i j))
-      (λ i h. sumTo-cong degrees (λ j. added (toCell k l) (cellRecord (t .cells) i j)) (λ j. δ i (min k l) * (δ j (max k l) * t .cells i j))
+      ∙ sumTo-cong mostClasses (λ i. sumTo mostClasses (λ j. added (toCell k l) (cellRecord (t .cells) i j)))
+      (λ i. δ i (min k l) * sumTo mostClasses (λ j. δ j (max k l) * t .cells i j))
+      (λ i h. sumTo-cong mostClasses (λ j. added (toCell k l) (cellRecord (t .cells) i j)) (λ j. δ i (min k l) * (δ j (max k l) * t .cells i j))
       (λ j m. cell-back k l i j)
-      ∙ sumTo-scale (δ i (min k l)) degrees (λ j. δ j (max k l) * t .cells i j))
-      ∙ sumTo-at degrees (min k l) (λ i. sumTo degrees (λ j. δ j (max k l) * t .cells i j)) (omega arith)
-      ∙ sumTo-at degrees (max k l) (t .cells (min k l)) (omega arith)
+      ∙ sumTo-scale (δ i (min k l)) mostClasses (λ j. δ j (max k l) * t .cells i j))
+      ∙ sumTo-at mostClasses (min k l) (λ i. sumTo mostClasses (λ j. δ j (max k l) * t .cells i j)) (omega arith)
+      ∙ sumTo-at mostClasses (max k l) (t .cells (min k l)) (omega arith)
       ∙ turn (decLt l k)
     where
       turn : Dec (l < k) → t .cells (min k l) (max k l) ≡ t .cells k l
@@ -169,8 +169,8 @@ module _ (t : DegreeTable) (table : Table (t .cells)) where
       first-back toIsolated refl
       ∙ ap (λ (s : ℕ). t .isolated + s)
       (cells-back toIsolated
-      ∙ sumTo-zero degrees (λ i. sumTo degrees (λ j. added toIsolated (cellRecord (t .cells) i j)))
-      (λ i h. sumTo-zero degrees (λ j. added toIsolated (cellRecord (t .cells) i j)) (λ j m. cell-none i j)))
+      ∙ sumTo-zero mostClasses (λ i. sumTo mostClasses (λ j. added toIsolated (cellRecord (t .cells) i j)))
+      (λ i h. sumTo-zero mostClasses (λ j. added toIsolated (cellRecord (t .cells) i j)) (λ j m. cell-none i j)))
       ∙ add-zero (t .isolated)
 
   pub records-good : (i : ℕ) → i < records (recordsOf t) → goodRecord (recordsOf t) i ≡ true
@@ -185,12 +185,12 @@ module _ (t : DegreeTable) (table : Table (t .cells)) where
       s : OfTable k l (recordCount (recordsOf t) i)
       s = records-shown t table i h
 
-      go : (leastDegree ≤ k) ⊎ (l ≡ 0) → goodRecord (recordsOf t) i ≡ true
+      go : (leastClass ≤ k) ⊎ (l ≡ 0) → goodRecord (recordsOf t) i ≡ true
       go (inl p) =
           rw (
-            le-leb leastDegree k p,
+            le-leb leastClass k p,
             le-leb k mostDegree (omega (arith, s .ordered, s .most)),
-            le-leb leastDegree l (omega (arith, s .ordered)),
+            le-leb leastClass l (omega (arith, s .ordered)),
             le-leb l mostDegree (s .most),
             le-leb k l (s .ordered),
           )
@@ -203,9 +203,9 @@ module _ (t : DegreeTable) (table : Table (t .cells)) where
 
   -- in every cell
   pub records-exact : (k l : ℕ) → blockCell (recordsOf t) k l ≡ t .cells k l
-  records-exact k l = go (decLt k degrees) (decLt l degrees)
+  records-exact k l = go (decLt k mostClasses) (decLt l mostClasses)
     where
-      go : Dec (k < degrees) → Dec (l < degrees) → blockCell (recordsOf t) k l ≡ t .cells k l
+      go : Dec (k < mostClasses) → Dec (l < mostClasses) → blockCell (recordsOf t) k l ≡ t .cells k l
       go (yes p) (yes q) = records-back k l p q
       go (yes p) (no q) =
           blockCell-sym (recordsOf t) k l
@@ -233,7 +233,7 @@ unfolding catTo
 bytes-cat f zero h = λ p. omega arith
 bytes-cat f (suc n) h = bytes-append (catTo n f) (f n) (bytes-cat f n (λ i l. h i (omega arith))) (h n (omega arith))
 
-bytes-count : (k l n : ℕ) → k < degrees → l < degrees → n < 65536 → Bytes (countRecord k l n)
+bytes-count : (k l n : ℕ) → k < mostClasses → l < mostClasses → n < 65536 → Bytes (countRecord k l n)
 bytes-count k l n p q small = go (eqb n 0)
   where
     four : (a b c d : ℕ) → a < 256 → b < 256 → c < 256 → d < 256 → Bytes (a ∷ b ∷ c ∷ d ∷ [])
@@ -250,9 +250,9 @@ bytes-count k l n p q small = go (eqb n 0)
 pub records-bytes : (t : DegreeTable) → t .isolated < 65536 → ((k l : ℕ) → t .cells k l < 65536) → (p : ℕ) → getD (recordsOf t) p 0 < 256
 records-bytes t few small =
     bytes-append (countRecord 0 0 (t .isolated)) (cellRecords (t .cells)) (bytes-count 0 0 (t .isolated) (omega arith) (omega arith) few)
-    (bytes-cat (λ k. catTo degrees (cellRecord (t .cells) k)) degrees
-    (λ k p. bytes-cat (cellRecord (t .cells) k) degrees (λ l q. cell k l p q (leb k l))))
+    (bytes-cat (λ k. catTo mostClasses (cellRecord (t .cells) k)) mostClasses
+    (λ k p. bytes-cat (cellRecord (t .cells) k) mostClasses (λ l q. cell k l p q (leb k l))))
   where
-    cell : (k l : ℕ) → k < degrees → l < degrees → (b : Bool) → Bytes (cond b (countRecord k l (t .cells k l)) [])
+    cell : (k l : ℕ) → k < mostClasses → l < mostClasses → (b : Bool) → Bytes (cond b (countRecord k l (t .cells k l)) [])
     cell k l p q true = bytes-count k l (t .cells k l) p q (small k l)
     cell k l p q false = λ i. omega arith

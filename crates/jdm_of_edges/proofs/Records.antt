@@ -15,7 +15,7 @@ use Rattle.finite.specs.Range.{sumTo, catTo}
 use Rattle.finite.proofs.Fold.{catTo-cong, catTo-empty}
 use Rattle.finite.proofs.Sum.{sumTo-cong, sumTo-split}
 use Rattle.graph.specs.Graph.{DegreeTable}
-use Rattle.graph.specs.Tests.{leastDegree, mostDegree, degrees, Table}
+use Rattle.graph.specs.Tests.{leastClass, mostDegree, mostClasses, Table}
 use Rattle.table.specs.Block.{recordSize, records, recordK, recordL, recordCount}
 use Rattle.jdm_of_edges.specs.Survey.{countRecord, cellRecord, cellRecords, recordsOf}
 
@@ -24,12 +24,12 @@ pub row-starts : (T : ℕ → ℕ → ℕ) (k : ℕ) → catTo k (cellRecord T k
 row-starts T k = catTo-empty (cellRecord T k) k (λ l h. rw (lt-leb k l h))
 
 -- they depend on the isolated vertices and the cells alone
-pub records-cong : (t u : DegreeTable) → t .isolated ≡ u .isolated → ((k l : ℕ) → k < degrees → l < degrees → t .cells k l ≡ u .cells k l)
+pub records-cong : (t u : DegreeTable) → t .isolated ≡ u .isolated → ((k l : ℕ) → k < mostClasses → l < mostClasses → t .cells k l ≡ u .cells k l)
     → recordsOf t ≡ recordsOf u
 records-cong t u i h =
     ap₂ _++_ (ap (countRecord 0 0) i)
-    (catTo-cong (λ k. catTo degrees (cellRecord (t .cells) k)) (λ k. catTo degrees (cellRecord (u .cells) k)) degrees
-    (λ k p. catTo-cong (cellRecord (t .cells) k) (cellRecord (u .cells) k) degrees (λ l q. rw (h k l p q))))
+    (catTo-cong (λ k. catTo mostClasses (cellRecord (t .cells) k)) (λ k. catTo mostClasses (cellRecord (u .cells) k)) mostClasses
+    (λ k p. catTo-cong (cellRecord (t .cells) k) (cellRecord (u .cells) k) mostClasses (λ l q. rw (h k l p q))))
 
 -- 1. One list of records behind another.
 
@@ -108,7 +108,7 @@ two-bytes n = omega arith
 
 -- k and l as one number, by which records rise
 abbrev key : ℕ → ℕ → ℕ
-key k l = degrees * k + l
+key k l = mostClasses * k + l
 
 -- P is what holds of each record
 module _ (P : ℕ → ℕ → ℕ → Type 0) where
@@ -189,14 +189,14 @@ module _ (P : ℕ → ℕ → ℕ → Type 0) where
 
 -- of a cell: two degrees, and a count that is not 0
 record OfCell (k l n : ℕ) : Type 0 where
-  least : leastDegree ≤ k
+  least : leastClass ≤ k
   ordered : k ≤ l
   most : l ≤ mostDegree
   counted : 0 < n
 
 -- of a cell, or 0, 0 for isolated vertices
 pub record OfTable (k l n : ℕ) : Type 0 where
-  pub least : (leastDegree ≤ k) ⊎ (l ≡ 0)
+  pub least : (leastClass ≤ k) ⊎ (l ≡ 0)
   pub ordered : k ≤ l
   pub most : l ≤ mostDegree
   pub counted : 0 < n
@@ -206,14 +206,14 @@ first-whole n = run-count (λ k l n. 0 < n) 0 0 n (λ q. omega arith) .whole
 
 module _ (t : DegreeTable) (table : Table (t .cells)) where
   -- only cells of a degree are not 0
-  pub cell-least : (k l : ℕ) → t .cells k l ≢ 0 → leastDegree ≤ k
+  pub cell-least : (k l : ℕ) → t .cells k l ≢ 0 → leastClass ≤ k
   cell-least k l h = go (ℕ-discrete k 0)
     where
-      go : Dec (k ≡ 0) → leastDegree ≤ k
+      go : Dec (k ≡ 0) → leastClass ≤ k
       go (yes z) = absurd (h (rw z (table .none-of-0 l)))
       go (no z) = omega arith
 
-  run-cell : (k l : ℕ) → l < degrees → Run OfCell (key k l) (key k l + 1) (cellRecord (t .cells) k l)
+  run-cell : (k l : ℕ) → l < mostClasses → Run OfCell (key k l) (key k l + 1) (cellRecord (t .cells) k l)
   run-cell k l h = go (decLt l k)
     where
       go : Dec (l < k) → Run OfCell (key k l) (key k l + 1) (cellRecord (t .cells) k l)
@@ -223,27 +223,27 @@ module _ (t : DegreeTable) (table : Table (t .cells)) where
           (run-count OfCell k l (t .cells k l)
           (λ q. record { least = cell-least k l q; ordered = omega arith; most = omega arith; counted = omega arith }))
 
-  pub cell-whole : (k l : ℕ) → l < degrees → Whole (cellRecord (t .cells) k l)
+  pub cell-whole : (k l : ℕ) → l < mostClasses → Whole (cellRecord (t .cells) k l)
   cell-whole k l h = run-cell k l h .whole
 
-  run-row : (k : ℕ) → Run OfCell (key k 0) (key k degrees) (catTo degrees (cellRecord (t .cells) k))
+  run-row : (k : ℕ) → Run OfCell (key k 0) (key k mostClasses) (catTo mostClasses (cellRecord (t .cells) k))
   run-row k =
-      run-cat OfCell (cellRecord (t .cells) k) (key k) degrees (λ l h. omega arith)
+      run-cat OfCell (cellRecord (t .cells) k) (key k) mostClasses (λ l h. omega arith)
       (λ l h. let e : key k (l + 1) ≡ key k l + 1 = omega arith in rw e (run-cell k l h)) .1
 
-  run-cells : Run OfCell (key 0 0) (key degrees 0) (cellRecords (t .cells))
+  run-cells : Run OfCell (key 0 0) (key mostClasses 0) (cellRecords (t .cells))
   run-cells =
-      run-cat OfCell (λ k. catTo degrees (cellRecord (t .cells) k)) (λ k. key k 0) degrees (λ k h. omega arith)
-      (λ k h. let e : key (k + 1) 0 ≡ key k degrees = omega arith in rw e (run-row k)) .1
+      run-cat OfCell (λ k. catTo mostClasses (cellRecord (t .cells) k)) (λ k. key k 0) mostClasses (λ k h. omega arith)
+      (λ k h. let e : key (k + 1) 0 ≡ key k mostClasses = omega arith in rw e (run-row k)) .1
 
   -- each cell is past the key of isolated vertices
-  run-table : Run OfTable (key 0 0) (key degrees 0) (recordsOf t)
+  run-table : Run OfTable (key 0 0) (key mostClasses 0) (recordsOf t)
   run-table =
-      run-append OfTable (key 0 0) (key 0 0 + 1) (key degrees 0) (countRecord 0 0 (t .isolated)) (cellRecords (t .cells)) (omega arith) (omega arith)
+      run-append OfTable (key 0 0) (key 0 0 + 1) (key mostClasses 0) (countRecord 0 0 (t .isolated)) (cellRecords (t .cells)) (omega arith) (omega arith)
       (run-count OfTable 0 0 (t .isolated) (λ q. record { least = inr refl; ordered = omega arith; most = omega arith; counted = omega arith }))
       (record { whole = run-cells .whole; each = λ i h. later _ _ _ (run-cells .each i h); rising = run-cells .rising })
     where
-      later : (k l n : ℕ) → Shown OfCell (key 0 0) (key degrees 0) k l n → Shown OfTable (key 0 0 + 1) (key degrees 0) k l n
+      later : (k l n : ℕ) → Shown OfCell (key 0 0) (key mostClasses 0) k l n → Shown OfTable (key 0 0 + 1) (key mostClasses 0) k l n
       later k l n s =
           let c = s .holds in
           record {

@@ -11,7 +11,7 @@ use borrow.Author.Tests.{eqb-true, leb-true}
 use Rattle.answer.proofs.Checks.{unless-passed, unless-stopped-passed, refused-not-written, written-length}
 use Rattle.answer.specs.declared.WrittenAnswer.the-variants.{Written, Refused}
 use Rattle.graph.specs.Graph.{degree, ownJdm, isolated, ownTable}
-use Rattle.graph.specs.Tests.{degrees, Table}
+use Rattle.graph.specs.Tests.{mostClasses, Table}
 use Rattle.graph.proofs.Matrix.{jdm-none, jdm-isolated}
 use Rattle.graph.proofs.Necessary.{necessary-always}
 use Rattle.slices.proofs.Part.{take-sets, drop-sets}
@@ -40,13 +40,13 @@ records-written e total n size fits =
 
 -- The matrix of a list that is not refused is a table, and each count fits 16 bits.
 module _ (e : List ℕ) (total : ℕ) (few : total ≤ mostVertices) (well : firstBadEdge e total ≡ listed e) (low : firstAbove e total ≡ total) where
-  degree-below : (v : ℕ) → v < total → degree total (graphOf e) v < degrees
+  degree-below : (v : ℕ) → v < total → degree total (graphOf e) v < mostClasses
   degree-below v h = omega (arith, degree-low e total well low v h)
 
   pub own-table : Table (ownJdm total (graphOf e))
   own-table =
       record {
-        symmetric = necessary-always total degrees (degree total (graphOf e)) (graphOf e) (list-simple e total well) degree-below .symmetric;
+        symmetric = necessary-always total mostClasses (degree total (graphOf e)) (graphOf e) (list-simple e total well) degree-below .symmetric;
         none-of-0 = λ l. jdm-isolated total (graphOf e) l;
         none-above = λ k l h. jdm-none total (degree total (graphOf e)) (graphOf e) k l (λ v p q. omega (arith, degree-low e total well low v p));
       }

@@ -8,7 +8,7 @@ use lib.ListN.{length}
 use lib.Seq.{sets}
 use Rattle.finite.specs.Range.{lowest, catTo}
 use Rattle.graph.specs.Graph.{degree, DegreeTable, ownTable}
-use Rattle.graph.specs.Tests.{mostDegree, degrees}
+use Rattle.graph.specs.Tests.{mostDegree, mostClasses}
 use Rattle.answer.specs.Refusals.{refusal, unless, unlessStopped}
 use Rattle.answer.specs.declared.Cause.the-variants.{DegreeTooHigh, OutputTooShort}
 use Rattle.answer.specs.declared.WrittenAnswer.{WrittenAnswer}
@@ -29,7 +29,7 @@ cellRecord T k l = cond (leb k l) (countRecord k l (T k l)) []
 
 -- the records of a matrix, ascending
 abbrev pub cellRecords : (ℕ → ℕ → ℕ) → List ℕ
-cellRecords T = catTo degrees (λ k. catTo degrees (cellRecord T k))
+cellRecords T = catTo mostClasses (λ k. catTo mostClasses (cellRecord T k))
 
 -- the records of a table: that of the isolated vertices first, where there are some
 abbrev pub recordsOf : DegreeTable → List ℕ

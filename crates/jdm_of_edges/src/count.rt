@@ -4,7 +4,7 @@ ghost use Prim.Native.Nat.{_+_, _*_, _≤_, _<_};
 ghost use lib.ListN.{length, getD};
 ghost use Rattle.finite.specs.Range.{δ};
 ghost use Rattle.graph.specs.Graph.{degree};
-ghost use Rattle.graph.specs.Tests.{degrees};
+ghost use Rattle.graph.specs.Tests.{mostClasses};
 ghost use Rattle.table.specs.Inner.Cells.{place};
 ghost use Rattle.layout.specs.Layout.{mostVertices};
 ghost use Rattle.edge_lists.specs.EdgeList.{listed, endV, endW, firstBadEdge, graphOf};
@@ -15,9 +15,7 @@ use slices::wide;
 use table::cells::CELLS;
 use table::cells::place_of;
 use table::cells::wide32;
-use table::degree::DEGREES;
-
-const MAX_DEGREE: usize = DEGREES - 1;
+use table::degree::MAX_DEGREE;
 
 // Edge i is one more for both its ends.
 fn count_edge(counts: &mut [usize; MAX_VERTICES], edges: &[u8], i: usize)
@@ -91,7 +89,7 @@ fn times_counted(a: usize, b: usize) -> usize
 }
 
 fn count_cell(cells: &mut [u32; CELLS], a: usize, b: usize)
-    requires { ⌜ (a < degrees) × (b < degrees) × (getD (now cells) (place a b) 0 ≤ cellMostOwn) ⌝ }
+    requires { ⌜ (a < mostClasses) × (b < mostClasses) × (getD (now cells) (place a b) 0 ≤ cellMostOwn) ⌝ }
     ensures { λ _. ⌜ now (cells .exit) ≡ countCell a b (now (cells .entry)) ⌝ }
 {
     let p = place_of(a, b);

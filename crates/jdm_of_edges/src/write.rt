@@ -4,7 +4,7 @@ ghost use Prim.Native.Nat.{_+_, _*_, _≤_, _<_};
 ghost use lib.ListN.{length};
 ghost use lib.Seq.{sets};
 ghost use Rattle.finite.specs.Range.{catTo};
-ghost use Rattle.graph.specs.Tests.{degrees};
+ghost use Rattle.graph.specs.Tests.{mostClasses};
 ghost use Rattle.table.specs.Block.{recordSize};
 ghost use Rattle.table.specs.Inner.Cells.{matrixOf};
 ghost use Rattle.layout.specs.Layout.{mostVertices};
@@ -14,11 +14,11 @@ ghost use Rattle.jdm_of_edges.specs.Inner.Counting.{cellMostOwn, CellsSm
 use slices::put;
 use table::cells::CELLS;
 use table::cells::upper_cell;
-use table::degree::DEGREES;
+use table::class::MAX_CLASSES;
 
 // The record k, l, count from place at on, if the count is not 0. The place behind it.
 fn put_record(k: usize, l: usize, count: usize, out: &mut [u8], at: usize) -> usize
-    requires { ⌜ (k < degrees) × (l < degrees) × (count ≤ cellMostOwn) × (at ≤ recordsMost) ⌝ }
+    requires { ⌜ (k < mostClasses) × (l < mostClasses) × (count ≤ cellMostOwn) × (at ≤ recordsMost) ⌝ }
     ensures { λ r. ⌜ (r ≡ at + length (countRecord k l count)) × (r ≤ at + recordSize) ⌝ }
     ensures { λ _. ⌜ now (out .exit) ≡ sets (now (out .entry)) at (countRecord k l count) ⌝ }
 {
@@ -34,12 +34,12 @@ fn put_record(k: usize, l: usize, count: usize, out: &mut [u8], at: usize) -> us
 
 // The records of row k.
 fn put_row(cells: &[u32; CELLS], k: usize, out: &mut [u8], at: usize) -> usize
-    requires { ⌜ (k < degrees) × CellsSmall (now cells) × (at + recordSize * degrees ≤ recordsMost) ⌝ }
-    ensures { λ r. ⌜ (r ≡ at + length (catTo degrees (cellRecord (matrixOf (now (cells .entry))) k))) × (r ≤ at + recordSize * degrees) ⌝ }
-    ensures { λ _. ⌜ now (out .exit) ≡ sets (now (out .entry)) at (catTo degrees (cellRecord (matrixOf (now (cells .entry))) k)) ⌝ }
+    requires { ⌜ (k < mostClasses) × CellsSmall (now cells) × (at + recordSize * mostClasses ≤ recordsMost) ⌝ }
+    ensures { λ r. ⌜ (r ≡ at + length (catTo mostClasses (cellRecord (matrixOf (now (cells .entry))) k))) × (r ≤ at + recordSize * mostClasses) ⌝ }
+    ensures { λ _. ⌜ now (out .exit) ≡ sets (now (out .entry)) at (catTo mostClasses (cellRecord (matrixOf (now (cells .entry))) k)) ⌝ }
 {
     let mut a = at;
-    for l in k..DEGREES {
+    for l in k..MAX_CLASSES {
         a = put_record(k, l, upper_cell(cells, k, l), out, a);
     }
     a
@@ -52,7 +52,7 @@ fn put_cells(cells: &[u32; CELLS], out: &mut [u8], at: usize) -> usize
     ensures { λ _. ⌜ now (out .exit) ≡ sets (now (out .entry)) at (cellRecords (matrixOf (now (cells .entry)))) ⌝ }
 {
     let mut a = at;
-    for k in 0..DEGREES {
+    for k in 0..MAX_CLASSES {
         a = put_row(cells, k, out, a);
     }
     a

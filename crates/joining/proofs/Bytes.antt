@@ -11,16 +11,16 @@ use Rattle.graph.specs.Graph.{AddsEdge}
 use Rattle.graph.specs.Target.{Target, Partial, Open}
 use Rattle.graph.specs.Switch.{unsaturated, Relieved, Joined}
 use Rattle.graph.specs.Theorems.{Choices}
-use Rattle.graph.specs.Tests.{degrees}
+use Rattle.graph.specs.Tests.{mostClasses, classDegree}
 use Rattle.graph.proofs.Switch.{switch-works}
 use Rattle.graph.proofs.Join.{Ready, relieved, turned}
 use Rattle.layout.specs.Layout.{mostVertices}
 use Rattle.adjacency.specs.Adjacency.{adjacencySize, side, edge, setEdge}
 use Rattle.adjacency.proofs.Set.{set-length, set-other, set-adds, set-removes, set-outside}
-use Rattle.joining.specs.Join.{own, substituteAt, transferAt, neighborSwitch, relieveBytes, joinBytes}
+use Rattle.joining.specs.Join.{substituteAt, transferAt, neighborSwitch, relieveBytes, joinBytes}
 
 pub relieve-length : (n : ℕ) (cls : ℕ → ℕ) (g : List ℕ) (a o : ℕ) → length (relieveBytes n cls g a o) ≡ length g
-relieve-length n cls g a o = go (unsaturated n cls own (edge g) a)
+relieve-length n cls g a o = go (unsaturated n cls classDegree (edge g) a)
   where
     go : (u : Bool) → length (cond u g (neighborSwitch n cls g a o)) ≡ length g
     go true = refl
@@ -34,19 +34,19 @@ join-length n cls g v w =
 
 module _ (n : ℕ) (cls : ℕ → ℕ) (T : ℕ → ℕ → ℕ) where
   -- Room at a, o being the other named vertex.
-  module _ (g : List ℕ) (a o : ℕ) (sized : length g ≡ adjacencySize) (few : n ≤ mostVertices) (target : Target n degrees cls own T)
-      (partial : Partial n degrees cls own T (edge g)) (pair : Open n cls T (edge g) a o) where
+  module _ (g : List ℕ) (a o : ℕ) (sized : length g ≡ adjacencySize) (few : n ≤ mostVertices) (target : Target n mostClasses cls classDegree T)
+      (partial : Partial n mostClasses cls classDegree T (edge g)) (pair : Open n cls T (edge g) a o) where
     b : ℕ
     b = substituteAt n cls g a o
 
     t : ℕ
     t = transferAt n cls g a o
 
-    choices : unsaturated n cls own (edge g) a ≡ false → Choices n degrees cls own T (edge g) a o b t
+    choices : unsaturated n cls classDegree (edge g) a ≡ false → Choices n mostClasses cls classDegree T (edge g) a o b t
     unfolding b t
-    choices e = switch-works n degrees cls own T (edge g) a o target partial pair e .0
+    choices e = switch-works n mostClasses cls classDegree T (edge g) a o target partial pair e .0
 
-    module _ (c : Choices n degrees cls own T (edge g) a o b t) where
+    module _ (c : Choices n mostClasses cls classDegree T (edge g) a o b t) where
       removes : AddsEdge n (edge (setEdge g a t 0)) a t (edge g)
       removes =
           set-removes n g a t sized (omega (arith, pair .first)) (omega (arith, c .t-vertex)) few (λ e. c .t-not-a (sym e)) (c .t-linked)
@@ -74,17 +74,17 @@ module _ (n : ℕ) (cls : ℕ → ℕ) (T : ℕ → ℕ → ℕ) where
           (c .t-vertex) x y xs ys out
 
     -- the edges that the switch removes and adds
-    pub switch-removes : unsaturated n cls own (edge g) a ≡ false
+    pub switch-removes : unsaturated n cls classDegree (edge g) a ≡ false
         → AddsEdge n (edge (setEdge g a (transferAt n cls g a o) 0)) a (transferAt n cls g a o) (edge g)
     unfolding b t
     switch-removes e = removes (choices e)
 
-    pub switch-adds : unsaturated n cls own (edge g) a ≡ false
+    pub switch-adds : unsaturated n cls classDegree (edge g) a ≡ false
         → AddsEdge n (edge (setEdge g a (transferAt n cls g a o) 0)) (substituteAt n cls g a o) (transferAt n cls g a o) (edge (neighborSwitch n cls g a o))
     unfolding b t
     switch-adds e = adds (choices e)
 
-    pub relieve-bytes : Relieved n cls own (edge g) a o (edge (relieveBytes n cls g a o))
+    pub relieve-bytes : Relieved n cls classDegree (edge g) a o (edge (relieveBytes n cls g a o))
     relieve-bytes =
         record {
           left = λ e v w l m. rw e;
@@ -94,44 +94,44 @@ module _ (n : ℕ) (cls : ℕ → ℕ) (T : ℕ → ℕ → ℕ) where
     -- nothing changes outside the vertices
     pub relieve-outside : (x y : ℕ) → x < side → y < side → (n ≤ x) ⊎ (n ≤ y) → edge (relieveBytes n cls g a o) x y ≡ edge g x y
     unfolding b t
-    relieve-outside x y xs ys out = go (unsaturated n cls own (edge g) a) refl
+    relieve-outside x y xs ys out = go (unsaturated n cls classDegree (edge g) a) refl
       where
-        go : (u : Bool) → unsaturated n cls own (edge g) a ≡ u
+        go : (u : Bool) → unsaturated n cls classDegree (edge g) a ≡ u
             → edge (cond u g (neighborSwitch n cls g a o)) x y ≡ edge g x y
         go true e = refl
         go false e = apart (choices e) x y xs ys out
 
   -- The whole join.
-  module _ (g : List ℕ) (v w : ℕ) (sized : length g ≡ adjacencySize) (few : n ≤ mostVertices) (target : Target n degrees cls own T)
-      (partial : Partial n degrees cls own T (edge g)) (pair : Open n cls T (edge g) v w) where
+  module _ (g : List ℕ) (v w : ℕ) (sized : length g ≡ adjacencySize) (few : n ≤ mostVertices) (target : Target n mostClasses cls classDegree T)
+      (partial : Partial n mostClasses cls classDegree T (edge g)) (pair : Open n cls T (edge g) v w) where
     once : List ℕ
     once = relieveBytes n cls g v w
 
     twice : List ℕ
     twice = relieveBytes n cls once w v
 
-    pub ready-v : Ready n degrees cls own T (edge g) v w (edge (relieveBytes n cls g v w))
-    ready-v = relieved n degrees cls own T target (edge g) v w partial pair (edge (relieveBytes n cls g v w)) (relieve-bytes g v w sized few target partial pair)
+    pub ready-v : Ready n mostClasses cls classDegree T (edge g) v w (edge (relieveBytes n cls g v w))
+    ready-v = relieved n mostClasses cls classDegree T target (edge g) v w partial pair (edge (relieveBytes n cls g v w)) (relieve-bytes g v w sized few target partial pair)
 
     pub pair-w : Open n cls T (edge (relieveBytes n cls g v w)) w v
-    pair-w = turned n degrees cls own T target (edge g) v w partial pair (edge (relieveBytes n cls g v w)) ready-v
+    pair-w = turned n mostClasses cls classDegree T target (edge g) v w partial pair (edge (relieveBytes n cls g v w)) ready-v
 
     pub sized-once : length (relieveBytes n cls g v w) ≡ adjacencySize
     sized-once = relieve-length n cls g v w ∙ sized
 
-    relieved-w : Relieved n cls own (edge once) w v (edge twice)
+    relieved-w : Relieved n cls classDegree (edge once) w v (edge twice)
     unfolding once twice
     relieved-w = relieve-bytes once w v sized-once few target (ready-v .partial) pair-w
 
-    ready-w : Ready n degrees cls own T (edge once) w v (edge twice)
+    ready-w : Ready n mostClasses cls classDegree T (edge once) w v (edge twice)
     unfolding once twice
-    ready-w = relieved n degrees cls own T target (edge once) w v (ready-v .partial) pair-w (edge twice) relieved-w
+    ready-w = relieved n mostClasses cls classDegree T target (edge once) w v (ready-v .partial) pair-w (edge twice) relieved-w
 
     pair-v : Open n cls T (edge twice) v w
     unfolding once twice
-    pair-v = turned n degrees cls own T target (edge once) w v (ready-v .partial) pair-w (edge twice) ready-w
+    pair-v = turned n mostClasses cls classDegree T target (edge once) w v (ready-v .partial) pair-w (edge twice) ready-w
 
-    pub join-bytes : Joined n cls own (edge g) v w (edge (joinBytes n cls g v w))
+    pub join-bytes : Joined n cls classDegree (edge g) v w (edge (joinBytes n cls g v w))
     unfolding once twice
     join-bytes =
         record {

@@ -9,7 +9,7 @@ use borrow.Author.Tests.{ltb-false, le-ltb}
 use Rattle.finite.proofs.Delta.{δ-other}
 use Rattle.graph.specs.Graph.{degree, AddsEdge}
 use Rattle.graph.specs.Switch.{unsaturated}
-use Rattle.graph.specs.Tests.{degrees}
+use Rattle.graph.specs.Tests.{mostClasses, classDegree}
 use Rattle.graph.specs.Theorems.{Choices}
 use Rattle.graph.proofs.Switch.{switch-works}
 use Rattle.graph.proofs.Join.{Ready}
@@ -17,7 +17,7 @@ use Rattle.graph.proofs.Resume.{relief-degree}
 use Rattle.graph.proofs.Update.{degree-adds}
 use Rattle.adjacency.specs.Adjacency.{edge, setEdge}
 use Rattle.adjacency.proofs.Set.{set-length, set-adds}
-use Rattle.joining.specs.Join.{own, substituteAt, transferAt, switchAt, neighborSwitch, relieveBytes, inOrder, joinSwitches}
+use Rattle.joining.specs.Join.{substituteAt, transferAt, switchAt, neighborSwitch, relieveBytes, inOrder, joinSwitches}
 use Rattle.classes.specs.Inner.Block.{classFrom}
 use Rattle.joining.specs.Inner.Work.{DegreesKept, withEdge, withoutEdge, Unlinkable, Linkable, Joinable, Placed, reliefOf, bothReliefs, cutOff, freed}
 use Rattle.join_records.specs.Inner.Bytes.{InBytes}
@@ -36,7 +36,7 @@ module _ {n : ℕ} {cls : ℕ → ℕ} {g : List ℕ} {v w : ℕ} (j : Joinable 
   pub reliefs-switches : {y : Relief} → y ≡ reliefOf n cls (relieveBytes n cls g v w) w v → bothReliefs x y ≡ joinSwitches n cls g v w
   reliefs-switches ey =
       rw (ex, ey)
-      (go (unsaturated n cls own (edge g) v) (unsaturated n cls own (edge (relieveBytes n cls g v w)) w)
+      (go (unsaturated n cls classDegree (edge g) v) (unsaturated n cls classDegree (edge (relieveBytes n cls g v w)) w)
       (switchAt n cls g v w) (switchAt n cls (relieveBytes n cls g v w) w v))
     where
       go : (p q : Bool) (x y : Switch) → bothReliefs (cond p Room (Switched x)) (cond q Room (Switched y)) ≡ inOrder p q x y
@@ -46,7 +46,7 @@ module _ {n : ℕ} {cls : ℕ → ℕ} {g : List ℕ} {v w : ℕ} (j : Joinable 
       go false false x y = refl
 
   pub relief-freed : cutOff n x ≡ freed n cls g v w
-  relief-freed = rw ex (go (unsaturated n cls own (edge g) v))
+  relief-freed = rw ex (go (unsaturated n cls classDegree (edge g) v))
     where
       go : (p : Bool) → cutOff n (cond p Room (Switched (switchAt n cls g v w))) ≡ cond p n (transferAt n cls g v w)
       go true = refl
@@ -60,11 +60,11 @@ module _ {n : ℕ} {cls : ℕ → ℕ} {g : List ℕ} {a o : ℕ} (j : Joinable 
   t = transferAt n cls g a o
 
   -- a is saturated, so it is switched
-  module _ (full : unsaturated n cls own (edge g) a ≡ false) where
-    pub chosen : Choices n degrees cls own (j .table) (edge g) a o b t
-    chosen = switch-works n degrees cls own (j .table) (edge g) a o (j .target) (j .partial) (j .pair) full .0
+  module _ (full : unsaturated n cls classDegree (edge g) a ≡ false) where
+    pub chosen : Choices n mostClasses cls classDegree (j .table) (edge g) a o b t
+    chosen = switch-works n mostClasses cls classDegree (j .table) (edge g) a o (j .target) (j .partial) (j .pair) full .0
 
-  ready : Ready n degrees cls own (j .table) (edge g) a o (edge (relieveBytes n cls g a o))
+  ready : Ready n mostClasses cls classDegree (j .table) (edge g) a o (edge (relieveBytes n cls g a o))
   ready = ready-v n cls (j .table) g a o (j .sized) (j .few) (j .target) (j .partial) (j .pair)
 
   -- then room may be made at o
@@ -87,7 +87,7 @@ module _ {n : ℕ} {cls : ℕ → ℕ} {g : List ℕ} {a o : ℕ} (j : Joinable 
       (j .partial .simple .symmetric o a (j .pair .second) (j .pair .first) ∙ j .pair .unlinked)
 
 -- Switching a, step by step, with `held` beside the matrix: what each step asks for, and what it leaves.
-module _ {n : ℕ} {cls : ℕ → ℕ} {g : List ℕ} {a o : ℕ} (j : Joinable n cls g a o) (full : unsaturated n cls own (edge g) a ≡ false)
+module _ {n : ℕ} {cls : ℕ → ℕ} {g : List ℕ} {a o : ℕ} (j : Joinable n cls g a o) (full : unsaturated n cls classDegree (edge g) a ≡ false)
     {held : List ℕ} (is : DegreesKept n held g) where
   removes : AddsEdge n (edge (setEdge g a (t j) 0)) a (t j) (edge g)
   removes = switch-removes n cls (j .table) g a o (j .sized) (j .few) (j .target) (j .partial) (j .pair) full
@@ -105,7 +105,7 @@ module _ {n : ℕ} {cls : ℕ → ℕ} {g : List ℕ} {a o : ℕ} (j : Joinable 
   unlinked = without-edge (j .few) g is (j .pair .first) (chosen j full .t-vertex) (setEdge g a (t j) 0) (λ e. chosen j full .t-not-a (sym e)) removes
 
   -- without a – t every vertex has as many edges as before at most
-  fewer : (v : ℕ) → v < n → degree n (edge (setEdge g a (t j) 0)) v < degrees
+  fewer : (v : ℕ) → v < n → degree n (edge (setEdge g a (t j) 0)) v < mostClasses
   fewer v l =
       omega (
         arith,
@@ -150,10 +150,10 @@ pub switches-bytes : {n : ℕ} {cls : ℕ → ℕ} {g : List ℕ} {v w : ℕ} �
     → InBytes (firstSwitch s) × InBytes (secondSwitch s)
 switches-bytes {n} {cls} {g} {v} {w} j e =
     rw e
-    (go (unsaturated n cls own (edge g) v) (unsaturated n cls own (edge (relieveBytes n cls g v w)) w) (switchAt n cls g v w)
+    (go (unsaturated n cls classDegree (edge g) v) (unsaturated n cls classDegree (edge (relieveBytes n cls g v w)) w) (switchAt n cls g v w)
     (switchAt n cls (relieveBytes n cls g v w) w v) (at j) (at (joinable-next j)))
   where
-    at : {g : List ℕ} {a o : ℕ} → Joinable n cls g a o → unsaturated n cls own (edge g) a ≡ false → InBytes (switchAt n cls g a o)
+    at : {g : List ℕ} {a o : ℕ} → Joinable n cls g a o → unsaturated n cls classDegree (edge g) a ≡ false → InBytes (switchAt n cls g a o)
     at i full =
         record {
           a = omega (arith, i .pair .first, i .few);
@@ -185,7 +185,7 @@ placed-next {n} {starts} {g} v w j p =
           (omega (
             arith,
             ltb-false (degree n (edge g) i) (cls i) (p .saturated i l e d),
-            relief-degree n degrees cls own (j .table) (j .target) (edge g) (v .at) (w .at) (j .partial) (j .pair) (edge g′)
+            relief-degree n mostClasses cls classDegree (j .table) (j .target) (edge g) (v .at) (w .at) (j .partial) (j .pair) (edge g′)
                 (relieve-bytes n cls (j .table) g (v .at) (w .at) (j .sized) (j .few) (j .target) (j .partial) (j .pair)) i
                 (omega (arith, p .before, start-most (p .numbered) (w .class + 1) (omega (arith, p .class, j .target .classed (w .at) (j .pair .second))))),
             δ-other i (v .at) d,

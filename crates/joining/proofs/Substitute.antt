@@ -14,9 +14,9 @@ use Rattle.finite.proofs.All.{and-false}
 use Rattle.finite.proofs.Lowest.{lowest-skip, lowest-cong, lowest-ge, lowest-holds, lowest-before, lowest-only, lowest-none, lowest-here, lowest-end}
 use Rattle.graph.specs.Graph.{degree}
 use Rattle.graph.specs.Switch.{unsaturated, canSubstitute, orElse}
-use Rattle.graph.specs.Tests.{degrees}
+use Rattle.graph.specs.Tests.{mostClasses, classDegree}
 use Rattle.adjacency.specs.Adjacency.{edge}
-use Rattle.joining.specs.Join.{own, substituteAt}
+use Rattle.joining.specs.Join.{substituteAt}
 use Rattle.classes.specs.Inner.Block.{classFrom}
 use Rattle.joining.specs.Inner.Work.{Joinable, Placed, canStandIn}
 use Rattle.joining.specs.declared.End.{End}
@@ -61,47 +61,47 @@ module _ {n : ℕ} {starts g : List ℕ} {a : End} {o : ℕ} (j : Joinable n (cl
   abbrev to : ℕ
   to = getD starts (a .class + 1) 0
 
-  pub class-below : a .class < degrees
+  pub class-below : a .class < mostClasses
   class-below = rw (p .class) (j .target .classed (a .at) (j .pair .first))
 
   pub end-within : to ≤ n
   end-within = start-most (p .numbered) (a .class + 1) (omega (arith, class-below))
 
   -- no vertex can substitute before `low` or behind the class
-  other-class : (i : ℕ) → (cls i ≡ a .class → ⊥) → canSubstitute n cls own (edge g) (a .at) o i ≡ false
+  other-class : (i : ℕ) → (cls i ≡ a .class → ⊥) → canSubstitute n cls classDegree (edge g) (a .at) o i ≡ false
   other-class i d = rw (ne-eqb (cls i) (cls (a .at)) (λ e. d (e ∙ sym (p .class))))
 
-  before : (i : ℕ) → i < a .low → canSubstitute n cls own (edge g) (a .at) o i ≡ false
+  before : (i : ℕ) → i < a .low → canSubstitute n cls classDegree (edge g) (a .at) o i ≡ false
   before i l = go (ℕ-discrete (cls i) (a .class)) (ℕ-discrete i o)
     where
-      go : Dec (cls i ≡ a .class) → Dec (i ≡ o) → canSubstitute n cls own (edge g) (a .at) o i ≡ false
+      go : Dec (cls i ≡ a .class) → Dec (i ≡ o) → canSubstitute n cls classDegree (edge g) (a .at) o i ≡ false
       go (no e) d = other-class i e
-      go (yes e) (yes d) = rw (eq-eqb (cls i) (cls (a .at)) (e ∙ p .class), eq-eqb i o d) (and-false (unsaturated n cls own (edge g) i))
+      go (yes e) (yes d) = rw (eq-eqb (cls i) (cls (a .at)) (e ∙ p .class), eq-eqb i o d) (and-false (unsaturated n cls classDegree (edge g) i))
       go (yes e) (no d) = rw (eq-eqb (cls i) (cls (a .at)) (e ∙ p .class), p .saturated i l e d)
 
-  behind : (i : ℕ) → to ≤ i → i < n → canSubstitute n cls own (edge g) (a .at) o i ≡ false
+  behind : (i : ℕ) → to ≤ i → i < n → canSubstitute n cls classDegree (edge g) (a .at) o i ≡ false
   behind i l m = other-class i (λ e. omega (arith, class-only (p .numbered) (a .class) i class-below m e))
 
   -- `held`: the edges of each vertex, as the code has them
   module _ (held : ℕ → ℕ) (counts : (i : ℕ) → i < n → held i ≡ degree n (edge g) i) where
-    inside : (i : ℕ) → a .low ≤ i → i < to → canStandIn held (a .class) o i ≡ canSubstitute n cls own (edge g) (a .at) o i
+    inside : (i : ℕ) → a .low ≤ i → i < to → canStandIn held (a .class) o i ≡ canSubstitute n cls classDegree (edge g) (a .at) o i
     inside i f t =
         let e = class-inside (p .numbered) (a .class) i class-below (omega (arith, p .after)) t in
         rw (eq-eqb (cls i) (cls (a .at)) (e ∙ p .class), e, counts i (omega (arith, end-within)))
 
     pub substitute-in : orElse to o (lowest (a .low) to (canStandIn held (a .class) o)) ≡ substituteAt n cls g (a .at) o
     substitute-in =
-        ap (orElse to o) (lowest-cong (a .low) to (canStandIn held (a .class) o) (canSubstitute n cls own (edge g) (a .at) o) inside)
-        ∙ else-cut (a .low) to n o (canSubstitute n cls own (edge g) (a .at) o) (p .before) end-within behind
+        ap (orElse to o) (lowest-cong (a .low) to (canStandIn held (a .class) o) (canSubstitute n cls classDegree (edge g) (a .at) o) inside)
+        ∙ else-cut (a .low) to n o (canSubstitute n cls classDegree (edge g) (a .at) o) (p .before) end-within behind
         ∙ ap (orElse n o)
-        (sym (lowest-skip 0 (a .low) n (canSubstitute n cls own (edge g) (a .at) o) zero-le (omega (arith, p .before, end-within)) (λ i z l. before i l)))
+        (sym (lowest-skip 0 (a .low) n (canSubstitute n cls classDegree (edge g) (a .at) o) zero-le (omega (arith, p .before, end-within)) (λ i z l. before i l)))
 
     -- whether a is saturated
-    saturated-in : ltb (held (a .at)) (a .class) ≡ unsaturated n cls own (edge g) (a .at)
+    saturated-in : ltb (held (a .at)) (a .class) ≡ unsaturated n cls classDegree (edge g) (a .at)
     saturated-in = rw (counts (a .at) (j .pair .first), p .class)
 
-    pub room-in : held (a .at) < a .class → unsaturated n cls own (edge g) (a .at) ≡ true
+    pub room-in : held (a .at) < a .class → unsaturated n cls classDegree (edge g) (a .at) ≡ true
     room-in l = sym saturated-in ∙ lt-ltb (held (a .at)) (a .class) l
 
-    pub full-in : a .class ≤ held (a .at) → unsaturated n cls own (edge g) (a .at) ≡ false
+    pub full-in : a .class ≤ held (a .at) → unsaturated n cls classDegree (edge g) (a .at) ≡ false
     full-in l = sym saturated-in ∙ le-ltb (held (a .at)) (a .class) l

@@ -11,9 +11,10 @@ use Rattle.answer.specs.declared.switches.Switch.{Switch}
 use Rattle.graph.specs.Switch.{unsaturated}
 use Rattle.adjacency.specs.Adjacency.{edge, setEdge}
 use Rattle.adjacency.proofs.Set.{set-length, set-other}
-use Rattle.joining.specs.Join.{own, transferAt, switchAt, neighborSwitch, relieveBytes, joinBytes, inOrder, joinSwitches}
+use Rattle.joining.specs.Join.{transferAt, switchAt, neighborSwitch, relieveBytes, joinBytes, inOrder, joinSwitches}
 use Rattle.joining.specs.Inner.Work.{Joinable}
 use Rattle.joining.proofs.Relieving.{chosen, joinable-next, joinable-last}
+use Rattle.graph.specs.Tests.{classDegree}
 
 -- of the switches of both ends, those that were made
 each-made : (P : Switch → Type 0) (p q : Bool) (x y : Switch) → (p ≡ false → P x) → (q ≡ false → P y) → Each P (inOrder p q x y)
@@ -29,15 +30,15 @@ made-each P false true x y e = ((λ h. e), (λ h. absurd (false≢true (sym h)))
 made-each P false false x y e = ((λ h. e .0), (λ h. e .1))
 
 module _ {n : ℕ} {cls : ℕ → ℕ} {g : List ℕ} {a o : ℕ} (j : Joinable n cls g a o) where
-  switch-below : unsaturated n cls own (edge g) a ≡ false → SwitchBelow n (switchAt n cls g a o)
+  switch-below : unsaturated n cls classDegree (edge g) a ≡ false → SwitchBelow n (switchAt n cls g a o)
   switch-below full = (j .pair .first, chosen j full .b-vertex, chosen j full .t-vertex)
 
   -- room made at a
-  relieve-apart : (u z : ℕ) → u < z → z < n → (unsaturated n cls own (edge g) a ≡ false → RowApart u (switchAt n cls g a o))
+  relieve-apart : (u z : ℕ) → u < z → z < n → (unsaturated n cls classDegree (edge g) a ≡ false → RowApart u (switchAt n cls g a o))
       → edge (relieveBytes n cls g a o) u z ≡ edge g u z
-  relieve-apart u z uz zn apart = go (unsaturated n cls own (edge g) a) refl
+  relieve-apart u z uz zn apart = go (unsaturated n cls classDegree (edge g) a) refl
     where
-      go : (p : Bool) → unsaturated n cls own (edge g) a ≡ p → edge (cond p g (neighborSwitch n cls g a o)) u z ≡ edge g u z
+      go : (p : Bool) → unsaturated n cls classDegree (edge g) a ≡ p → edge (cond p g (neighborSwitch n cls g a o)) u z ≡ edge g u z
       go true e = refl
       go false e =
           let below = switch-below e in
@@ -51,14 +52,14 @@ module _ {n : ℕ} {cls : ℕ → ℕ} {g : List ℕ} {a o : ℕ} (j : Joinable 
 module _ {n : ℕ} {cls : ℕ → ℕ} {g : List ℕ} {v w : ℕ} (j : Joinable n cls g v w) where
   pub switches-below : Each (SwitchBelow n) (joinSwitches n cls g v w)
   switches-below =
-      each-made (SwitchBelow n) (unsaturated n cls own (edge g) v) (unsaturated n cls own (edge (relieveBytes n cls g v w)) w) (switchAt n cls g v w)
+      each-made (SwitchBelow n) (unsaturated n cls classDegree (edge g) v) (unsaturated n cls classDegree (edge (relieveBytes n cls g v w)) w) (switchAt n cls g v w)
       (switchAt n cls (relieveBytes n cls g v w) w v) (switch-below j) (switch-below (joinable-next j))
 
   -- the join of v and w above it
   pub join-apart : v < w → (u z : ℕ) → u < z → z < n → u ≢ v → Each (RowApart u) (joinSwitches n cls g v w)
       → edge (joinBytes n cls g v w) u z ≡ edge g u z
   join-apart vw u z uz zn uv apart =
-      let parts = made-each (RowApart u) (unsaturated n cls own (edge g) v) (unsaturated n cls own (edge (relieveBytes n cls g v w)) w)
+      let parts = made-each (RowApart u) (unsaturated n cls classDegree (edge g) v) (unsaturated n cls classDegree (edge (relieveBytes n cls g v w)) w)
       (switchAt n cls g v w) (switchAt n cls (relieveBytes n cls g v w) w v) apart in
       let last = joinable-last j in
       set-other (relieveBytes n cls (relieveBytes n cls g v w) w v) v w 1 (last .sized)

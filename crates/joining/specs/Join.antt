@@ -9,14 +9,11 @@ use Rattle.answer.specs.declared.switches.Switches.{Switches}
 use Rattle.answer.specs.declared.switches.Switches.the-variants.{None, One, Two}
 use Rattle.graph.specs.Switch.{unsaturated, substitute, transfer}
 use Rattle.adjacency.specs.Adjacency.{edge, setEdge}
-
--- a vertex's class is its degree
-abbrev pub own : ℕ → ℕ
-own k = k
+use Rattle.graph.specs.Tests.{classDegree}
 
 -- document 01's b and t of switching a, `other` being the other named vertex
 abbrev pub substituteAt : ℕ → (ℕ → ℕ) → List ℕ → ℕ → ℕ → ℕ
-substituteAt n cls g a other = substitute n cls own (edge g) a other
+substituteAt n cls g a other = substitute n cls classDegree (edge g) a other
 
 abbrev pub transferAt : ℕ → (ℕ → ℕ) → List ℕ → ℕ → ℕ → ℕ
 transferAt n cls g a other = transfer n (edge g) a (substituteAt n cls g a other)
@@ -31,7 +28,7 @@ neighborSwitch n cls g a other =
 
 -- room at a: a switch if it is saturated
 abbrev pub relieveBytes : ℕ → (ℕ → ℕ) → List ℕ → ℕ → ℕ → List ℕ
-relieveBytes n cls g a other = cond (unsaturated n cls own (edge g) a) g (neighborSwitch n cls g a other)
+relieveBytes n cls g a other = cond (unsaturated n cls classDegree (edge g) a) g (neighborSwitch n cls g a other)
 
 -- both steps, and the edge
 abbrev pub joinBytes : ℕ → (ℕ → ℕ) → List ℕ → ℕ → ℕ → List ℕ
@@ -52,4 +49,4 @@ inOrder false false x y = Two x y
 abbrev pub joinSwitches : ℕ → (ℕ → ℕ) → List ℕ → ℕ → ℕ → Switches
 joinSwitches n cls g v w =
     let g′ = relieveBytes n cls g v w in
-    inOrder (unsaturated n cls own (edge g) v) (unsaturated n cls own (edge g′) w) (switchAt n cls g v w) (switchAt n cls g′ w v)
+    inOrder (unsaturated n cls classDegree (edge g) v) (unsaturated n cls classDegree (edge g′) w) (switchAt n cls g v w) (switchAt n cls g′ w v)

@@ -5,11 +5,11 @@ ghost use Prim.Native.Nat.{ℕ, _/_, _≤_, _<_};
 ghost use lib.ListN.{length, getD};
 ghost use Rattle.finite.specs.Range.{sumTo};
 ghost use Rattle.graph.specs.Graph.{Simple};
-ghost use Rattle.graph.specs.Tests.{degrees};
 ghost use Rattle.adjacency.specs.Adjacency.{adjacencySize, side, edge};
 ghost use Rattle.joining.specs.Join.{relieveBytes, joinBytes, joinSwitches};
 ghost use Rattle.classes.specs.Inner.Block.{classFrom};
 ghost use Rattle.joining.specs.Inner.Work.{degreesOf, DegreesKept, Joinable, Placed, reliefOf, bothReliefs, cutOff, freed};
+ghost use Rattle.graph.specs.Tests.{mostDegree};
 
 pub mod once;
 mod switch;
@@ -22,6 +22,7 @@ use answer::switches::Switches;
 use classes::STARTS;
 use classes::row_sum;
 use layout::MAX_VERTICES;
+use table::class::class_degree;
 
 // An end of the edge to be: the vertex, its class, and a vertex of the class before which all but the other end are saturated.
 pub struct End {
@@ -56,7 +57,7 @@ pub fn degrees(adjacency: &[u8], n: usize) -> [usize; MAX_VERTICES]
 
 // How many edges there are, by the degrees of the n vertices: each edge stands at both its ends.
 pub fn edges_held(held: &[usize; MAX_VERTICES], n: usize) -> usize
-    requires { ⌜ (n ≤ side) × ((v : ℕ) → v < n → getD (now held) v 0 ≤ degrees) ⌝ }
+    requires { ⌜ (n ≤ side) × ((v : ℕ) → v < n → getD (now held) v 0 ≤ mostDegree) ⌝ }
     ensures { λ r. ⌜ r ≡ sumTo n (λ v. getD (now (held .entry)) v 0) / 2 ⌝ }
 {
     let mut sum = 0;
@@ -80,7 +81,7 @@ fn relieve(
     ensures { λ _. ⌜ now (adjacency .exit) ≡ relieveBytes n (classFrom (now (starts .entry))) (now (adjacency .entry)) (a .at) other ⌝ }
     ensures { λ _. ⌜ DegreesKept n (now (held .exit)) (relieveBytes n (classFrom (now (starts .entry))) (now (adjacency .entry)) (a .at) other) ⌝ }
 {
-    if degree_at(adjacency, held, n, a.at) < a.class {
+    if degree_at(adjacency, held, n, a.at) < class_degree(a.class) {
         return Relief::Room;
     }
     Relief::Switched(neighbor_switch(adjacency, held, starts, n, a, other))

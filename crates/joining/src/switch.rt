@@ -10,14 +10,16 @@ ghost use Rattle.graph.specs.Graph.{degree};
 ghost use Rattle.graph.specs.Switch.{unsaturated, canTransfer, transfer};
 ghost use Rattle.adjacency.specs.Adjacency.{adjacencySize, side, edge, setEdge};
 ghost use Rattle.classes.specs.Inner.Block.{classFrom};
-ghost use Rattle.joining.specs.Join.{own, substituteAt, neighborSwitch, switchAt};
+ghost use Rattle.joining.specs.Join.{substituteAt, neighborSwitch, switchAt};
 ghost use Rattle.joining.specs.Inner.Work.{lanes, DegreesKept, withEdge, withoutEdge, Unlinkable, Linkable, Joinable, Placed, canStandIn};
+ghost use Rattle.graph.specs.Tests.{classDegree};
 use crate::End;
 use adjacency::SIDE;
 use adjacency::degree_of;
 use adjacency::set_edge;
 use answer::switches::Switch;
 use classes::STARTS;
+use table::class::class_degree;
 
 // How many bytes of a row are tested at once.
 const LANES: usize = 16;
@@ -31,7 +33,7 @@ pub fn neighbor_switch(
     a: End,
     other: usize,
 ) -> Switch
-    requires { ⌜ Joinable n (classFrom (now starts)) (now adjacency) (a .at) other × Placed n (now starts) (now adjacency) a other × DegreesKept n (now held) (now adjacency) × (unsaturated n (classFrom (now starts)) own (edge (now adjacency)) (a .at) ≡ false) ⌝ }
+    requires { ⌜ Joinable n (classFrom (now starts)) (now adjacency) (a .at) other × Placed n (now starts) (now adjacency) a other × DegreesKept n (now held) (now adjacency) × (unsaturated n (classFrom (now starts)) classDegree (edge (now adjacency)) (a .at) ≡ false) ⌝ }
     ensures { λ r. ⌜ r ≡ switchAt n (classFrom (now (starts .entry))) (now (adjacency .entry)) (a .at) other ⌝ }
     ensures { λ _. ⌜ now (adjacency .exit) ≡ neighborSwitch n (classFrom (now (starts .entry))) (now (adjacency .entry)) (a .at) other ⌝ }
     ensures { λ _. ⌜ DegreesKept n (now (held .exit)) (neighborSwitch n (classFrom (now (starts .entry))) (now (adjacency .entry)) (a .at) other) ⌝ }
@@ -63,9 +65,9 @@ fn can_stand_in(
     b: usize,
 ) -> bool
     requires { ⌜ (length (now adjacency) ≡ adjacencySize) × (n ≤ side) × (b < n) × DegreesKept n (now held) (now adjacency) ⌝ }
-    ensures { λ r. ⌜ r ≡ canStandIn (degree n (edge (now (adjacency .entry)))) class other b ⌝ }
+    ensures { λ r. ⌜ r ≡ canStandIn (degree n (edge (now (adjacency .entry)))) (classDegree class) other b ⌝ }
 {
-    (degree_at(adjacency, held, n, b) < class) & (b != other)
+    (degree_at(adjacency, held, n, b) < class_degree(class)) & (b != other)
 }
 
 // Document 01's b: the lowest vertex that can stand in for a; else the other named one.

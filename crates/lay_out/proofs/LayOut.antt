@@ -30,7 +30,7 @@ use Rattle.journal.proofs.Laid.{length-laid, table-laid, phase-laid, valid-laid
 use Rattle.journal.proofs.Table.{jdm-table}
 use Rattle.adjacency.proofs.Empty.{empty-ok}
 use Rattle.state.specs.Checks.{phaseVerdict}
-use Rattle.state.specs.Laid.{vertexCount, degreeAt}
+use Rattle.state.specs.Laid.{vertexCount, classAt}
 use Rattle.state.specs.Valid.{lengthsOk, valid}
 use Rattle.state.proofs.Checks.{phase-passed, phase-go}
 use Rattle.state.proofs.Facts.{valid-facts, lengths-journal, lengths-adjacency, lengths-both, valid-journal, facts-valid-1}
@@ -137,7 +137,7 @@ module _ (j g : List ℕ) where
           facts-valid-1 (laid j) g (phase-laid j (s .journal-length))
           (valid-laid j (s .journal-length) (journal-facts j (s .journal-ok) .phase-le) ∙ s .journal-ok)
           (subst (λ (t : DegreeTable). passes (t .cells) ≡ true) said (f .passed)) small
-          (empty-ok g (s .empty (f .taking)) (vertexCount (laid j)) (degreeAt (laid j)) (jdmOf (laid j)) (s .adjacency-length) small)
+          (empty-ok g (s .empty (f .taking)) (vertexCount (laid j)) (classAt (laid j)) (jdmOf (laid j)) (s .adjacency-length) small)
       go (Refused r) e = v
 
   -- the number of a refusal for want of a graph

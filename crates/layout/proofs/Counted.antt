@@ -12,31 +12,31 @@ use Rattle.finite.proofs.Fold.{fillTo-at, fillTo-length}
 use Rattle.finite.proofs.Sum.{sumTo-zero, sumTo-mono, sumTo-const}
 use Rattle.graph.specs.Graph.{DegreeTable}
 use Rattle.graph.specs.Numbering.{total}
-use Rattle.graph.specs.Tests.{leastDegree, degrees, rowSum, count, classCount, vertices}
+use Rattle.graph.specs.Tests.{leastClass, mostClasses, rowSum, count, classCount, vertices}
 use Rattle.graph.proofs.Counts.{count-at, vertices-total}
 use Rattle.table.specs.Inner.Cells.{matrixOf, AtMost, cellSumMost}
 use Rattle.layout.specs.Inner.Arrays.{countsOf, countIn, tableIn, Counts}
 use Rattle.table.proofs.Matrix.{matrix-most}
 
-pub countIn-below : (t : DegreeTable) (k : ℕ) → k < degrees → countIn (countsOf t) k ≡ classCount t k
-countIn-below t k l = fillTo-at (classCount t) (replicate degrees 0) degrees k (omega (arith, length-replicate {A = ℕ} degrees 0)) l
+pub countIn-below : (t : DegreeTable) (k : ℕ) → k < mostClasses → countIn (countsOf t) k ≡ classCount t k
+countIn-below t k l = fillTo-at (classCount t) (replicate mostClasses 0) mostClasses k (omega (arith, length-replicate {A = ℕ} mostClasses 0)) l
 
-countIn-above : (t : DegreeTable) (k : ℕ) → degrees ≤ k → countIn (countsOf t) k ≡ 0
+countIn-above : (t : DegreeTable) (k : ℕ) → mostClasses ≤ k → countIn (countsOf t) k ≡ 0
 countIn-above t k l =
     List·getD-eq-default (countsOf t) 0
-    (omega (arith, fillTo-length (classCount t) (replicate degrees 0) degrees, length-replicate {A = ℕ} degrees 0))
+    (omega (arith, fillTo-length (classCount t) (replicate mostClasses 0) mostClasses, length-replicate {A = ℕ} mostClasses 0))
 
-count-above : (c : List ℕ) (i k : ℕ) → degrees ≤ k → classCount (tableIn c i) k ≡ 0
+count-above : (c : List ℕ) (i k : ℕ) → mostClasses ≤ k → classCount (tableIn c i) k ≡ 0
 count-above c i k l =
     count-at (tableIn c i) k (omega arith)
-    ∙ ap (λ (s : ℕ). s / k) (sumTo-zero degrees (matrixOf c k) (λ i m. rw (le-ltb k degrees l)))
+    ∙ ap (λ (s : ℕ). s / k) (sumTo-zero mostClasses (matrixOf c k) (λ i m. rw (le-ltb k mostClasses l)))
     ∙ zero-div k
 
 -- the counts as the array has them
 pub counts-all : (c : List ℕ) (i : ℕ) → countIn (countsOf (tableIn c i)) ≡ classCount (tableIn c i)
-counts-all c i = fun-ext (λ k. go k (decLt k degrees))
+counts-all c i = fun-ext (λ k. go k (decLt k mostClasses))
   where
-    go : (k : ℕ) → Dec (k < degrees) → countIn (countsOf (tableIn c i)) k ≡ classCount (tableIn c i) k
+    go : (k : ℕ) → Dec (k < mostClasses) → countIn (countsOf (tableIn c i)) k ≡ classCount (tableIn c i) k
     go k (yes l) = countIn-below (tableIn c i) k l
     go k (no l) = countIn-above (tableIn c i) k (omega arith) ∙ sym (count-above c i k (omega arith))
 
@@ -51,21 +51,21 @@ module _ (c d : List ℕ) (h : Counts c d) where
   counted = ap countIn (h .same) ∙ counts-all c (countIn d 0)
 
   -- of a degree of the table it is D(k)
-  pub counted-degree : (k : ℕ) → leastDegree ≤ k → countIn d k ≡ count (matrixOf c) k
+  pub counted-degree : (k : ℕ) → leastClass ≤ k → countIn d k ≡ count (matrixOf c) k
   counted-degree k a = ap (λ (D : ℕ → ℕ). D k) counted ∙ count-at (tableIn c (countIn d 0)) k a
 
   -- and their sum is N
-  pub counted-total : total degrees (countIn d) ≡ vertices (tableIn c (countIn d 0))
-  counted-total = ap (λ (D : ℕ → ℕ). total degrees D) counted ∙ sym (vertices-total (tableIn c (countIn d 0)))
+  pub counted-total : total mostClasses (countIn d) ≡ vertices (tableIn c (countIn d 0))
+  counted-total = ap (λ (D : ℕ → ℕ). total mostClasses D) counted ∙ sym (vertices-total (tableIn c (countIn d 0)))
 
-rowSum-most : (m : ℕ) (c : List ℕ) → AtMost m c → (k : ℕ) → rowSum (matrixOf c) k ≤ degrees * m
+rowSum-most : (m : ℕ) (c : List ℕ) → AtMost m c → (k : ℕ) → rowSum (matrixOf c) k ≤ mostClasses * m
 rowSum-most m c h k =
-    omega (arith, sumTo-mono degrees (matrixOf c k) (λ l. m) (λ l i. matrix-most m c h k l), sumTo-const m degrees)
+    omega (arith, sumTo-mono mostClasses (matrixOf c k) (λ l. m) (λ l i. matrix-most m c h k l), sumTo-const m mostClasses)
 
-pub counts-most : (c d : List ℕ) → AtMost cellSumMost c → Counts c d → AtMost (degrees * cellSumMost) d
+pub counts-most : (c d : List ℕ) → AtMost cellSumMost c → Counts c d → AtMost (mostClasses * cellSumMost) d
 counts-most c d h s k = go (ℕ-discrete k 0)
   where
-    go : Dec (k ≡ 0) → countIn d k ≤ degrees * cellSumMost
+    go : Dec (k ≡ 0) → countIn d k ≤ mostClasses * cellSumMost
     go (yes e) = rw e (omega (arith, s .few))
     go (no n) =
         omega (

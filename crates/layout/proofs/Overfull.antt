@@ -12,7 +12,7 @@ use Rattle.finite.proofs.All.{allTo-at, allTo-holds, allTo-more}
 use Rattle.finite.proofs.Lowest.{lowest-before, lowest-none}
 use Rattle.graph.specs.Target.{cellMost}
 use Rattle.graph.proofs.Matrix.{cellMost-sym}
-use Rattle.graph.specs.Tests.{leastDegree, degrees, count, overfull, firstOverfullIn}
+use Rattle.graph.specs.Tests.{leastClass, mostClasses, count, overfull, firstOverfullIn}
 use Rattle.layout.specs.Inner.Arrays.{cellFits, rowFits}
 use Rattle.layout.proofs.Counted.{square-less}
 
@@ -24,7 +24,7 @@ module _ (T : ℕ → ℕ → ℕ) (k : ℕ) where
   fits-from l h = rw (le-ltb l k h)
 
   -- the diagonal cell, then one cell after the other, with the counts D as they are kept
-  module _ (D : ℕ → ℕ) (a : leastDegree ≤ k) (e : (j : ℕ) → leastDegree ≤ j → D j ≡ count T j) where
+  module _ (D : ℕ → ℕ) (a : leastClass ≤ k) (e : (j : ℕ) → leastClass ≤ j → D j ≡ count T j) where
     pub fits-first : allTo (k + 1) (cellFits T k) ≡ leb (T k k) (D k * D k - D k)
     fits-first =
         rw (e k a, allTo-more, allTo-holds (cellFits T k) k fits-below, fits-from k (omega arith), eq-eqb k k refl, square-less (count T k))
@@ -33,37 +33,37 @@ module _ (T : ℕ → ℕ → ℕ) (k : ℕ) where
     fits-next l h = rw (e k a, e l (omega arith), allTo-more, fits-from l (omega arith), ne-eqb k l (omega arith))
 
   -- a row that does not fit has an overfull cell
-  pub row-unfit : leastDegree ≤ k → rowFits T k ≡ false → ltb (firstOverfullIn T k) degrees ≡ true
-  row-unfit h e = go (ltb (firstOverfullIn T k) degrees) refl
+  pub row-unfit : leastClass ≤ k → rowFits T k ≡ false → ltb (firstOverfullIn T k) mostClasses ≡ true
+  row-unfit h e = go (ltb (firstOverfullIn T k) mostClasses) refl
     where
-      fits : ltb (firstOverfullIn T k) degrees ≡ false → (l : ℕ) → l < degrees → Dec (l < k) → cellFits T k l ≡ true
+      fits : ltb (firstOverfullIn T k) mostClasses ≡ false → (l : ℕ) → l < mostClasses → Dec (l < k) → cellFits T k l ≡ true
       fits n l m (yes p) = fits-below l p
       fits n l m (no p) =
-          let o = lowest-before leastDegree degrees (overfull T k) (omega arith) l (omega arith) (omega (arith, ltb-false (firstOverfullIn T k) degrees n)) in
+          let o = lowest-before leastClass mostClasses (overfull T k) (omega arith) l (omega arith) (omega (arith, ltb-false (firstOverfullIn T k) mostClasses n)) in
           fits-from l (omega arith) ∙ le-leb (T k l) (cellMost (count T) k l) (ltb-false (cellMost (count T) k l) (T k l) o)
 
-      go : (t : Bool) → ltb (firstOverfullIn T k) degrees ≡ t → t ≡ true
+      go : (t : Bool) → ltb (firstOverfullIn T k) mostClasses ≡ t → t ≡ true
       go true n = refl
-      go false n = sym e ∙ allTo-holds (cellFits T k) degrees (λ l m. fits n l m (decLt l k))
+      go false n = sym e ∙ allTo-holds (cellFits T k) mostClasses (λ l m. fits n l m (decLt l k))
 
   -- a row that fits, after rows without an overfull cell, has none
   pub row-passes : ((i j : ℕ) → T i j ≡ T j i) → rowFits T k ≡ true
-      → ((j l : ℕ) → leastDegree ≤ j → j < k → leastDegree ≤ l → l < degrees → overfull T j l ≡ false)
-      → k < degrees → (l : ℕ) → leastDegree ≤ l → l < degrees → overfull T k l ≡ false
+      → ((j l : ℕ) → leastClass ≤ j → j < k → leastClass ≤ l → l < mostClasses → overfull T j l ≡ false)
+      → k < mostClasses → (l : ℕ) → leastClass ≤ l → l < mostClasses → overfull T k l ≡ false
   row-passes same e f h l a b = go (decLt l k)
     where
       go : Dec (l < k) → overfull T k l ≡ false
       go (yes p) = ap₂ ltb (cellMost-sym (count T) k l) (same k l) ∙ f l k a p (omega arith) h
-      go (no p) = le-ltb (cellMost (count T) k l) (T k l) (leb-true (T k l) (cellMost (count T) k l) (sym (fits-from l (omega arith)) ∙ allTo-at (cellFits T k) degrees e l b))
+      go (no p) = le-ltb (cellMost (count T) k l) (T k l) (leb-true (T k l) (cellMost (count T) k l) (sym (fits-from l (omega arith)) ∙ allTo-at (cellFits T k) mostClasses e l b))
 
-  pub row-none : ((l : ℕ) → leastDegree ≤ l → l < degrees → overfull T k l ≡ false) → ltb (firstOverfullIn T k) degrees ≡ false
-  row-none f = let e = lowest-none leastDegree degrees (overfull T k) (omega arith) f in le-ltb (firstOverfullIn T k) degrees (omega arith)
+  pub row-none : ((l : ℕ) → leastClass ≤ l → l < mostClasses → overfull T k l ≡ false) → ltb (firstOverfullIn T k) mostClasses ≡ false
+  row-none f = let e = lowest-none leastClass mostClasses (overfull T k) (omega arith) f in le-ltb (firstOverfullIn T k) mostClasses (omega arith)
 
-  pub rows-passed : ((j l : ℕ) → leastDegree ≤ j → j < k → leastDegree ≤ l → l < degrees → overfull T j l ≡ false)
-      → ((l : ℕ) → leastDegree ≤ l → l < degrees → overfull T k l ≡ false)
-      → (j l : ℕ) → leastDegree ≤ j → j < k + 1 → leastDegree ≤ l → l < degrees → overfull T j l ≡ false
+  pub rows-passed : ((j l : ℕ) → leastClass ≤ j → j < k → leastClass ≤ l → l < mostClasses → overfull T j l ≡ false)
+      → ((l : ℕ) → leastClass ≤ l → l < mostClasses → overfull T k l ≡ false)
+      → (j l : ℕ) → leastClass ≤ j → j < k + 1 → leastClass ≤ l → l < mostClasses → overfull T j l ≡ false
   rows-passed f g j l a b = go (ℕ-discrete j k)
     where
-      go : Dec (j ≡ k) → leastDegree ≤ l → l < degrees → overfull T j l ≡ false
+      go : Dec (j ≡ k) → leastClass ≤ l → l < mostClasses → overfull T j l ≡ false
       go (yes e) = rw e (g l)
       go (no e) = f j l a (omega arith)

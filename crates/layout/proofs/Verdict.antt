@@ -9,7 +9,7 @@ use lib.Dec.{eqb, leb}
 use borrow.Author.Tests.{leb-true, le-leb}
 use Rattle.finite.proofs.All.{and-left, and-right, and-both}
 use Rattle.graph.specs.Graph.{DegreeTable}
-use Rattle.graph.specs.Tests.{degrees, firstOdd, firstUneven, firstOverfull, firstOverfullIn, passes, vertices}
+use Rattle.graph.specs.Tests.{mostClasses, firstOdd, firstUneven, firstOverfull, firstOverfullIn, passes, vertices}
 use Rattle.answer.specs.Numbers.{numberOf}
 use Rattle.answer.specs.Refusals.{refusal, stop, unless}
 use Rattle.answer.specs.declared.Cause.the-variants.{OddDiagonal, RowNotDivisible, CellTooLarge, TooManyVertices}
@@ -36,20 +36,20 @@ module _ (t : DegreeTable) where
 
   pub layout-go : layoutVerdict t ≡ Go → (passes T ≡ true) × (vertices t ≤ mostVertices)
   layout-go e =
-      let x = unless-go (eqb (firstOdd T) degrees) _ _ e in
-      let y = unless-go (eqb (firstUneven T) degrees) _ _ (x .1) in
-      let z = unless-go (eqb (firstOverfull T) degrees) _ _ (y .1) in
+      let x = unless-go (eqb (firstOdd T) mostClasses) _ _ e in
+      let y = unless-go (eqb (firstUneven T) mostClasses) _ _ (x .1) in
+      let z = unless-go (eqb (firstOverfull T) mostClasses) _ _ (y .1) in
       let n = unless-go (leb (vertices t) mostVertices) _ _ (z .1) in
       (and-both _ _ (and-both _ _ (x .0) (y .0)) (z .0), leb-true _ _ (n .0))
 
   -- where T passes, only the number of vertices is left to test
   layout-passes : passes T ≡ true → layoutVerdict t ≡ unless (leb (vertices t) mostVertices) (stop TooManyVertices) Go
   layout-passes e =
-      let d = and-left (eqb (firstOdd T) degrees && eqb (firstUneven T) degrees) (eqb (firstOverfull T) degrees) e in
+      let d = and-left (eqb (firstOdd T) mostClasses && eqb (firstUneven T) mostClasses) (eqb (firstOverfull T) mostClasses) e in
       rw (
-        and-left (eqb (firstOdd T) degrees) (eqb (firstUneven T) degrees) d,
-        and-right (eqb (firstOdd T) degrees) (eqb (firstUneven T) degrees) d,
-        and-right (eqb (firstOdd T) degrees && eqb (firstUneven T) degrees) (eqb (firstOverfull T) degrees) e,
+        and-left (eqb (firstOdd T) mostClasses) (eqb (firstUneven T) mostClasses) d,
+        and-right (eqb (firstOdd T) mostClasses) (eqb (firstUneven T) mostClasses) d,
+        and-right (eqb (firstOdd T) mostClasses && eqb (firstUneven T) mostClasses) (eqb (firstOverfull T) mostClasses) e,
       )
 
   pub go-layout : passes T ≡ true → vertices t ≤ mostVertices → layoutVerdict t ≡ Go
@@ -65,7 +65,7 @@ module _ (t : DegreeTable) where
 
   pub layout-refused : passes T ≡ false → (r : Refusal) × (layoutVerdict t ≡ Stop r) × IsTest r
   layout-refused e =
-      failed (eqb (firstOdd T) degrees) (eqb (firstUneven T) degrees) (eqb (firstOverfull T) degrees)
+      failed (eqb (firstOdd T) mostClasses) (eqb (firstUneven T) mostClasses) (eqb (firstOverfull T) mostClasses)
       (refusal OddDiagonal (firstOdd T) (firstOdd T)) (refusal RowNotDivisible (firstUneven T) 0)
       (refusal CellTooLarge (firstOverfull T) (firstOverfullIn T (firstOverfull T)))
       (unless (leb (vertices t) mostVertices) (stop TooManyVertices) Go)

@@ -4,7 +4,7 @@ use Prim.Native.Nat.{ℕ, _/_}
 use lib.Dec.{eqb, leb}
 use Rattle.finite.specs.Range.{sumTo}
 use Rattle.graph.specs.Graph.{DegreeTable}
-use Rattle.graph.specs.Tests.{degrees, rowSum, vertices, firstOdd, firstUneven, firstOverfull, firstOverfullIn}
+use Rattle.graph.specs.Tests.{mostClasses, rowSum, vertices, firstOdd, firstUneven, firstOverfull, firstOverfullIn}
 use Rattle.answer.specs.Refusals.{refusal, stop, unless}
 use Rattle.answer.specs.declared.Cause.the-variants.{OddDiagonal, RowNotDivisible, CellTooLarge, TooManyVertices}
 use Rattle.answer.specs.declared.Verdict.{Verdict}
@@ -16,13 +16,13 @@ mostVertices = 200
 
 -- edges wanted: half the sum of all cells, (k, l) and (l, k) both counted
 abbrev pub wanted : (ℕ → ℕ → ℕ) → ℕ
-wanted T = sumTo degrees (rowSum T) / 2
+wanted T = sumTo mostClasses (rowSum T) / 2
 
 -- The tests 9 to 12, each over all cells before the next begins, with the places of the first failure. Only 12 sees the isolated vertices.
 abbrev pub layoutVerdict : DegreeTable → Verdict
 layoutVerdict t =
     let T = t .cells in
-    unless (eqb (firstOdd T) degrees) (Stop (refusal OddDiagonal (firstOdd T) (firstOdd T)))
-    (unless (eqb (firstUneven T) degrees) (Stop (refusal RowNotDivisible (firstUneven T) 0))
-    (unless (eqb (firstOverfull T) degrees) (Stop (refusal CellTooLarge (firstOverfull T) (firstOverfullIn T (firstOverfull T))))
+    unless (eqb (firstOdd T) mostClasses) (Stop (refusal OddDiagonal (firstOdd T) (firstOdd T)))
+    (unless (eqb (firstUneven T) mostClasses) (Stop (refusal RowNotDivisible (firstUneven T) 0))
+    (unless (eqb (firstOverfull T) mostClasses) (Stop (refusal CellTooLarge (firstOverfull T) (firstOverfullIn T (firstOverfull T))))
     (unless (leb (vertices t) mostVertices) (stop TooManyVertices) Go)))

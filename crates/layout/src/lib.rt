@@ -1,9 +1,9 @@
-// Document 01's tests 9 to 12 on a matrix, D(k), N, and the degree of each vertex.
+// Document 01's tests 9 to 12 on a matrix, D(k), N, and the class of each vertex.
 ghost use mathlib.Core.Path.{_≡_};
 ghost use Prim.Native.Nat.{_*_, _≤_, _<_};
 ghost use Rattle.graph.specs.Numbering.{total, classOf};
 ghost use Rattle.graph.specs.Target.{cellMost};
-ghost use Rattle.graph.specs.Tests.{degrees, rowSum, odd, uneven, overfull, firstOdd, firstUneven, firstOverfull, firstOverfullIn, vertices};
+ghost use Rattle.graph.specs.Tests.{mostClasses, rowSum, odd, uneven, overfull, firstOdd, firstUneven, firstOverfull, firstOverfullIn, vertices};
 ghost use Rattle.table.specs.Inner.Cells.{matrixOf, AtMost, cellSumMost};
 ghost use Rattle.layout.specs.Inner.Arrays.{countIn, rowFits, Reaches, tableIn, Counts, classesOf};
 ghost use Rattle.layout.specs.Layout.{wanted, layoutVerdict, mostVertices};
@@ -14,12 +14,14 @@ use answer::stopped;
 use table::cells::CELLS;
 use table::cells::cell;
 use table::cells::upper_cell;
-use table::degree::DEGREES;
+use table::class::LEAST_CLASS;
+use table::class::MAX_CLASSES;
+use table::class::class_degree;
 
 pub const MAX_VERTICES: usize = 200;
 
 fn is_odd(cells: &[u32; CELLS], k: usize) -> bool
-    requires { ⌜ k < degrees ⌝ }
+    requires { ⌜ k < mostClasses ⌝ }
     ensures { λ r. ⌜ r ≡ odd (matrixOf (now (cells .entry))) k ⌝ }
 {
     cell(cells, k, k) % 2 != 0
@@ -28,8 +30,8 @@ fn is_odd(cells: &[u32; CELLS], k: usize) -> bool
 fn first_odd(cells: &[u32; CELLS]) -> usize
     ensures { λ r. ⌜ r ≡ firstOdd (matrixOf (now (cells .entry))) ⌝ }
 {
-    let mut k = 1;
-    while k < DEGREES {
+    let mut k = LEAST_CLASS;
+    while k < MAX_CLASSES {
         if is_odd(cells, k) {
             return k;
         }
@@ -40,32 +42,32 @@ fn first_odd(cells: &[u32; CELLS]) -> usize
 
 // S(k)
 fn row_sum(cells: &[u32; CELLS], k: usize) -> usize
-    requires { ⌜ (k < degrees) × AtMost cellSumMost (now cells) ⌝ }
-    ensures { λ r. ⌜ (r ≡ rowSum (matrixOf (now (cells .entry))) k) × (r ≤ degrees * cellSumMost) ⌝ }
+    requires { ⌜ (k < mostClasses) × AtMost cellSumMost (now cells) ⌝ }
+    ensures { λ r. ⌜ (r ≡ rowSum (matrixOf (now (cells .entry))) k) × (r ≤ mostClasses * cellSumMost) ⌝ }
 {
     let mut sum = 0;
     for l in 0..k {
         sum += upper_cell(cells, l, k);
     }
-    for l in k..DEGREES {
+    for l in k..MAX_CLASSES {
         sum += upper_cell(cells, k, l);
     }
     sum
 }
 
 fn is_uneven(cells: &[u32; CELLS], k: usize) -> bool
-    requires { ⌜ (0 < k) × (k < degrees) × AtMost cellSumMost (now cells) ⌝ }
+    requires { ⌜ (0 < k) × (k < mostClasses) × AtMost cellSumMost (now cells) ⌝ }
     ensures { λ r. ⌜ r ≡ uneven (matrixOf (now (cells .entry))) k ⌝ }
 {
-    row_sum(cells, k) % k != 0
+    row_sum(cells, k) % class_degree(k) != 0
 }
 
 fn first_uneven(cells: &[u32; CELLS]) -> usize
     requires { ⌜ AtMost cellSumMost (now cells) ⌝ }
     ensures { λ r. ⌜ r ≡ firstUneven (matrixOf (now (cells .entry))) ⌝ }
 {
-    let mut k = 1;
-    while k < DEGREES {
+    let mut k = LEAST_CLASS;
+    while k < MAX_CLASSES {
         if is_uneven(cells, k) {
             return k;
         }
@@ -74,22 +76,22 @@ fn first_uneven(cells: &[u32; CELLS]) -> usize
     k
 }
 
-// How many vertices each degree has: D(k), and of degree 0 the isolated ones.
-pub fn counts(cells: &[u32; CELLS], isolated: usize) -> [usize; DEGREES]
+// How many vertices each class has: D(k), and of class 0 the isolated ones.
+pub fn counts(cells: &[u32; CELLS], isolated: usize) -> [usize; MAX_CLASSES]
     requires { ⌜ AtMost cellSumMost (now cells) × (isolated ≤ cellSumMost) ⌝ }
     ensures { λ r. ⌜ Counts (now (cells .entry)) r × (countIn r 0 ≡ isolated) ⌝ }
 {
-    let mut t = [0usize; DEGREES];
+    let mut t = [0usize; MAX_CLASSES];
     t[0] = isolated;
-    for k in 1..DEGREES {
-        t[k] = row_sum(cells, k) / k;
+    for k in LEAST_CLASS..MAX_CLASSES {
+        t[k] = row_sum(cells, k) / class_degree(k);
     }
     t
 }
 
 // The most that cell (k, l) can hold: D(k) × D(l), on the diagonal D(k) × (D(k) - 1).
-fn cell_most(counts: &[usize; DEGREES], k: usize, l: usize) -> usize
-    requires { ⌜ (k < degrees) × (l < degrees) × AtMost (degrees * cellSumMost) (now counts) ⌝ }
+fn cell_most(counts: &[usize; MAX_CLASSES], k: usize, l: usize) -> usize
+    requires { ⌜ (k < mostClasses) × (l < mostClasses) × AtMost (mostClasses * cellSumMost) (now counts) ⌝ }
     ensures { λ r. ⌜ r ≡ cellMost (countIn (now (counts .entry))) k l ⌝ }
 {
     let d = counts[k];
@@ -100,19 +102,19 @@ fn cell_most(counts: &[usize; DEGREES], k: usize, l: usize) -> usize
 }
 
 // Cell (k, l) is above its most.
-fn is_overfull(cells: &[u32; CELLS], counts: &[usize; DEGREES], k: usize, l: usize) -> bool
-    requires { ⌜ (0 < k) × (k < degrees) × (0 < l) × (l < degrees) × AtMost cellSumMost (now cells) × Counts (now cells) (now counts) ⌝ }
+fn is_overfull(cells: &[u32; CELLS], counts: &[usize; MAX_CLASSES], k: usize, l: usize) -> bool
+    requires { ⌜ (0 < k) × (k < mostClasses) × (0 < l) × (l < mostClasses) × AtMost cellSumMost (now cells) × Counts (now cells) (now counts) ⌝ }
     ensures { λ r. ⌜ r ≡ overfull (matrixOf (now (cells .entry))) k l ⌝ }
 {
     cell_most(counts, k, l) < cell(cells, k, l)
 }
 
-fn first_overfull_in(cells: &[u32; CELLS], counts: &[usize; DEGREES], k: usize) -> usize
-    requires { ⌜ (0 < k) × (k < degrees) × AtMost cellSumMost (now cells) × Counts (now cells) (now counts) ⌝ }
+fn first_overfull_in(cells: &[u32; CELLS], counts: &[usize; MAX_CLASSES], k: usize) -> usize
+    requires { ⌜ (0 < k) × (k < mostClasses) × AtMost cellSumMost (now cells) × Counts (now cells) (now counts) ⌝ }
     ensures { λ r. ⌜ r ≡ firstOverfullIn (matrixOf (now (cells .entry))) k ⌝ }
 {
-    let mut l = 1;
-    while l < DEGREES {
+    let mut l = LEAST_CLASS;
+    while l < MAX_CLASSES {
         if is_overfull(cells, counts, k, l) {
             return l;
         }
@@ -122,25 +124,25 @@ fn first_overfull_in(cells: &[u32; CELLS], counts: &[usize; DEGREES], k: usize) 
 }
 
 // No cell of row k from the diagonal on is above its most. A flag and no early exit: most tables pass.
-fn row_fits(cells: &[u32; CELLS], counts: &[usize; DEGREES], k: usize) -> bool
-    requires { ⌜ (0 < k) × (k < degrees) × AtMost cellSumMost (now cells) × Counts (now cells) (now counts) ⌝ }
+fn row_fits(cells: &[u32; CELLS], counts: &[usize; MAX_CLASSES], k: usize) -> bool
+    requires { ⌜ (0 < k) × (k < mostClasses) × AtMost cellSumMost (now cells) × Counts (now cells) (now counts) ⌝ }
     ensures { λ r. ⌜ r ≡ rowFits (matrixOf (now (cells .entry))) k ⌝ }
 {
     let d = counts[k];
     let mut ok = upper_cell(cells, k, k) <= d * d - d;
-    for l in k + 1..DEGREES {
+    for l in k + 1..MAX_CLASSES {
         ok = ok & (upper_cell(cells, k, l) <= d * counts[l]);
     }
     ok
 }
 
 // The cells before the diagonal stand in rows that have passed.
-fn first_overfull(cells: &[u32; CELLS], counts: &[usize; DEGREES]) -> usize
+fn first_overfull(cells: &[u32; CELLS], counts: &[usize; MAX_CLASSES]) -> usize
     requires { ⌜ AtMost cellSumMost (now cells) × Counts (now cells) (now counts) ⌝ }
     ensures { λ r. ⌜ r ≡ firstOverfull (matrixOf (now (cells .entry))) ⌝ }
 {
-    let mut k = 1;
-    while k < DEGREES {
+    let mut k = LEAST_CLASS;
+    while k < MAX_CLASSES {
         if !row_fits(cells, counts, k) {
             return k;
         }
@@ -150,12 +152,12 @@ fn first_overfull(cells: &[u32; CELLS], counts: &[usize; DEGREES]) -> usize
 }
 
 // N
-pub fn vertex_count(cells: &[u32; CELLS], counts: &[usize; DEGREES]) -> usize
+pub fn vertex_count(cells: &[u32; CELLS], counts: &[usize; MAX_CLASSES]) -> usize
     requires { ⌜ AtMost cellSumMost (now cells) × Counts (now cells) (now counts) ⌝ }
     ensures { λ r. ⌜ r ≡ vertices (tableIn (now (cells .entry)) (countIn (now (counts .entry)) 0)) ⌝ }
 {
     let mut n = 0;
-    for k in 0..DEGREES {
+    for k in 0..MAX_CLASSES {
         n += counts[k];
     }
     n
@@ -168,9 +170,9 @@ struct Run {
 }
 
 // The class of vertex v, from that of an earlier vertex.
-fn run_at(counts: &[usize; DEGREES], v: usize, run: Run) -> Run
-    requires { ⌜ (let D = countIn (now counts) in Reaches D (run .class) (run .end) v × (v < total degrees D) × (total degrees D ≤ mostVertices)) ⌝ }
-    ensures { λ r. ⌜ (let D = countIn (now (counts .entry)) in Reaches D (r .class) (r .end) v × (r .class ≡ classOf degrees D v)) ⌝ }
+fn run_at(counts: &[usize; MAX_CLASSES], v: usize, run: Run) -> Run
+    requires { ⌜ (let D = countIn (now counts) in Reaches D (run .class) (run .end) v × (v < total mostClasses D) × (total mostClasses D ≤ mostVertices)) ⌝ }
+    ensures { λ r. ⌜ (let D = countIn (now (counts .entry)) in Reaches D (r .class) (r .end) v × (r .class ≡ classOf mostClasses D v)) ⌝ }
 {
     let mut class = run.class;
     let mut end = run.end;
@@ -181,8 +183,8 @@ fn run_at(counts: &[usize; DEGREES], v: usize, run: Run) -> Run
     Run { class, end }
 }
 
-// The degree of each vertex, with zeros behind the last.
-pub fn classes(cells: &[u32; CELLS], counts: &[usize; DEGREES]) -> [u8; MAX_VERTICES]
+// The class of each vertex, with zeros behind the last.
+pub fn classes(cells: &[u32; CELLS], counts: &[usize; MAX_CLASSES]) -> [u8; MAX_VERTICES]
     requires { ⌜ AtMost cellSumMost (now cells) × Counts (now cells) (now counts) × (vertices (tableIn (now cells) (countIn (now counts) 0)) ≤ mostVertices) ⌝ }
     ensures { λ r. ⌜ r ≡ classesOf (tableIn (now (cells .entry)) (countIn (now (counts .entry)) 0)) ⌝ }
 {
@@ -205,27 +207,27 @@ pub fn edges_wanted(cells: &[u32; CELLS]) -> usize
     ensures { λ r. ⌜ r ≡ wanted (matrixOf (now (cells .entry))) ⌝ }
 {
     let mut sum = 0;
-    for k in 0..DEGREES {
+    for k in 0..MAX_CLASSES {
         sum += row_sum(cells, k);
     }
     sum / 2
 }
 
 // The tests 9 to 12, each over all cells before the next begins.
-pub fn layout_check(cells: &[u32; CELLS], counts: &[usize; DEGREES]) -> Verdict
+pub fn layout_check(cells: &[u32; CELLS], counts: &[usize; MAX_CLASSES]) -> Verdict
     requires { ⌜ AtMost cellSumMost (now cells) × Counts (now cells) (now counts) ⌝ }
     ensures { λ r. ⌜ r ≡ layoutVerdict (tableIn (now (cells .entry)) (countIn (now (counts .entry)) 0)) ⌝ }
 {
     let odd = first_odd(cells);
-    if odd != DEGREES {
+    if odd != MAX_CLASSES {
         return Verdict::Stop(refuse(Cause::OddDiagonal, odd, odd));
     }
     let uneven = first_uneven(cells);
-    if uneven != DEGREES {
+    if uneven != MAX_CLASSES {
         return Verdict::Stop(refuse(Cause::RowNotDivisible, uneven, 0));
     }
     let k = first_overfull(cells, counts);
-    if k != DEGREES {
+    if k != MAX_CLASSES {
         let l = first_overfull_in(cells, counts, k);
         return Verdict::Stop(refuse(Cause::CellTooLarge, k, l));
     }

@@ -13,7 +13,7 @@ use borrow.Author.Tests.{eq-eqb, ne-eqb}
 use Rattle.finite.specs.Range.{bit, sumTo}
 use Rattle.finite.proofs.Delta.{bit-le}
 use Rattle.finite.proofs.Sum.{sumTo-none, sumTo-more, sumTo-cong, sumTo-mono, sumTo-const, sumTo-split}
-use Rattle.graph.specs.Tests.{degrees}
+use Rattle.graph.specs.Tests.{mostClasses}
 use Rattle.adjacency.specs.Adjacency.{side, edge}
 use Rattle.slices.proofs.PartSum.{part-length, part-at}
 use Rattle.open_pairs.specs.Inner.Rows.{isFree, freeTo, Scannable}
@@ -59,7 +59,7 @@ module _ (g full : List ℕ) (k v : ℕ) where
       omega (arith, sumTo-mono n f (λ i. 1) (λ i l. bit-le (isFree g full k v (v + 1 + i))), sumTo-const 1 n)
 
   -- the bytes of the columns from, .., from + n - 1: those of row v, and the flags of class k
-  module _ {m : ℕ} (s : Scannable m g full) (kd : k < degrees) (vm : v < m) (from n : ℕ) (h : from + n ≤ m) where
+  module _ {m : ℕ} (s : Scannable m g full) (kd : k < mostClasses) (vm : v < m) (from n : ℕ) (h : from + n ≤ m) where
     abbrev bytes : List ℕ
     bytes = take n (drop (v * side + from) g)
 

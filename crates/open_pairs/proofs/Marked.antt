@@ -8,7 +8,7 @@ use native.Mathlib.Omega.{arith}
 use lib.ListN.{length, getD, set, length-set}
 use lib.Seq.{getD-set-same, getD-set-other}
 use Rattle.finite.proofs.Fold.{foldTo-keeps}
-use Rattle.graph.specs.Tests.{degrees}
+use Rattle.graph.specs.Tests.{mostClasses}
 use Rattle.adjacency.specs.Adjacency.{side}
 use Rattle.open_pairs.specs.Inner.Rows.{flagsSize}
 use Rattle.open_pairs.specs.Inner.Refresh.{markFull}
@@ -20,7 +20,7 @@ record Marked (k : ℕ) (full : List ℕ) (from to : ℕ) (x : List ℕ) : Type 
   pub outside : (j w : ℕ) → w < side → (j ≡ k → from ≤ w → w < to → ⊥) → getD x (j * side + w) 0 ≡ getD full (j * side + w) 0
   pub binary : ((p : ℕ) → getD full p 0 ≤ 1) → (p : ℕ) → getD x p 0 ≤ 1
 
-module _ (k from to : ℕ) (full : List ℕ) (sized : length full ≡ flagsSize) (kd : k < degrees) (few : to ≤ side) where
+module _ (k from to : ℕ) (full : List ℕ) (sized : length full ≡ flagsSize) (kd : k < mostClasses) (few : to ≤ side) where
   marked-next : (i : ℕ) (x : List ℕ) → i < to - from → Marked k full from (from + i) x → Marked k full from (from + (i + 1)) (set x (k * side + (from + i)) 1)
   marked-next i x h m =
       record {

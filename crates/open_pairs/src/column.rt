@@ -5,7 +5,7 @@ ghost use Prim.Native.Nat.{ℕ, _+_, _≤_, _<_, max};
 ghost use lib.Dec.{eqb};
 ghost use lib.ListN.{length, getD};
 ghost use Rattle.finite.specs.Range.{bit, sumTo};
-ghost use Rattle.graph.specs.Tests.{degrees};
+ghost use Rattle.graph.specs.Tests.{mostClasses};
 ghost use Rattle.adjacency.specs.Adjacency.{side};
 ghost use Rattle.open_pairs.specs.Inner.Rows.{isFree, freeTo, Scannable};
 use adjacency::SIDE;
@@ -51,7 +51,7 @@ fn free_between(
     from: usize,
     to: usize,
 ) -> usize
-    requires { ⌜ Scannable n (now adjacency) (now full) × (k < degrees) × (v < n) × (v < from) × (from ≤ to) × (to ≤ n) ⌝ }
+    requires { ⌜ Scannable n (now adjacency) (now full) × (k < mostClasses) × (v < n) × (v < from) × (from ≤ to) × (to ≤ n) ⌝ }
     ensures { λ r. ⌜ freeTo (now (adjacency .entry)) (now (full .entry)) k v from + r ≡ freeTo (now (adjacency .entry)) (now (full .entry)) k v to ⌝ }
 {
     let x = v * SIDE;
@@ -61,14 +61,14 @@ fn free_between(
 
 // How many open pairs row v has.
 pub fn row_open(adjacency: &[u8], full: &[u8], n: usize, k: usize, v: usize) -> usize
-    requires { ⌜ Scannable n (now adjacency) (now full) × (k < degrees) × (v < n) ⌝ }
+    requires { ⌜ Scannable n (now adjacency) (now full) × (k < mostClasses) × (v < n) ⌝ }
     ensures { λ r. ⌜ (r ≡ freeTo (now (adjacency .entry)) (now (full .entry)) k v n) × (r ≤ side) ⌝ }
 {
     free_between(adjacency, full, n, k, v, v + 1, n)
 }
 
 fn is_free(adjacency: &[u8], full: &[u8], k: usize, v: usize, w: usize) -> bool
-    requires { ⌜ (v < side) × (w < side) × (k < degrees) × ((n : ℕ) × Scannable n (now adjacency) (now full)) ⌝ }
+    requires { ⌜ (v < side) × (w < side) × (k < mostClasses) × ((n : ℕ) × Scannable n (now adjacency) (now full)) ⌝ }
     ensures { λ r. ⌜ r ≡ isFree (now (adjacency .entry)) (now (full .entry)) k v w ⌝ }
 {
     (adjacency[v * SIDE + w] == 0) & (full[k * SIDE + w] == 0)
@@ -83,7 +83,7 @@ fn skip_columns(
     v: usize,
     position: usize,
 ) -> Column
-    requires { ⌜ Scannable n (now adjacency) (now full) × (k < degrees) × (v < n) ⌝ }
+    requires { ⌜ Scannable n (now adjacency) (now full) × (k < mostClasses) × (v < n) ⌝ }
     ensures { λ r. ⌜ (v < r .w) × (r .w ≤ n) × (freeTo (now (adjacency .entry)) (now (full .entry)) k v (r .w) + r .rest ≡ position) ⌝ }
 {
     let mut w = v + 1;
@@ -108,7 +108,7 @@ pub fn column_at(
     v: usize,
     position: usize,
 ) -> usize
-    requires { ⌜ Scannable n (now adjacency) (now full) × (k < degrees) × (v < n) × (position < freeTo (now adjacency) (now full) k v n) ⌝ }
+    requires { ⌜ Scannable n (now adjacency) (now full) × (k < mostClasses) × (v < n) × (position < freeTo (now adjacency) (now full) k v n) ⌝ }
     ensures { λ r. ⌜ (v < r) × (r < n) × (isFree (now (adjacency .entry)) (now (full .entry)) k v r ≡ true) × (freeTo (now (adjacency .entry)) (now (full .entry)) k v r ≡ position) ⌝ }
 {
     let from = skip_columns(adjacency, full, n, k, v, position);

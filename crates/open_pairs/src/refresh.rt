@@ -3,7 +3,7 @@ ghost use mathlib.Core.Path.{_≡_};
 ghost use Prim.Native.Nat.{_≤_, _<_};
 ghost use lib.ListN.{length};
 ghost use Rattle.answer.specs.Inner.Moved.{SwitchBelow};
-ghost use Rattle.graph.specs.Tests.{degrees};
+ghost use Rattle.graph.specs.Tests.{mostClasses};
 ghost use Rattle.adjacency.specs.Adjacency.{side};
 ghost use Rattle.open_pairs.specs.Inner.Rows.{flagsSize, Scannable, Summed};
 ghost use Rattle.open_pairs.specs.Inner.Refresh.{refreshRow, refreshRange, refreshSwitch, refreshSwitches, markFull, Classed, Within};
@@ -99,7 +99,7 @@ pub fn refresh_switches(
 
 // The cell of class k and the class of the vertices from, .., to - 1 is full.
 pub fn mark_full(full: &mut [u8], k: usize, from: usize, to: usize)
-    requires { ⌜ (length (now full) ≡ flagsSize) × (k < degrees) × (from ≤ to) × (to ≤ side) ⌝ }
+    requires { ⌜ (length (now full) ≡ flagsSize) × (k < mostClasses) × (from ≤ to) × (to ≤ side) ⌝ }
     ensures { λ _. ⌜ now (full .exit) ≡ markFull k from to (now (full .entry)) ⌝ }
 {
     for w in from..to {

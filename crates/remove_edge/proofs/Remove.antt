@@ -15,7 +15,7 @@ use Rattle.answer.specs.declared.RemoveAnswer.the-variants.{Removed, Refused}
 use Rattle.answer.proofs.Checks.{unless-passed, unless-stopped-passed}
 use Rattle.graph.specs.Graph.{Simple, AddsEdge}
 use Rattle.graph.specs.Target.{Partial}
-use Rattle.graph.specs.Tests.{degrees}
+use Rattle.graph.specs.Tests.{mostClasses, classDegree}
 use Rattle.graph.specs.Theorems.{Updated}
 use Rattle.graph.proofs.Update.{removing-updates}
 use Rattle.journal.specs.Journal.{phase, jdmOf}
@@ -24,7 +24,7 @@ use Rattle.adjacency.proofs.Facts.{ZeroOutside}
 use Rattle.adjacency.proofs.Set.{set-length, set-removes, set-outside}
 use Rattle.state.specs.Checks.{phaseVerdict}
 use Rattle.state.specs.Valid.{lengthsOk, valid}
-use Rattle.state.specs.Laid.{vertexCount, degreeAt}
+use Rattle.state.specs.Laid.{vertexCount, classAt}
 use Rattle.state.proofs.Facts.{edgeTotal, StateFacts, Laid, valid-facts, lengths-both}
 use Rattle.state.proofs.Checks.{phase-passed, phase-go}
 use Rattle.state.proofs.Graph.{laid-valid}
@@ -100,7 +100,7 @@ module _ (j g : List ℕ) (v w : ℕ) where
       laid : Laid j g
       laid = facts .laid (f .phased)
 
-      before : Partial (vertexCount j) degrees (degreeAt j) (λ k. k) (jdmOf j) (edge g)
+      before : Partial (vertexCount j) mostClasses (classAt j) classDegree (jdmOf j) (edge g)
       before = laid .partial
 
       g′ : List ℕ
@@ -117,10 +117,10 @@ module _ (j g : List ℕ) (v w : ℕ) where
           set-removes (vertexCount j) g v w (facts .adjacency-length) (omega (arith, f .first, few)) (omega (arith, f .second, few)) few (f .distinct) (f .linked)
           (before .simple .symmetric w v (f .second) (f .first) ∙ f .linked)
 
-      u : Simple (vertexCount j) (edge g′) × (edge g′ v w ≡ 0) × Updated (vertexCount j) (degreeAt j) (edge g′) v w (edge g)
-      u = removing-updates (vertexCount j) (degreeAt j) (edge g′) (edge g) v w (f .first) (f .second) (f .distinct) removes (before .simple)
+      u : Simple (vertexCount j) (edge g′) × (edge g′ v w ≡ 0) × Updated (vertexCount j) (classAt j) (edge g′) v w (edge g)
+      u = removing-updates (vertexCount j) (classAt j) (edge g′) (edge g) v w (f .first) (f .second) (f .distinct) removes (before .simple)
 
-      partial : Partial (vertexCount j) degrees (degreeAt j) (λ k. k) (jdmOf j) (edge g′)
+      partial : Partial (vertexCount j) mostClasses (classAt j) classDegree (jdmOf j) (edge g′)
       partial =
           record {
             simple = u .0;

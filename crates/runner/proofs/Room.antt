@@ -21,7 +21,7 @@ use Rattle.answer.specs.declared.Finish.{Finish}
 use Rattle.slices.proofs.Part.{take-sets}
 use Rattle.journal.specs.Journal.{phase, jdmOf}
 use Rattle.state.specs.Valid.{lengthsOk, valid}
-use Rattle.state.specs.Laid.{vertexCount, degreeAt}
+use Rattle.state.specs.Laid.{vertexCount, classAt}
 use Rattle.state.proofs.Facts.{edgeTotal, StateFacts, Laid, valid-facts}
 use Rattle.state.proofs.Checks.{phase-go}
 use Rattle.graph.specs.Tests.{vertices}
@@ -72,7 +72,7 @@ module _ (j g : List ℕ) (lengths : lengthsOk j g ≡ true) (sound : valid j g 
 
   edges-most : edgeTotal j g ≤ mostEdges
   edges-most =
-      room (vertexCount j) (degreeAt j) (jdmOf j) mostEdges (few-edges (vertexCount j) (degreeAt j) (jdmOf j) (laid .target) (laid .vertices-le)) g
+      room (vertexCount j) (classAt j) (jdmOf j) mostEdges (few-edges (vertexCount j) (classAt j) (jdmOf j) (laid .target) (laid .vertices-le)) g
       (record { sized = facts .adjacency-length; few = laid .vertices-le; target = laid .target; partial = laid .partial })
 
   list-twice : length (listBytes (vertexCount j) g) ≡ 2 * edgeTotal j g

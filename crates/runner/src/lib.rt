@@ -30,16 +30,16 @@ use answer::ShuffleAnswer;
 use answer::TakeAnswer;
 use answer::Verdict;
 use answer::WrittenAnswer;
+use complete_shuffled::complete_shuffled;
 use join_records::JOIN_RECORD_BYTES;
 use journal::JOURNAL_BYTES;
 use journal::MAX_BLOCKS;
 use layout::MAX_VERTICES;
 use libc::STDOUT_FILENO;
 use options::Form;
-use complete_shuffled::complete_shuffled;
 use slices::least;
 use slices::put;
-use table::degree::DEGREES;
+use table::degree::MAX_DEGREE;
 use table::record::MAX_BLOCK_BYTES;
 use text::MAX_EDGE_BYTES;
 use text::MAX_HEAD_BYTES;
@@ -51,7 +51,7 @@ use text::put_refused;
 pub const MAX_INPUT_BYTES: usize = MAX_BLOCK_BYTES * (MAX_BLOCKS + 1);
 
 // The most bytes of an edge list: 2 for each edge, and each edge has two ends.
-const MAX_LIST_BYTES: usize = MAX_VERTICES * (DEGREES - 1);
+const MAX_LIST_BYTES: usize = MAX_VERTICES * MAX_DEGREE;
 
 // The most bytes of the records of completing: one for each edge.
 const MAX_JOIN_RECORDS_BYTES: usize = JOIN_RECORD_BYTES * (MAX_LIST_BYTES / 2);

@@ -10,7 +10,7 @@ use borrow.Author.Tests.{eqb-true, eq-eqb, leb-true, le-leb}
 use Rattle.finite.proofs.All.{and-left, and-right, and-both}
 use Rattle.graph.specs.Graph.{edges}
 use Rattle.graph.specs.Target.{Target, Partial}
-use Rattle.graph.specs.Tests.{degrees, passes}
+use Rattle.graph.specs.Tests.{mostClasses, passes, classDegree}
 use Rattle.graph.proofs.Passes.{passes-passed}
 use Rattle.graph.proofs.Realizability.{table-target}
 use Rattle.slices.specs.Slices.{allZero}
@@ -21,7 +21,7 @@ use Rattle.journal.proofs.Table.{jdm-table}
 use Rattle.adjacency.specs.Adjacency.{adjacencySize, adjacencyOk, edge}
 use Rattle.adjacency.proofs.Facts.{ZeroOutside, adjacency-facts}
 use Rattle.state.specs.Valid.{lengthsOk, laidOk, valid}
-use Rattle.state.specs.Laid.{vertexCount, degreeAt}
+use Rattle.state.specs.Laid.{vertexCount, classAt}
 
 -- how many edges the matrix holds
 abbrev pub edgeTotal : List ℕ → List ℕ → ℕ
@@ -31,9 +31,9 @@ edgeTotal j g = edges (vertexCount j) (edge g)
 pub record Laid (j g : List ℕ) : Type 0 where
   pub passed : passes (jdmOf j) ≡ true
   pub vertices-le : vertexCount j ≤ mostVertices
-  pub adjacency-ok : adjacencyOk (vertexCount j) (degreeAt j) (jdmOf j) g ≡ true
-  pub target : Target (vertexCount j) degrees (degreeAt j) (λ k. k) (jdmOf j)
-  pub partial : Partial (vertexCount j) degrees (degreeAt j) (λ k. k) (jdmOf j) (edge g)
+  pub adjacency-ok : adjacencyOk (vertexCount j) (classAt j) (jdmOf j) g ≡ true
+  pub target : Target (vertexCount j) mostClasses (classAt j) classDegree (jdmOf j)
+  pub partial : Partial (vertexCount j) mostClasses (classAt j) classDegree (jdmOf j) (edge g)
   pub outside : ZeroOutside (vertexCount j) g
 
 -- a valid state: both lengths, the journal's check, and the matrix in either phase
@@ -67,18 +67,18 @@ module _ (j g : List ℕ) where
   matrix-ok h = and-right (journalOk j) matrixOk h
 
   laid-tests : laidOk (tableOf j) g ≡ true → (passes (jdmOf j) ≡ true) × (vertexCount j ≤ mostVertices)
-      × (adjacencyOk (vertexCount j) (degreeAt j) (jdmOf j) g ≡ true)
+      × (adjacencyOk (vertexCount j) (classAt j) (jdmOf j) g ≡ true)
   laid-tests h =
-      let two = and-left (passes (jdmOf j) && leb (vertexCount j) mostVertices) (adjacencyOk (vertexCount j) (degreeAt j) (jdmOf j) g) h in (
+      let two = and-left (passes (jdmOf j) && leb (vertexCount j) mostVertices) (adjacencyOk (vertexCount j) (classAt j) (jdmOf j) g) h in (
         and-left (passes (jdmOf j)) (leb (vertexCount j) mostVertices) two,
         leb-true (vertexCount j) mostVertices (and-right (passes (jdmOf j)) (leb (vertexCount j) mostVertices) two),
-        and-right (passes (jdmOf j) && leb (vertexCount j) mostVertices) (adjacencyOk (vertexCount j) (degreeAt j) (jdmOf j) g) h,
+        and-right (passes (jdmOf j) && leb (vertexCount j) mostVertices) (adjacencyOk (vertexCount j) (classAt j) (jdmOf j) g) h,
       )
 
   laid-facts : journalOk j ≡ true → laidOk (tableOf j) g ≡ true → Laid j g
   laid-facts ok h =
       let t = laid-tests h in
-      let a = adjacency-facts (vertexCount j) (degreeAt j) (jdmOf j) g (t .2) in
+      let a = adjacency-facts (vertexCount j) (classAt j) (jdmOf j) g (t .2) in
       record {
         passed = t .0;
         vertices-le = t .1;
@@ -103,6 +103,6 @@ module _ (j g : List ℕ) where
   facts-valid-0 e ok zeros = and-both (journalOk j) _ ok (rw (eq-eqb (phase j) 0 e) (zeros-all-zero g (λ p l. zeros p)))
 
   pub facts-valid-1 : phase j ≡ 1 → journalOk j ≡ true → passes (jdmOf j) ≡ true → vertexCount j ≤ mostVertices
-      → adjacencyOk (vertexCount j) (degreeAt j) (jdmOf j) g ≡ true → valid j g ≡ true
+      → adjacencyOk (vertexCount j) (classAt j) (jdmOf j) g ≡ true → valid j g ≡ true
   facts-valid-1 e ok p n a =
       and-both (journalOk j) _ ok (rw e (and-both (passes (jdmOf j) && leb (vertexCount j) mostVertices) _ (and-both _ _ p (le-leb _ _ n)) a))

@@ -7,7 +7,7 @@ use Prim.Native.Nat.{ℕ}
 use lib.Dec.{leb}
 use borrow.Author.Tests.{leb-true, le-leb}
 use Rattle.graph.specs.Graph.{DegreeTable}
-use Rattle.graph.specs.Tests.{passes, vertices, vertexDegree}
+use Rattle.graph.specs.Tests.{passes, vertices, vertexClass}
 use Rattle.answer.specs.declared.Refusal.{Refusal}
 use Rattle.answer.specs.declared.Verdict.{Verdict}
 use Rattle.answer.specs.declared.Verdict.the-variants.{Go, Stop}
@@ -21,7 +21,7 @@ IsGo Go = Unit {0}
 IsGo (Stop r) = ⊥
 
 module _ (t : DegreeTable) (g : List ℕ) where
-  pub laid-go : layoutVerdict t ≡ Go → laidOk t g ≡ adjacencyOk (vertices t) (vertexDegree t) (t .cells) g
+  pub laid-go : layoutVerdict t ≡ Go → laidOk t g ≡ adjacencyOk (vertices t) (vertexClass t) (t .cells) g
   laid-go e = rw (layout-go t e .0, le-leb (vertices t) mostVertices (layout-go t e .1))
 
   -- a table that is turned down is not laid

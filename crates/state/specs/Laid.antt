@@ -5,7 +5,7 @@ use mathlib.Core.List.{List}
 use Prim.Native.Nat.{ℕ}
 use lib.Dec.{ltb}
 use Rattle.graph.specs.Graph.{jdm}
-use Rattle.graph.specs.Tests.{vertices, vertexDegree}
+use Rattle.graph.specs.Tests.{vertices, vertexClass}
 use Rattle.journal.specs.Journal.{jdmOf, tableOf}
 use Rattle.adjacency.specs.Adjacency.{edge}
 
@@ -13,12 +13,12 @@ use Rattle.adjacency.specs.Adjacency.{edge}
 abbrev pub vertexCount : List ℕ → ℕ
 vertexCount j = vertices (tableOf j)
 
-abbrev pub degreeAt : List ℕ → ℕ → ℕ
-degreeAt j = vertexDegree (tableOf j)
+abbrev pub classAt : List ℕ → ℕ → ℕ
+classAt j = vertexClass (tableOf j)
 
 -- cell (k, l) of the edges so far: equation (1) at the degrees laid out
 abbrev pub cellAt : List ℕ → List ℕ → ℕ → ℕ → ℕ
-cellAt j g = jdm (vertexCount j) (degreeAt j) (edge g)
+cellAt j g = jdm (vertexCount j) (classAt j) (edge g)
 
 -- the cell is below the table (document 01: it is short)
 abbrev pub isShort : List ℕ → List ℕ → ℕ → ℕ → Bool

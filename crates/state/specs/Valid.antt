@@ -6,7 +6,7 @@ use Prim.Native.Nat.{ℕ}
 use lib.Dec.{eqb, leb}
 use lib.ListN.{length}
 use Rattle.graph.specs.Graph.{DegreeTable}
-use Rattle.graph.specs.Tests.{passes, vertices, vertexDegree}
+use Rattle.graph.specs.Tests.{passes, vertices, vertexClass}
 use Rattle.slices.specs.Slices.{allZero}
 use Rattle.layout.specs.Layout.{mostVertices}
 use Rattle.journal.specs.Journal.{journalSize, phase, journalOk, tableOf}
@@ -18,7 +18,7 @@ lengthsOk j g = eqb (length j) journalSize && eqb (length g) adjacencySize
 
 -- in phase 1: the summed table passes the tests 9 to 12, and the matrix is one of its partial graphs
 abbrev pub laidOk : DegreeTable → List ℕ → Bool
-laidOk t g = passes (t .cells) && leb (vertices t) mostVertices && adjacencyOk (vertices t) (vertexDegree t) (t .cells) g
+laidOk t g = passes (t .cells) && leb (vertices t) mostVertices && adjacencyOk (vertices t) (vertexClass t) (t .cells) g
 
 -- The journal is as laid down; in phase 0 the matrix is all zero, in phase 1 it is as above.
 abbrev pub valid : List ℕ → List ℕ → Bool

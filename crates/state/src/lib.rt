@@ -23,7 +23,7 @@ use layout::counts;
 use layout::layout_check;
 use layout::vertex_count;
 use table::cells::CELLS;
-use table::degree::DEGREES;
+use table::class::MAX_CLASSES;
 
 // Both have their lengths.
 pub fn lengths_ok(journal: &[u8], adjacency: &[u8]) -> bool
@@ -33,7 +33,7 @@ pub fn lengths_ok(journal: &[u8], adjacency: &[u8]) -> bool
 }
 
 // What the journal says: the cells of its table, in an array of zeros, and how many vertices each degree has.
-pub fn sum_table(journal: &[u8], cells: &mut [u32; CELLS]) -> [usize; DEGREES]
+pub fn sum_table(journal: &[u8], cells: &mut [u32; CELLS]) -> [usize; MAX_CLASSES]
     requires { ⌜ (length (now journal) ≡ journalSize) × (journalOk (now journal) ≡ true) × (now cells ≡ replicate cellsSize 0) ⌝ }
     ensures { λ r. ⌜ (tableIn (now (cells .exit)) (countIn r 0) ≡ tableOf (now (journal .entry))) × AtMost cellSumMost (now (cells .exit)) × Counts (now (cells .exit)) r ⌝ }
 {

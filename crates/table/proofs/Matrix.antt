@@ -16,7 +16,7 @@ use Rattle.finite.specs.Range.{sumTo, foldTo}
 use Rattle.finite.proofs.All.{and-false}
 use Rattle.finite.proofs.Fold.{foldTo-keeps}
 use Rattle.finite.proofs.Sum.{sumTo-none, sumTo-more, sumTo-cong}
-use Rattle.graph.specs.Tests.{degrees}
+use Rattle.graph.specs.Tests.{mostClasses}
 use Rattle.slices.proofs.Zero.{getD-zeros}
 use Rattle.table.specs.Block.{mostRecords, records, recordK, recordL, recordCount, firstBad, samePair, recordCell, recordIsolated, blockCell, blockIsolated}
 use Rattle.table.specs.Inner.Cells.{recordMost, cellsSize, place, matrixOf, isolatedPlace, addRecord, addBlock, AtMost, blockSumMost}
@@ -41,7 +41,7 @@ pub matrix-none : matrixOf noCells ≡ (λ k l. 0)
 matrix-none = matrix-zeros cellsSize
   where
     matrix-zeros : (n : ℕ) → matrixOf (replicate n 0) ≡ (λ k l. 0)
-    matrix-zeros n = fun-ext (λ k. fun-ext (λ l. cond-zero (ltb k degrees && ltb l degrees) _ (getD-zeros n (place k l))))
+    matrix-zeros n = fun-ext (λ k. fun-ext (λ l. cond-zero (ltb k mostClasses && ltb l mostClasses) _ (getD-zeros n (place k l))))
 
 -- one number changed
 atMost-set : (m v : ℕ) (c : List ℕ) (p : ℕ) → AtMost m c → v ≤ m → AtMost m (set c p v)
@@ -67,7 +67,7 @@ pub atMost-addBlock : (m : ℕ) (b c : List ℕ) → AtMost m c → records b �
 atMost-addBlock m b c h l bytes p = omega (arith, atMost-addRecords b bytes m c h (records b) p)
 
 pub matrix-most : (m : ℕ) (c : List ℕ) → AtMost m c → (k l : ℕ) → matrixOf c k l ≤ m
-matrix-most m c h k l = go (ltb k degrees && ltb l degrees)
+matrix-most m c h k l = go (ltb k mostClasses && ltb l mostClasses)
   where
     go : (t : Bool) → cond t (getD c (place k l) 0) 0 ≤ m
     go true = h (place k l)
@@ -75,7 +75,7 @@ matrix-most m c h k l = go (ltb k degrees && ltb l degrees)
 
 -- a cell is the same in either order
 pub matrix-sym : (c : List ℕ) (k l : ℕ) → matrixOf c k l ≡ matrixOf c l k
-matrix-sym c k l = go (ltb k degrees) (ltb l degrees)
+matrix-sym c k l = go (ltb k mostClasses) (ltb l mostClasses)
   where
     go : (s t : Bool) → cond (s && t) (getD c (place k l) 0) 0 ≡ cond (t && s) (getD c (place l k) 0) 0
     go true true = let e : place k l ≡ place l k = omega arith in rw e
@@ -84,7 +84,7 @@ matrix-sym c k l = go (ltb k degrees) (ltb l degrees)
     go false false = refl
 
 -- two pairs of degrees stand in one place where they are the same pair
-module _ (k l a b : ℕ) (hk : k < degrees) (hl : l < degrees) (ha : a < degrees) (hb : b < degrees) where
+module _ (k l a b : ℕ) (hk : k < mostClasses) (hl : l < mostClasses) (ha : a < mostClasses) (hb : b < mostClasses) where
   pub same-place : place k l ≡ place a b → samePair k l a b ≡ true
   same-place e = go (ℕ-discrete k a)
     where
@@ -106,8 +106,8 @@ add-apart c p q n h = getD-set-other c q p (getD c q 0 + n) 0 h ∙ sym (add-zer
 
 -- what a good record adds to the array
 module _ (b : List ℕ) (i : ℕ) (c : List ℕ) (size : length c ≡ cellsSize) (g : Good b i) (k l : ℕ) where
-  addRecord-inside : k < degrees → l < degrees → matrixOf (addRecord b i c) k l ≡ matrixOf c k l + amount b i k l
-  addRecord-inside hk hl = rw (lt-ltb k degrees hk, lt-ltb l degrees hl) (go (ℕ-discrete (place k l) (place x y)))
+  addRecord-inside : k < mostClasses → l < mostClasses → matrixOf (addRecord b i c) k l ≡ matrixOf c k l + amount b i k l
+  addRecord-inside hk hl = rw (lt-ltb k mostClasses hk, lt-ltb l mostClasses hl) (go (ℕ-discrete (place k l) (place x y)))
     where
       x : ℕ
       x = recordK b i
@@ -123,17 +123,17 @@ module _ (b : List ℕ) (i : ℕ) (c : List ℕ) (size : length c ≡ cellsSize)
           rw (other-place k l x y hk hl (omega arith) (omega arith) e)
           (add-apart c (place k l) (place x y) (recordCount b i) e)
 
-  addRecord-outside : degrees ≤ k → matrixOf (addRecord b i c) k l ≡ matrixOf c k l + amount b i k l
-  addRecord-outside h = rw (le-ltb k degrees h, amount-none-above b i k l g (omega arith))
+  addRecord-outside : mostClasses ≤ k → matrixOf (addRecord b i c) k l ≡ matrixOf c k l + amount b i k l
+  addRecord-outside h = rw (le-ltb k mostClasses h, amount-none-above b i k l g (omega arith))
 
-  addRecord-beside : degrees ≤ l → matrixOf (addRecord b i c) k l ≡ matrixOf c k l + amount b i k l
+  addRecord-beside : mostClasses ≤ l → matrixOf (addRecord b i c) k l ≡ matrixOf c k l + amount b i k l
   addRecord-beside h =
-      rw (le-ltb l degrees h, and-false (ltb k degrees), amount-sym b i k l, amount-none-above b i l k g (omega arith))
+      rw (le-ltb l mostClasses h, and-false (ltb k mostClasses), amount-sym b i k l, amount-none-above b i l k g (omega arith))
 
   matrix-addRecord : matrixOf (addRecord b i c) k l ≡ matrixOf c k l + amount b i k l
-  matrix-addRecord = go (decLt k degrees) (decLt l degrees)
+  matrix-addRecord = go (decLt k mostClasses) (decLt l mostClasses)
     where
-      go : Dec (k < degrees) → Dec (l < degrees) → matrixOf (addRecord b i c) k l ≡ matrixOf c k l + amount b i k l
+      go : Dec (k < mostClasses) → Dec (l < mostClasses) → matrixOf (addRecord b i c) k l ≡ matrixOf c k l + amount b i k l
       go (yes hk) (yes hl) = addRecord-inside hk hl
       go (yes hk) (no hl) = addRecord-beside (omega arith)
       go (no hk) (yes hl) = addRecord-outside (omega arith)

@@ -4,13 +4,13 @@ ghost use mathlib.Core.Path.{_≡_};
 ghost use mathlib.Core.Bool.{true};
 ghost use Prim.Native.Nat.{ℕ, _+_, _*_, _≤_, _<_};
 ghost use lib.ListN.{length, getD, set};
-ghost use Rattle.graph.specs.Tests.{degrees};
+ghost use Rattle.graph.specs.Tests.{mostClasses};
 ghost use Rattle.table.specs.Block.{recordSize, blockMost, goodRecord, records, firstBad};
 ghost use Rattle.table.specs.Inner.Cells.{cellsSize, matrixOf, place, isolatedPlace, addRecord, addBlock, AtMost, cellSumMost, blockSumMost};
-use crate::degree::DEGREES;
+use crate::class::MAX_CLASSES;
 use slices::wide;
 
-pub const CELLS: usize = DEGREES * DEGREES;
+pub const CELLS: usize = MAX_CLASSES * MAX_CLASSES;
 
 // A count as a number.
 pub fn wide32(x: u32) -> usize
@@ -20,26 +20,26 @@ pub fn wide32(x: u32) -> usize
 }
 
 pub fn place_of(k: usize, l: usize) -> usize
-    requires { ⌜ (k < degrees) × (l < degrees) ⌝ }
+    requires { ⌜ (k < mostClasses) × (l < mostClasses) ⌝ }
     ensures { λ r. ⌜ (r ≡ place k l) × (r < cellsSize) ⌝ }
 {
     if k <= l {
-        return k * DEGREES + l;
+        return k * MAX_CLASSES + l;
     }
-    l * DEGREES + k
+    l * MAX_CLASSES + k
 }
 
 // Cell (k, l) where k is not above l: row k of these is one part of the array.
 pub fn upper_cell(cells: &[u32; CELLS], k: usize, l: usize) -> usize
-    requires { ⌜ (k ≤ l) × (l < degrees) ⌝ }
+    requires { ⌜ (k ≤ l) × (l < mostClasses) ⌝ }
     ensures { λ r. ⌜ (r ≡ matrixOf (now (cells .entry)) k l) × (r < 4294967296) ⌝ }
 {
-    wide32(cells[k * DEGREES + l])
+    wide32(cells[k * MAX_CLASSES + l])
 }
 
 // Cell (k, l), which is also cell (l, k).
 pub fn cell(cells: &[u32; CELLS], k: usize, l: usize) -> usize
-    requires { ⌜ (k < degrees) × (l < degrees) ⌝ }
+    requires { ⌜ (k < mostClasses) × (l < mostClasses) ⌝ }
     ensures { λ r. ⌜ (r ≡ matrixOf (now (cells .entry)) k l) × (r < 4294967296) ⌝ }
 {
     if k <= l {

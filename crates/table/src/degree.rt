@@ -35,5 +35,5 @@ impl Degree {
     }
 }
 
-// The degrees are the numbers 1 to DEGREES - 1.
-pub const DEGREES: usize = Degree::MOST.0 as usize + 1;
+// The highest degree as a number.
+pub const MAX_DEGREE: usize = Degree::MOST.0 as usize;

@@ -11,17 +11,17 @@ use Rattle.answer.specs.declared.AddAnswer.{AddAnswer}
 use Rattle.answer.specs.declared.AddAnswer.the-variants.{Added, Refused}
 use Rattle.graph.specs.Graph.{jdm, DegreeTable}
 use Rattle.graph.specs.Target.{Target, Partial}
-use Rattle.graph.specs.Tests.{degrees, vertices, vertexDegree}
+use Rattle.graph.specs.Tests.{mostClasses, vertices, vertexClass, classDegree}
 use Rattle.layout.specs.Layout.{mostVertices}
 use Rattle.adjacency.specs.Adjacency.{adjacencySize, edge}
-use Rattle.joining.specs.Join.{own, joinBytes, joinSwitches}
+use Rattle.joining.specs.Join.{joinBytes, joinSwitches}
 
 -- g is a partial graph of the table t, and v and w are two vertices that it does not link
 pub record Unlinked (t : DegreeTable) (g : List ℕ) (v w : ℕ) : Type 0 where
   pub sized : length g ≡ adjacencySize
   pub few : vertices t ≤ mostVertices
-  pub target : Target (vertices t) degrees (vertexDegree t) own (t .cells)
-  pub partial : Partial (vertices t) degrees (vertexDegree t) own (t .cells) (edge g)
+  pub target : Target (vertices t) mostClasses (vertexClass t) classDegree (t .cells)
+  pub partial : Partial (vertices t) mostClasses (vertexClass t) classDegree (t .cells) (edge g)
   pub first : v < vertices t
   pub second : w < vertices t
   pub distinct : v ≡ w → ⊥
@@ -30,11 +30,11 @@ pub record Unlinked (t : DegreeTable) (g : List ℕ) (v w : ℕ) : Type 0 where
 -- the check 16, and the join
 abbrev pub addUnlinked : DegreeTable → List ℕ → ℕ → ℕ → AddAnswer
 addUnlinked t g v w =
-    unless (ltb (jdm (vertices t) (vertexDegree t) (edge g) (vertexDegree t v) (vertexDegree t w)) (t .cells (vertexDegree t v) (vertexDegree t w)))
-    (Refused (refusal CellNotShort (min (vertexDegree t v) (vertexDegree t w)) (max (vertexDegree t v) (vertexDegree t w))))
-    (Added (joinSwitches (vertices t) (vertexDegree t) g v w))
+    unless (ltb (jdm (vertices t) (vertexClass t) (edge g) (vertexClass t v) (vertexClass t w)) (t .cells (vertexClass t v) (vertexClass t w)))
+    (Refused (refusal CellNotShort (min (vertexClass t v) (vertexClass t w)) (max (vertexClass t v) (vertexClass t w))))
+    (Added (joinSwitches (vertices t) (vertexClass t) g v w))
 
 -- the matrix afterwards
 abbrev pub addedAdjacency : AddAnswer → DegreeTable → List ℕ → ℕ → ℕ → List ℕ
-addedAdjacency (Added s) t g v w = joinBytes (vertices t) (vertexDegree t) g v w
+addedAdjacency (Added s) t g v w = joinBytes (vertices t) (vertexClass t) g v w
 addedAdjacency (Refused r) t g v w = g

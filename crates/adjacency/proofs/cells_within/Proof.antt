@@ -11,7 +11,7 @@ use lib.ListN.{length-replicate}
 use Rattle.finite.specs.Range.{allTo}
 use Rattle.finite.proofs.All.{allTo-none, allTo-more}
 use Rattle.graph.specs.Graph.{jdm}
-use Rattle.graph.specs.Tests.{degrees}
+use Rattle.graph.specs.Tests.{mostClasses}
 use Rattle.table.specs.Inner.Cells.{matrixOf}
 use Rattle.layout.specs.Inner.Arrays.{classIn}
 use Rattle.table.proofs.Matrix.{matrix-sym}
@@ -20,17 +20,17 @@ use Rattle.adjacency.specs.Adjacency.{edge}
 use Rattle.adjacency.specs.Inner.Sums.{sumsSize}
 use Rattle.adjacency.proofs.Mirrored.{cellsWithin-upper}
 use Rattle.adjacency.proofs.Classes.{class-absent}
-use Rattle.adjacency.proofs.Sums.{classDegrees-within, absent-within}
+use Rattle.adjacency.proofs.Sums.{classEdgess-within, absent-within}
 use Rattle.adjacency.proofs.cells_within.Statement.{statement}
 use Rattle.adjacency.proofs.cells_within.Tie as tie
 
 abbrev Inv-loop : tie.InvT-loop
 Inv-loop adjacency n classes cells sums ok₀ start₀ k₀ ok start k =
-    (k ≤ degrees) × (start ≤ n) × ((w : ℕ) → w < start → classIn classes w < k)
-    × (ok ≡ allTo k (λ k. allTo degrees (λ l. ltb l k || leb (jdm n (classIn classes) (edge adjacency) k l) (matrixOf cells k l))))
+    (k ≤ mostClasses) × (start ≤ n) × ((w : ℕ) → w < start → classIn classes w < k)
+    × (ok ≡ allTo k (λ k. allTo mostClasses (λ l. ltb l k || leb (jdm n (classIn classes) (edge adjacency) k l) (matrixOf cells k l))))
 
 abbrev μ-loop : tie.MeasureT-loop
-μ-loop adjacency n classes cells sums ok₀ start₀ k₀ ok start k = degrees - k
+μ-loop adjacency n classes cells sums ok₀ start₀ k₀ ok start k = mostClasses - k
 
 pub cells-within-spec : {M : Type 1} → statement M
 cells-within-spec =
@@ -62,7 +62,7 @@ cells-within-spec =
       b .skip-below .ensures .0,
       λ w i. omega (arith, b .skip-below .ensures .1 w i),
       ⊎-elim
-          (λ w. rw (allTo-more, w .3, l .loop .inv .3, w .2 .ensures, classDegrees-within (a .n) cls E _ T k (m .sum-classes .ensures k)))
+          (λ w. rw (allTo-more, w .3, l .loop .inv .3, w .2 .ensures, classEdgess-within (a .n) cls E _ T k (m .sum-classes .ensures k)))
           (λ w.
           let r = b .skip-below .ensures in
           let none = class-absent (a .n) k (b .skip-below .result) cls (s .pre .4) (r .1) (r .2) (rw (h .has-class .ensures) at (w .0 .left)) in
@@ -73,7 +73,7 @@ cells-within-spec =
     let l = c .before in
     let s = l .before .before .before .before in
     let a = s .args in
-    let e : l .loop .k ≡ degrees = omega arith in
+    let e : l .loop .k ≡ mostClasses = omega arith in
     let T = matrixOf (a .cells .now) in
     rw (cellsWithin-upper (a .n) (a .adjacency .now) (s .pre .2) (classIn (a .classes .now)) (s .pre .3) T (matrix-sym (a .cells .now)))
     (rw e at (l .loop .inv .3))))  -- returns

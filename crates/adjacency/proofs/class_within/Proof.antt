@@ -9,7 +9,7 @@ use borrow.Author.Tests.{lt-ltb, le-ltb}
 use lib.ListN.{getD, length-replicate}
 use Rattle.finite.specs.Range.{δ, sumTo, allTo}
 use Rattle.finite.proofs.All.{allTo-more, allTo-holds}
-use Rattle.graph.specs.Tests.{degrees}
+use Rattle.graph.specs.Tests.{mostClasses}
 use Rattle.table.specs.Inner.Cells.{matrixOf}
 use Rattle.layout.specs.Inner.Arrays.{classIn}
 use Rattle.slices.proofs.Zero.{getD-zeros}
@@ -19,17 +19,17 @@ use Rattle.adjacency.proofs.class_within.Tie as tie
 
 abbrev Inv-loop : tie.InvT-loop
 Inv-loop sums n classes cells k start counts ok₀ l₀ ok l =
-    (k ≤ l) × (l ≤ degrees) × (ok ≡ allTo l (λ l. ltb l k || leb (sumTo n (λ w. δ (classIn classes w) l * getD sums (k * side + w) 0)) (matrixOf cells k l)))
+    (k ≤ l) × (l ≤ mostClasses) × (ok ≡ allTo l (λ l. ltb l k || leb (sumTo n (λ w. δ (classIn classes w) l * getD sums (k * side + w) 0)) (matrixOf cells k l)))
 
 abbrev μ-loop : tie.MeasureT-loop
-μ-loop sums n classes cells k start counts ok₀ l₀ ok l = degrees - l
+μ-loop sums n classes cells k start counts ok₀ l₀ ok l = mostClasses - l
 
 pub class-within-spec : {M : Type 1} → statement M
 class-within-spec =
     tie.close (tie.spec Inv-loop μ-loop
     (λ c κs.
     let s = c .before in
-    (omega arith, omega arith, s .pre .2, omega arith, s .pre .4, length-replicate {A = ℕ} degrees 0, getD-zeros degrees))  -- count-class-requires
+    (omega arith, omega arith, s .pre .2, omega arith, s .pre .4, length-replicate {A = ℕ} mostClasses 0, getD-zeros mostClasses))  -- count-class-requires
     (λ c. (omega arith, omega arith, sym (allTo-holds _ _ (λ l h. rw (lt-ltb l _ h)))))  -- loop-holds
     (λ c. omega arith)  -- mul-wide32
     (λ c. omega arith)  -- array-read-wide32
@@ -53,4 +53,4 @@ class-within-spec =
         c .upper-cell .ensures .0,
       ),
     ))  -- loop-again
-    (λ c. let e : c .before .loop .l ≡ degrees = omega arith in rw e at (c .before .loop .inv .2)))  -- returns
+    (λ c. let e : c .before .loop .l ≡ mostClasses = omega arith in rw e at (c .before .loop .inv .2)))  -- returns

@@ -6,7 +6,7 @@ use native.Mathlib.Omega.{arith}
 use lib.ListN.{length, getD, length-set}
 use Rattle.finite.specs.Range.{δ, sumTo}
 use Rattle.finite.proofs.Sum.{sumTo-more}
-use Rattle.graph.specs.Tests.{degrees}
+use Rattle.graph.specs.Tests.{mostClasses}
 use Rattle.layout.specs.Inner.Arrays.{classIn}
 use Rattle.adjacency.specs.Adjacency.{side}
 use Rattle.adjacency.proofs.Sums.{more-at, more-atMost, class-none}
@@ -15,7 +15,7 @@ use Rattle.adjacency.proofs.count_class.Tie as tie
 
 abbrev Inv-loop : tie.InvT-loop
 Inv-loop sums n classes k start counts₀ w₀ counts w =
-    (w ≤ n) × (length counts ≡ degrees)
+    (w ≤ n) × (length counts ≡ mostClasses)
     × ((l : ℕ) → k ≤ l → getD counts l 0 ≡ sumTo w (λ w. δ (classIn classes w) l * getD sums (k * side + w) 0))
     × ((l : ℕ) → getD counts l 0 ≤ 255 * w)
 

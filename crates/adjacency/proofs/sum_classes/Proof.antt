@@ -6,15 +6,15 @@ use native.Mathlib.Omega.{arith}
 use lib.ListN.{length, getD}
 use Rattle.layout.specs.Inner.Arrays.{classIn}
 use Rattle.adjacency.specs.Adjacency.{side, edge}
-use Rattle.adjacency.specs.Inner.Sums.{sumsSize, classDegree}
+use Rattle.adjacency.specs.Inner.Sums.{sumsSize, classEdges}
 use Rattle.adjacency.proofs.Mirrored.{mirrored-simple}
-use Rattle.adjacency.proofs.Sums.{classDegree-none, classDegree-le, classDegrees-more}
+use Rattle.adjacency.proofs.Sums.{classEdges-none, classEdges-le, classEdgess-more}
 use Rattle.adjacency.proofs.sum_classes.Statement.{statement}
 use Rattle.adjacency.proofs.sum_classes.Tie as tie
 
 abbrev Inv-loop : tie.InvT-loop
 Inv-loop adjacency n classes sums₀ v₀ sums v =
-    (v ≤ n) × (length sums ≡ sumsSize) × ((k w : ℕ) → w < n → getD sums (k * side + w) 0 ≡ classDegree v (classIn classes) (edge adjacency) k w)
+    (v ≤ n) × (length sums ≡ sumsSize) × ((k w : ℕ) → w < n → getD sums (k * side + w) 0 ≡ classEdges v (classIn classes) (edge adjacency) k w)
 
 abbrev μ-loop : tie.MeasureT-loop
 μ-loop adjacency n classes sums₀ v₀ sums v = n - v
@@ -26,7 +26,7 @@ sum-classes-spec =
     let s = c .before in (
       omega arith,
       s .pre .4,
-      λ k w h. s .pre .5 (k * side + w) ∙ sym (classDegree-none (classIn (s .args .classes .now)) (edge (s .args .adjacency .now)) k w),
+      λ k w h. s .pre .5 (k * side + w) ∙ sym (classEdges-none (classIn (s .args .classes .now)) (edge (s .args .adjacency .now)) k w),
     ))  -- loop-holds
     (λ c. omega arith)  -- element-copy-out-wide
     (λ c κs. tt)  -- wide-requires
@@ -46,7 +46,7 @@ sum-classes-spec =
       λ i h. omega (
         arith,
         l .loop .inv .2 (c .wide .result) i h,
-        classDegree-le cls E (c .wide .result) i (l .loop .v) (λ u m. simple .binary u i (omega arith) h),
+        classEdges-le cls E (c .wide .result) i (l .loop .v) (λ u m. simple .binary u i (omega arith) h),
         simple .binary (l .loop .v) i (omega arith) h,
       ),
     ))  -- add-row-requires
@@ -60,7 +60,7 @@ sum-classes-spec =
     let E = edge (s .args .adjacency .now) in (
       omega arith,
       c .add-row .ensures .long ∙ l .loop .inv .1,
-      classDegrees-more (s .args .n) cls E (l .loop .sums) _ (l .loop .v) (w .wide .result) (omega arith) (w .wide .ensures .0)
+      classEdgess-more (s .args .n) cls E (l .loop .sums) _ (l .loop .v) (w .wide .result) (omega arith) (w .wide .ensures .0)
           (l .loop .inv .2) (c .add-row .ensures),
     ))  -- loop-again
     (λ c. let e : c .before .loop .v ≡ c .before .before .before .args .n = omega arith in rw e at (c .before .loop .inv .2)))  -- returns

@@ -6,12 +6,12 @@ use Prim.Native.Nat.{ℕ, _+_, _*_}
 use lib.ListN.{length, getD}
 use Rattle.finite.specs.Range.{δ, sumTo}
 use Rattle.graph.specs.Graph.{Graph}
-use Rattle.graph.specs.Tests.{degrees}
+use Rattle.graph.specs.Tests.{mostClasses}
 use Rattle.adjacency.specs.Adjacency.{side}
 
 -- one sum for each degree and each vertex
 abbrev pub sumsSize : ℕ
-sumsSize = degrees * side
+sumsSize = mostClasses * side
 
 -- s′ is s with x i added at place at i, for each i below n
 pub record Added (n : ℕ) (at x : ℕ → ℕ) (s s′ : List ℕ) : Type 0 where
@@ -19,5 +19,5 @@ pub record Added (n : ℕ) (at x : ℕ → ℕ) (s s′ : List ℕ) : Type 0 whe
   pub sums : (p : ℕ) → getD s′ p 0 ≡ getD s p 0 + sumTo n (λ i. δ (at i) p * x i)
 
 -- how many of the first m vertices have class k and an edge to w
-abbrev pub classDegree : ℕ → (ℕ → ℕ) → Graph → ℕ → ℕ → ℕ
-classDegree m cls E k w = sumTo m (λ v. δ (cls v) k * E v w)
+abbrev pub classEdges : ℕ → (ℕ → ℕ) → Graph → ℕ → ℕ → ℕ
+classEdges m cls E k w = sumTo m (λ v. δ (cls v) k * E v w)

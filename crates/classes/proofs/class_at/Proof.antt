@@ -8,16 +8,16 @@ use lib.ListN.{getD}
 use borrow.Author.Tests.{lt-ltb, le-ltb}
 use Rattle.finite.specs.Range.{lowest}
 use Rattle.finite.proofs.Lowest.{lowest-end, lowest-here, lowest-next}
-use Rattle.graph.specs.Tests.{degrees}
+use Rattle.graph.specs.Tests.{mostClasses}
 use Rattle.classes.specs.Inner.Block.{classFrom}
 use Rattle.classes.proofs.class_at.Statement.{statement}
 use Rattle.classes.proofs.class_at.Tie as tie
 
 abbrev Inv-loop : tie.InvT-loop
-Inv-loop starts v k₀ k = (k ≤ degrees) × (classFrom starts v ≡ lowest k degrees (λ k. ltb v (getD starts (k + 1) 0)))
+Inv-loop starts v k₀ k = (k ≤ mostClasses) × (classFrom starts v ≡ lowest k mostClasses (λ k. ltb v (getD starts (k + 1) 0)))
 
 abbrev μ-loop : tie.MeasureT-loop
-μ-loop starts v k₀ k = degrees - k
+μ-loop starts v k₀ k = mostClasses - k
 
 pub class-at-spec : {M : Type 1} → statement M
 class-at-spec =

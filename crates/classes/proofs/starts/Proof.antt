@@ -8,17 +8,17 @@ use Rattle.finite.specs.Range.{sumTo}
 use Rattle.finite.specs.Inner.Fill.{fillTo}
 use Rattle.finite.proofs.Fold.{fillTo-none, fillTo-more}
 use Rattle.finite.proofs.Sum.{sumTo-none, sumTo-more, sumTo-le}
-use Rattle.graph.specs.Tests.{degrees}
+use Rattle.graph.specs.Tests.{mostClasses}
 use Rattle.layout.specs.Inner.Arrays.{countIn}
 use Rattle.classes.proofs.starts.Statement.{statement}
 use Rattle.classes.proofs.starts.Tie as tie
 
 abbrev Inv-loop : tie.InvT-loop
 Inv-loop counts t₀ sum₀ k₀ t sum k =
-    (k ≤ degrees) × (sum ≡ sumTo k (countIn counts)) × (t ≡ fillTo k (λ k. sumTo k (countIn counts)) (replicate (degrees + 1) 0))
+    (k ≤ mostClasses) × (sum ≡ sumTo k (countIn counts)) × (t ≡ fillTo k (λ k. sumTo k (countIn counts)) (replicate (mostClasses + 1) 0))
 
 abbrev μ-loop : tie.MeasureT-loop
-μ-loop counts t₀ sum₀ k₀ t sum k = degrees - k
+μ-loop counts t₀ sum₀ k₀ t sum k = mostClasses - k
 
 pub starts-spec : {M : Type 1} → statement M
 starts-spec =
@@ -31,7 +31,7 @@ starts-spec =
     (λ c.
     let l = c .before .before in
     let D = countIn (l .before .args .counts .now) in
-    omega (arith, sumTo-more D (l .loop .k), sumTo-le (l .loop .k + 1) degrees D (omega arith)))  -- add-sum
+    omega (arith, sumTo-more D (l .loop .k), sumTo-le (l .loop .k + 1) mostClasses D (omega arith)))  -- add-sum
     (λ c. omega arith)  -- add-k
     (λ c. omega arith)  -- loop-less
     (λ c.
@@ -40,5 +40,5 @@ starts-spec =
     (λ c. omega arith)  -- array-write-t-2
     (λ c.
     let l = c .before in
-    let e : l .loop .k ≡ degrees = omega arith in
-    rw (rw e at (l .loop .inv .2), rw e at (l .loop .inv .1)) (sym (fillTo-more _ _ degrees))))  -- returns
+    let e : l .loop .k ≡ mostClasses = omega arith in
+    rw (rw e at (l .loop .inv .2), rw e at (l .loop .inv .1)) (sym (fillTo-more _ _ mostClasses))))  -- returns

@@ -9,24 +9,24 @@ use Rattle.finite.specs.Range.{sumTo, lowest}
 use Rattle.finite.specs.Inner.Fill.{fillTo}
 use Rattle.graph.specs.Graph.{Graph, Simple}
 use Rattle.graph.specs.Numbering.{total}
-use Rattle.graph.specs.Tests.{degrees}
+use Rattle.graph.specs.Tests.{mostClasses}
 use Rattle.layout.specs.Layout.{mostVertices}
 use Rattle.layout.specs.Inner.Arrays.{countIn}
 use Rattle.adjacency.specs.Adjacency.{edge}
 
 -- the first vertex of each class, where class k has as many as the array says; behind them, the number of vertices
 abbrev pub startsOf : List ℕ → List ℕ
-startsOf counts = fillTo (degrees + 1) (λ k. sumTo k (countIn counts)) (replicate (degrees + 1) 0)
+startsOf counts = fillTo (mostClasses + 1) (λ k. sumTo k (countIn counts)) (replicate (mostClasses + 1) 0)
 
 -- the array has the starts of the classes of n vertices
 pub record Numbered (n : ℕ) (starts : List ℕ) : Type 0 where
   pub counts : List ℕ
   pub started : starts ≡ startsOf counts
-  pub all : total degrees (countIn counts) ≡ n
+  pub all : total mostClasses (countIn counts) ≡ n
 
 -- the class of vertex v: the first that starts no later and ends behind it
 abbrev pub classFrom : List ℕ → ℕ → ℕ
-classFrom starts v = lowest 0 degrees (λ k. ltb v (getD starts (k + 1) 0))
+classFrom starts v = lowest 0 mostClasses (λ k. ltb v (getD starts (k + 1) 0))
 
 -- how many ones stand in rows top, .., bottom - 1 and columns left, .., right - 1
 abbrev pub blockSum : Graph → ℕ → ℕ → ℕ → ℕ → ℕ

@@ -10,10 +10,9 @@ use lib.ListN.{length}
 use Rattle.finite.specs.Range.{foldTo}
 use Rattle.graph.specs.Graph.{jdm}
 use Rattle.graph.specs.Target.{Target, Partial}
-use Rattle.graph.specs.Tests.{leastDegree, mostDegree, degrees}
+use Rattle.graph.specs.Tests.{leastClass, mostDegree, mostClasses, classDegree}
 use Rattle.layout.specs.Layout.{mostVertices}
 use Rattle.adjacency.specs.Adjacency.{adjacencySize, edge}
-use Rattle.joining.specs.Join.{own}
 use Rattle.complete.specs.Choice.{openV, openW}
 use Rattle.complete.specs.Complete.{Ran, joined}
 
@@ -31,14 +30,14 @@ abbrev pub fillCell : ℕ → (ℕ → ℕ) → (ℕ → ℕ → ℕ) → ℕ �
 fillCell n cls T k l s = foldTo (cellMissing n cls T (s .adjacency) k l) (λ i. cellStep n cls k l) s
 
 abbrev pub fillRow : ℕ → (ℕ → ℕ) → (ℕ → ℕ → ℕ) → ℕ → Ran → Ran
-fillRow n cls T k s = foldTo (degrees - k) (λ i. fillCell n cls T k (k + i)) s
+fillRow n cls T k s = foldTo (mostClasses - k) (λ i. fillCell n cls T k (k + i)) s
 
 abbrev pub fillAll : ℕ → (ℕ → ℕ) → (ℕ → ℕ → ℕ) → Ran → Ran
-fillAll n cls T s = foldTo mostDegree (λ i. fillRow n cls T (leastDegree + i)) s
+fillAll n cls T s = foldTo (mostClasses - leastClass) (λ i. fillRow n cls T (leastClass + i)) s
 
 -- what holds of the matrix all along: it is a partial graph of the table
 pub record Filling (n : ℕ) (cls : ℕ → ℕ) (T : ℕ → ℕ → ℕ) (g : List ℕ) : Type 0 where
   pub sized : length g ≡ adjacencySize
   pub few : n ≤ mostVertices
-  pub target : Target n degrees cls own T
-  pub partial : Partial n degrees cls own T (edge g)
+  pub target : Target n mostClasses cls classDegree T
+  pub partial : Partial n mostClasses cls classDegree T (edge g)

@@ -6,7 +6,7 @@ use mathlib.Core.List.{List}
 use Prim.Native.Nat.{ℕ, _+_, _≤_, _<_}
 use lib.Dec.{eqb, ltb}
 use Rattle.finite.specs.Range.{lowest}
-use Rattle.graph.specs.Tests.{degrees}
+use Rattle.graph.specs.Tests.{mostClasses}
 use Rattle.adjacency.specs.Adjacency.{side}
 use Rattle.complete.specs.Inner.Cursor.{freeColumn, ClassRange}
 use Rattle.complete.specs.declared.pair.Cell.{Cell}
@@ -33,7 +33,7 @@ pub record Searchable (g : List ℕ) (c : Cell) (v w : ℕ) : Type 0 where
 
 -- the rows and the columns of the cell are the vertices of its two classes
 pub record Ranged (n : ℕ) (cls : ℕ → ℕ) (c : Cell) : Type 0 where
-  pub first : c .k < degrees
-  pub second : c .l < degrees
+  pub first : c .k < mostClasses
+  pub second : c .l < mostClasses
   pub rows : ClassRange n cls (c .k) (c .rows .from) (c .rows .to)
   pub columns : ClassRange n cls (c .l) (c .columns .from) (c .columns .to)

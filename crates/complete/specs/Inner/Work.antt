@@ -9,14 +9,13 @@ use Rattle.answer.specs.Switches.{switchCount, firstSwitch, secondSwitch}
 use Rattle.answer.specs.declared.switches.Switches.{Switches}
 use Rattle.graph.specs.Graph.{jdm, edges}
 use Rattle.graph.specs.Switch.{unsaturated}
-use Rattle.graph.specs.Tests.{degrees, vertices}
+use Rattle.graph.specs.Tests.{mostClasses, vertices, classDegree}
 use Rattle.graph.specs.Theorems.{allCells}
 use Rattle.adjacency.specs.Adjacency.{edge}
 use Rattle.table.specs.Inner.Cells.{matrixOf, AtMost, cellSumMost}
 use Rattle.layout.specs.Layout.{mostVertices}
 use Rattle.layout.specs.Inner.Arrays.{countIn, tableIn, Counts}
 use Rattle.journal.specs.Journal.{tableOf}
-use Rattle.joining.specs.Join.{own}
 use Rattle.joining.specs.Inner.Work.{degreesOf}
 use Rattle.classes.specs.Inner.Block.{Numbered, classFrom, blockSum, BlockOf}
 use Rattle.join_records.specs.Record.{joinRecordSize}
@@ -58,11 +57,11 @@ pub record Sound (n : ℕ) (cls : ℕ → ℕ) (T : ℕ → ℕ → ℕ) (room :
   pub filling : Filling n cls T (s .adjacency)
   pub joins-le : s .joins ≤ edges n (edge (s .adjacency))
   pub switches-le : s .switches ≤ 2 * s .joins
-  pub records-fit : joinRecordSize * (2 * s .joins + allCells degrees T) ≤ 2 * (room + joinRecordSize * edges n (edge (s .adjacency)))
+  pub records-fit : joinRecordSize * (2 * s .joins + allCells mostClasses T) ≤ 2 * (room + joinRecordSize * edges n (edge (s .adjacency)))
 
 -- the vertices of class k below `low` are saturated
 abbrev pub Saturated : ℕ → (ℕ → ℕ) → List ℕ → ℕ → ℕ → Type 0
-Saturated n cls g k low = (i : ℕ) → i < low → cls i ≡ k → unsaturated n cls own (edge g) i ≡ false
+Saturated n cls g k low = (i : ℕ) → i < low → cls i ≡ k → unsaturated n cls classDegree (edge g) i ≡ false
 
 -- what the cursor has passed is done
 pub record Resumes (n : ℕ) (cls : ℕ → ℕ) (g : List ℕ) (c : Cell) (u : Cursor) : Type 0 where
@@ -122,8 +121,8 @@ pub record Working (n : ℕ) (cells starts held : List ℕ) (room : ℕ) (s : Ra
 
 -- what a cell misses can be counted: its ranges are ranges of vertices, and it does not hold more than the table
 pub record Countable (g cells : List ℕ) (c : Cell) : Type 0 where
-  pub first : c .k < degrees
-  pub second : c .l < degrees
+  pub first : c .k < mostClasses
+  pub second : c .l < mostClasses
   pub block : BlockOf g (c .rows .from) (c .rows .to) (c .columns .from) (c .columns .to)
   pub within : blockSum (edge g) (c .rows .from) (c .rows .to) (c .columns .from) (c .columns .to) ≤ matrixOf cells (c .k) (c .l)
 

@@ -10,7 +10,7 @@ use lib.ListN.{length, getD, set}
 use Rattle.finite.specs.Range.{bit, lowest}
 use Rattle.answer.specs.declared.switches.Switches.{Switches}
 use Rattle.graph.specs.Graph.{Simple, jdm, edges}
-use Rattle.graph.specs.Tests.{degrees}
+use Rattle.graph.specs.Tests.{mostClasses}
 use Rattle.table.specs.Inner.Cells.{cellsSize, matrixOf}
 use Rattle.layout.specs.Layout.{wanted}
 use Rattle.adjacency.specs.Adjacency.{adjacencySize, side, edge}
@@ -25,7 +25,7 @@ use Rattle.complete_shuffled.specs.declared.step.Shuffle.{Shuffle}
 
 -- where cell (k, l), k ≤ l, stands in an array
 abbrev pub cellPlace : ℕ → ℕ → ℕ
-cellPlace k l = k * degrees + l
+cellPlace k l = k * mostClasses + l
 
 -- what cell (k, l) has
 abbrev pub cellHas : ℕ → List ℕ → List ℕ → ℕ → ℕ → ℕ
@@ -36,14 +36,14 @@ pub record Countable (n : ℕ) (cells starts g : List ℕ) : Type 0 where
   pub sized : length g ≡ adjacencySize
   pub arranged : Arranged n starts
   pub simple : Simple n (edge g)
-  pub within : (k l : ℕ) → k < degrees → l < degrees → cellHas n starts g k l ≤ matrixOf cells k l
+  pub within : (k l : ℕ) → k < mostClasses → l < mostClasses → cellHas n starts g k l ≤ matrixOf cells k l
 
 -- The cells at the places before p are counted, and flagged where they are full; no other is flagged.
 pub record Counted (p n : ℕ) (cells starts g have full : List ℕ) : Type 0 where
   pub sized : length have ≡ cellsSize
-  pub has : (k l : ℕ) → k ≤ l → l < degrees → cellPlace k l < p → getD have (cellPlace k l) 0 ≡ cellHas n starts g k l
+  pub has : (k l : ℕ) → k ≤ l → l < mostClasses → cellPlace k l < p → getD have (cellPlace k l) 0 ≡ cellHas n starts g k l
   pub scannable : Scannable n g full
-  pub flagged : (k w : ℕ) → k < degrees → w < n → k ≤ classFrom starts w →
+  pub flagged : (k w : ℕ) → k < mostClasses → w < n → k ≤ classFrom starts w →
       getD full (k * side + w) 0 ≡ bit (ltb (cellPlace k (classFrom starts w)) p && eqb (cellHas n starts g k (classFrom starts w)) (matrixOf cells k (classFrom starts w)))
 
 -- the array has the class of each vertex
@@ -66,9 +66,9 @@ pub record Tracked (n : ℕ) (cells starts classes g have full counts sums : Lis
 -- before low k, all vertices of class k are saturated
 pub record Lows (n : ℕ) (starts g low : List ℕ) : Type 0 where
   pub sized : length low ≡ length starts
-  pub from : (k : ℕ) → k < degrees → getD starts k 0 ≤ getD low k 0
-  pub to : (k : ℕ) → k < degrees → getD low k 0 ≤ getD starts (k + 1) 0
-  pub saturated : (k : ℕ) → k < degrees → Saturated n (classFrom starts) g k (getD low k 0)
+  pub from : (k : ℕ) → k < mostClasses → getD starts k 0 ≤ getD low k 0
+  pub to : (k : ℕ) → k < mostClasses → getD low k 0 ≤ getD starts (k + 1) 0
+  pub saturated : (k : ℕ) → k < mostClasses → Saturated n (classFrom starts) g k (getD low k 0)
 
 -- What a join in cell (k, l), k ≤ l, changes: it has one edge more, and may be full now ..
 abbrev pub hasNow : ℕ → ℕ → List ℕ → ℕ

@@ -8,7 +8,7 @@ use lib.Dec.{eqb, ltb}
 use lib.ListN.{getD, set}
 use Rattle.finite.specs.Range.{lowest}
 use Rattle.graph.specs.Graph.{Graph, degree, size, jdm}
-use Rattle.graph.specs.Tests.{mostDegree, degrees}
+use Rattle.graph.specs.Tests.{mostDegree, mostClasses}
 use Rattle.table.specs.Block.{recordSize}
 use Rattle.table.specs.Inner.Cells.{cellsSize, matrixOf, place}
 use Rattle.layout.specs.Layout.{mostVertices}
@@ -44,7 +44,7 @@ HasDegrees d n E = (v : ℕ) → v < n → degreeIn d v ≡ degree n E v
 
 -- the array holds the matrix of E, a graph on n vertices, at the classes cls
 abbrev pub HasCells : List ℕ → ℕ → (ℕ → ℕ) → Graph → Type 0
-HasCells c n cls E = (k l : ℕ) → k < degrees → l < degrees → matrixOf c k l ≡ jdm n cls E k l
+HasCells c n cls E = (k l : ℕ) → k < mostClasses → l < mostClasses → matrixOf c k l ≡ jdm n cls E k l
 
 -- the lowest of n vertices whose degree in the array is over 40
 abbrev pub firstAboveIn : List ℕ → ℕ → ℕ

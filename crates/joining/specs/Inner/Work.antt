@@ -11,13 +11,13 @@ use Rattle.finite.specs.Inner.Fill.{fillTo}
 use Rattle.graph.specs.Graph.{degree}
 use Rattle.graph.specs.Target.{Target, Partial, Open}
 use Rattle.graph.specs.Switch.{unsaturated}
-use Rattle.graph.specs.Tests.{degrees}
+use Rattle.graph.specs.Tests.{mostClasses, classDegree}
 use Rattle.layout.specs.Layout.{mostVertices}
 use Rattle.adjacency.specs.Adjacency.{adjacencySize, side, edge}
 use Rattle.answer.specs.declared.switches.Switch.{Switch}
 use Rattle.answer.specs.declared.switches.Switches.{Switches}
 use Rattle.answer.specs.declared.switches.Switches.the-variants.{None, One, Two}
-use Rattle.joining.specs.Join.{own, transferAt, switchAt}
+use Rattle.joining.specs.Join.{transferAt, switchAt}
 use Rattle.classes.specs.Inner.Block.{Numbered, classFrom}
 use Rattle.joining.specs.declared.End.{End}
 use Rattle.joining.specs.declared.Relief.{Relief}
@@ -51,15 +51,15 @@ Unlinkable g held v w =
 abbrev pub Linkable : List ℕ → List ℕ → ℕ → ℕ → Type 0
 Linkable g held v w =
     (length g ≡ adjacencySize) × (v < side) × (w < side) × (v ≢ w)
-    × (0 < length held → (length held ≡ side) × (getD held v 0 < degrees) × (getD held w 0 < degrees))
+    × (0 < length held → (length held ≡ side) × (getD held v 0 < mostClasses) × (getD held w 0 < mostClasses))
 
 -- v and w may be joined: g is a partial graph of some table, and the pair is open
 pub record Joinable (n : ℕ) (cls : ℕ → ℕ) (g : List ℕ) (v w : ℕ) : Type 0 where
   pub table : ℕ → ℕ → ℕ
   pub sized : length g ≡ adjacencySize
   pub few : n ≤ mostVertices
-  pub target : Target n degrees cls own table
-  pub partial : Partial n degrees cls own table (edge g)
+  pub target : Target n mostClasses cls classDegree table
+  pub partial : Partial n mostClasses cls classDegree table (edge g)
   pub pair : Open n cls table (edge g) v w
 
 -- where a substitute for a is searched: a's class is known, and all its vertices before `low` but `other` are saturated
@@ -68,7 +68,7 @@ pub record Placed (n : ℕ) (starts g : List ℕ) (a : End) (other : ℕ) : Type
   pub class : a .class ≡ classFrom starts (a .at)
   pub after : getD starts (a .class) 0 ≤ a .low
   pub before : a .low ≤ getD starts (a .class + 1) 0
-  pub saturated : (i : ℕ) → i < a .low → classFrom starts i ≡ a .class → (i ≡ other → ⊥) → unsaturated n (classFrom starts) own (edge g) i ≡ false
+  pub saturated : (i : ℕ) → i < a .low → classFrom starts i ≡ a .class → (i ≡ other → ⊥) → unsaturated n (classFrom starts) classDegree (edge g) i ≡ false
 
 -- b, of a class with degree k, may stand in for a vertex of it; `held` says how many edges each has
 abbrev pub canStandIn : (ℕ → ℕ) → ℕ → ℕ → ℕ → Bool
@@ -76,7 +76,7 @@ canStandIn held k other b = ltb (held b) k && not (eqb b other)
 
 -- what making room at a takes: nothing, or a switch
 abbrev pub reliefOf : ℕ → (ℕ → ℕ) → List ℕ → ℕ → ℕ → Relief
-reliefOf n cls g a other = cond (unsaturated n cls own (edge g) a) Room (Switched (switchAt n cls g a other))
+reliefOf n cls g a other = cond (unsaturated n cls classDegree (edge g) a) Room (Switched (switchAt n cls g a other))
 
 -- the switches of two reliefs, in the order made
 abbrev pub bothReliefs : Relief → Relief → Switches
@@ -92,4 +92,4 @@ cutOff n (Switched x) = x .t
 
 -- the vertex that the switch of v cut off from v; n where v was not switched
 abbrev pub freed : ℕ → (ℕ → ℕ) → List ℕ → ℕ → ℕ → ℕ
-freed n cls g v w = cond (unsaturated n cls own (edge g) v) n (transferAt n cls g v w)
+freed n cls g v w = cond (unsaturated n cls classDegree (edge g) v) n (transferAt n cls g v w)

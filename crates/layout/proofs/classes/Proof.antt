@@ -9,7 +9,7 @@ use Rattle.finite.specs.Inner.Fill.{fillTo}
 use Rattle.finite.proofs.Fold.{fillTo-none, fillTo-more}
 use Rattle.finite.proofs.Sum.{sumTo-none, sumTo-more}
 use Rattle.graph.specs.Numbering.{classOf}
-use Rattle.graph.specs.Tests.{degrees}
+use Rattle.graph.specs.Tests.{mostClasses}
 use Rattle.layout.specs.Layout.{mostVertices}
 use Rattle.layout.specs.Inner.Arrays.{countIn, Reaches}
 use Rattle.layout.proofs.Counted.{counted, counted-total}
@@ -18,7 +18,7 @@ use Rattle.layout.proofs.classes.Tie as tie
 
 abbrev Inv-loop : tie.InvT-loop
 Inv-loop cells counts n t₀ run₀ v₀ t run v =
-    (v ≤ n) × (t ≡ fillTo v (classOf degrees (countIn counts)) (replicate mostVertices 0))
+    (v ≤ n) × (t ≡ fillTo v (classOf mostClasses (countIn counts)) (replicate mostVertices 0))
     × Reaches (countIn counts) (run .class) (run .end) v
 
 abbrev μ-loop : tie.MeasureT-loop
@@ -56,4 +56,4 @@ classes-spec =
     let d = counted (s .args .cells .now) (s .args .counts .now) (s .pre .1) in
     rw (← (n .vertex-count .ensures))
     ((rw e at (l .loop .inv .1))
-    ∙ ap (λ (D : ℕ → ℕ). fillTo (n .vertex-count .result) (classOf degrees D) (replicate mostVertices 0)) d)))  -- returns
+    ∙ ap (λ (D : ℕ → ℕ). fillTo (n .vertex-count .result) (classOf mostClasses D) (replicate mostVertices 0)) d)))  -- returns

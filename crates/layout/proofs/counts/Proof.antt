@@ -6,7 +6,7 @@ use native.Mathlib.Omega.{arith}
 use lib.ListN.{replicate}
 use Rattle.finite.specs.Inner.Fill.{fillTo}
 use Rattle.finite.proofs.Fold.{fillTo-none, fillTo-more}
-use Rattle.graph.specs.Tests.{degrees, classCount}
+use Rattle.graph.specs.Tests.{mostClasses, classCount}
 use Rattle.graph.proofs.Counts.{count-at}
 use Rattle.layout.specs.Inner.Arrays.{tableIn}
 use Rattle.layout.proofs.Counted.{counts-made}
@@ -14,10 +14,10 @@ use Rattle.layout.proofs.counts.Statement.{statement}
 use Rattle.layout.proofs.counts.Tie as tie
 
 abbrev Inv-loop : tie.InvT-loop
-Inv-loop cells isolated t₀ k₀ t k = (1 ≤ k) × (k ≤ degrees) × (t ≡ fillTo k (classCount (tableIn cells isolated)) (replicate degrees 0))
+Inv-loop cells isolated t₀ k₀ t k = (1 ≤ k) × (k ≤ mostClasses) × (t ≡ fillTo k (classCount (tableIn cells isolated)) (replicate mostClasses 0))
 
 abbrev μ-loop : tie.MeasureT-loop
-μ-loop cells isolated t₀ k₀ t k = degrees - k
+μ-loop cells isolated t₀ k₀ t k = mostClasses - k
 
 pub counts-spec : {M : Type 1} → statement M
 counts-spec =
@@ -38,5 +38,5 @@ counts-spec =
     (λ c.
     let l = c .before in
     let s = l .before in
-    let e : l .loop .k ≡ degrees = omega arith in
+    let e : l .loop .k ≡ mostClasses = omega arith in
     counts-made (s .args .cells .now) _ (s .args .isolated) (rw e at (l .loop .inv .2)) (s .pre .1)))  -- returns

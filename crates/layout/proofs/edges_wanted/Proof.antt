@@ -5,16 +5,16 @@ use Prim.Native.Nat.{ℕ, _≤_, _-_, _*_, _/_}
 use native.Mathlib.Omega.{arith}
 use Rattle.finite.specs.Range.{sumTo}
 use Rattle.finite.proofs.Sum.{sumTo-none, sumTo-more}
-use Rattle.graph.specs.Tests.{degrees, rowSum}
+use Rattle.graph.specs.Tests.{mostClasses, rowSum}
 use Rattle.table.specs.Inner.Cells.{matrixOf, cellSumMost}
 use Rattle.layout.proofs.edges_wanted.Statement.{statement}
 use Rattle.layout.proofs.edges_wanted.Tie as tie
 
 abbrev Inv-loop : tie.InvT-loop
-Inv-loop cells sum₀ k₀ sum k = (k ≤ degrees) × (sum ≡ sumTo k (rowSum (matrixOf cells))) × (sum ≤ k * (degrees * cellSumMost))
+Inv-loop cells sum₀ k₀ sum k = (k ≤ mostClasses) × (sum ≡ sumTo k (rowSum (matrixOf cells))) × (sum ≤ k * (mostClasses * cellSumMost))
 
 abbrev μ-loop : tie.MeasureT-loop
-μ-loop cells sum₀ k₀ sum k = degrees - k
+μ-loop cells sum₀ k₀ sum k = mostClasses - k
 
 pub edges-wanted-spec : {M : Type 1} → statement M
 edges-wanted-spec =
@@ -28,4 +28,4 @@ edges-wanted-spec =
     let l = c .before .before in
     let more = sumTo-more (rowSum (matrixOf (l .before .args .cells .now))) (l .loop .k) in
     (omega arith, omega arith, omega arith))  -- loop-again
-    (λ c. let e : c .before .loop .k ≡ degrees = omega arith in ap (λ (s : ℕ). s / 2) (rw e at (c .before .loop .inv .1))))  -- returns
+    (λ c. let e : c .before .loop .k ≡ mostClasses = omega arith in ap (λ (s : ℕ). s / 2) (rw e at (c .before .loop .inv .1))))  -- returns

@@ -9,7 +9,7 @@ use lib.Dec.{ltb}
 use borrow.Author.Tests.{not-true, not-false}
 use Rattle.finite.specs.Range.{lowest}
 use Rattle.finite.proofs.Lowest.{lowest-end, lowest-here, lowest-next}
-use Rattle.graph.specs.Tests.{leastDegree, degrees, overfull, firstOverfull, firstOverfullIn}
+use Rattle.graph.specs.Tests.{leastClass, mostClasses, overfull, firstOverfull, firstOverfullIn}
 use Rattle.table.specs.Inner.Cells.{matrixOf}
 use Rattle.table.proofs.Matrix.{matrix-sym}
 use Rattle.layout.proofs.Overfull.{row-unfit, row-passes, row-none, rows-passed}
@@ -18,13 +18,13 @@ use Rattle.layout.proofs.first_overfull.Tie as tie
 
 abbrev Inv-loop : tie.InvT-loop
 Inv-loop cells counts k₀ k =
-    (leastDegree ≤ k)
-    × (k ≤ degrees)
-    × (firstOverfull (matrixOf cells) ≡ lowest k degrees (λ k. ltb (firstOverfullIn (matrixOf cells) k) degrees))
-    × ((j l : ℕ) → leastDegree ≤ j → j < k → leastDegree ≤ l → l < degrees → overfull (matrixOf cells) j l ≡ false)
+    (leastClass ≤ k)
+    × (k ≤ mostClasses)
+    × (firstOverfull (matrixOf cells) ≡ lowest k mostClasses (λ k. ltb (firstOverfullIn (matrixOf cells) k) mostClasses))
+    × ((j l : ℕ) → leastClass ≤ j → j < k → leastClass ≤ l → l < mostClasses → overfull (matrixOf cells) j l ≡ false)
 
 abbrev μ-loop : tie.MeasureT-loop
-μ-loop cells counts k₀ k = degrees - k
+μ-loop cells counts k₀ k = mostClasses - k
 
 pub first-overfull-spec : {M : Type 1} → statement M
 first-overfull-spec =

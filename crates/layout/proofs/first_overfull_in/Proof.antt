@@ -5,16 +5,16 @@ use Prim.Native.Nat.{_≤_, _-_}
 use native.Mathlib.Omega.{arith}
 use Rattle.finite.specs.Range.{lowest}
 use Rattle.finite.proofs.Lowest.{lowest-end, lowest-here, lowest-next}
-use Rattle.graph.specs.Tests.{degrees, overfull, firstOverfullIn}
+use Rattle.graph.specs.Tests.{mostClasses, overfull, firstOverfullIn}
 use Rattle.table.specs.Inner.Cells.{matrixOf}
 use Rattle.layout.proofs.first_overfull_in.Statement.{statement}
 use Rattle.layout.proofs.first_overfull_in.Tie as tie
 
 abbrev Inv-loop : tie.InvT-loop
-Inv-loop cells counts k l₀ l = (1 ≤ l) × (l ≤ degrees) × (firstOverfullIn (matrixOf cells) k ≡ lowest l degrees (overfull (matrixOf cells) k))
+Inv-loop cells counts k l₀ l = (1 ≤ l) × (l ≤ mostClasses) × (firstOverfullIn (matrixOf cells) k ≡ lowest l mostClasses (overfull (matrixOf cells) k))
 
 abbrev μ-loop : tie.MeasureT-loop
-μ-loop cells counts k l₀ l = degrees - l
+μ-loop cells counts k l₀ l = mostClasses - l
 
 pub first-overfull-in-spec : {M : Type 1} → statement M
 first-overfull-in-spec =

@@ -5,16 +5,16 @@ use Prim.Native.Nat.{_≤_, _-_}
 use native.Mathlib.Omega.{arith}
 use Rattle.finite.specs.Range.{lowest}
 use Rattle.finite.proofs.Lowest.{lowest-end, lowest-here, lowest-next}
-use Rattle.graph.specs.Tests.{degrees, uneven, firstUneven}
+use Rattle.graph.specs.Tests.{mostClasses, uneven, firstUneven}
 use Rattle.table.specs.Inner.Cells.{matrixOf}
 use Rattle.layout.proofs.first_uneven.Statement.{statement}
 use Rattle.layout.proofs.first_uneven.Tie as tie
 
 abbrev Inv-loop : tie.InvT-loop
-Inv-loop cells k₀ k = (1 ≤ k) × (k ≤ degrees) × (firstUneven (matrixOf cells) ≡ lowest k degrees (uneven (matrixOf cells)))
+Inv-loop cells k₀ k = (1 ≤ k) × (k ≤ mostClasses) × (firstUneven (matrixOf cells) ≡ lowest k mostClasses (uneven (matrixOf cells)))
 
 abbrev μ-loop : tie.MeasureT-loop
-μ-loop cells k₀ k = degrees - k
+μ-loop cells k₀ k = mostClasses - k
 
 pub first-uneven-spec : {M : Type 1} → statement M
 first-uneven-spec =

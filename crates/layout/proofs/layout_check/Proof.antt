@@ -7,7 +7,7 @@ use native.Mathlib.Omega.{arith}
 use lib.Dec.{ltb}
 use borrow.Author.Tests.{eq-eqb, ne-eqb, le-leb, lt-leb}
 use Rattle.finite.proofs.Lowest.{lowest-ge, lowest-le}
-use Rattle.graph.specs.Tests.{degrees, firstOverfullIn}
+use Rattle.graph.specs.Tests.{mostClasses, firstOverfullIn}
 use Rattle.answer.specs.declared.Verdict.the-variants.{Stop}
 use Rattle.table.specs.Inner.Cells.{matrixOf}
 use Rattle.layout.proofs.layout_check.Statement.{statement}
@@ -34,9 +34,9 @@ layout-check-spec =
     let f = c .before in
     let s = f .before .before .before .before .before in
     let T = matrixOf (s .args .cells .now) in
-    let p : ℕ → Bool = λ k. ltb (firstOverfullIn T k) degrees in
-    let low : 1 ≤ f .first-overfull .result = rw (f .first-overfull .ensures) (lowest-ge 1 degrees p (omega arith)) in
-    let most : f .first-overfull .result ≤ degrees = rw (f .first-overfull .ensures) (lowest-le 1 degrees p (omega arith)) in
+    let p : ℕ → Bool = λ k. ltb (firstOverfullIn T k) mostClasses in
+    let low : 1 ≤ f .first-overfull .result = rw (f .first-overfull .ensures) (lowest-ge 1 mostClasses p (omega arith)) in
+    let most : f .first-overfull .result ≤ mostClasses = rw (f .first-overfull .ensures) (lowest-le 1 mostClasses p (omega arith)) in
     (omega arith, omega arith, s .pre .0, s .pre .1))  -- first-overfull-in-requires
     (λ c κs. tt)  -- refuse-requires-3
     (λ c.

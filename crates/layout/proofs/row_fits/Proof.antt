@@ -5,7 +5,7 @@ use Prim.Native.Nat.{_≤_, _<_, _-_}
 use native.Mathlib.Nat.{mul-le-mul}
 use native.Mathlib.Omega.{arith}
 use Rattle.finite.specs.Range.{allTo}
-use Rattle.graph.specs.Tests.{degrees}
+use Rattle.graph.specs.Tests.{mostClasses}
 use Rattle.table.specs.Inner.Cells.{matrixOf}
 use Rattle.layout.specs.Inner.Arrays.{countIn, cellFits}
 use Rattle.layout.proofs.Counted.{counted-degree, counts-most, le-square}
@@ -15,10 +15,10 @@ use Rattle.layout.proofs.row_fits.Tie as tie
 
 abbrev Inv-loop : tie.InvT-loop
 Inv-loop cells counts k d ok₀ l₀ ok l =
-    (k < l) × (l ≤ degrees) × (ok ≡ allTo l (cellFits (matrixOf cells) k))
+    (k < l) × (l ≤ mostClasses) × (ok ≡ allTo l (cellFits (matrixOf cells) k))
 
 abbrev μ-loop : tie.MeasureT-loop
-μ-loop cells counts k d ok₀ l₀ ok l = degrees - l
+μ-loop cells counts k d ok₀ l₀ ok l = mostClasses - l
 
 pub row-fits-spec : {M : Type 1} → statement M
 row-fits-spec =
@@ -57,4 +57,4 @@ row-fits-spec =
       omega arith,
       rw (fits-next (matrixOf (s .args .cells .now)) (s .args .k) _ (s .pre .0) e (l .loop .l) (l .loop .inv .0), l .loop .inv .2, u .upper-cell2 .ensures .0),
     ))  -- loop-again
-    (λ c. let e : c .before .loop .l ≡ degrees = omega arith in rw e at (c .before .loop .inv .2)))  -- returns
+    (λ c. let e : c .before .loop .l ≡ mostClasses = omega arith in rw e at (c .before .loop .inv .2)))  -- returns

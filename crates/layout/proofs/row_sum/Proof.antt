@@ -5,7 +5,7 @@ use Prim.Native.Nat.{_≤_, _-_, _*_}
 use native.Mathlib.Omega.{arith}
 use Rattle.finite.specs.Range.{sumTo}
 use Rattle.finite.proofs.Sum.{sumTo-none, sumTo-more}
-use Rattle.graph.specs.Tests.{degrees}
+use Rattle.graph.specs.Tests.{mostClasses}
 use Rattle.table.specs.Inner.Cells.{matrixOf, cellSumMost}
 use Rattle.table.proofs.Matrix.{matrix-most, matrix-sym}
 use Rattle.layout.proofs.row_sum.Statement.{statement}
@@ -18,10 +18,10 @@ abbrev μ-loop : tie.MeasureT-loop
 μ-loop cells k sum₀ l₀ sum l = k - l
 
 abbrev Inv-loop2 : tie.InvT-loop2
-Inv-loop2 cells k sum₀ l₀ sum l = (k ≤ l) × (l ≤ degrees) × (sum ≡ sumTo l (matrixOf cells k)) × (sum ≤ l * cellSumMost)
+Inv-loop2 cells k sum₀ l₀ sum l = (k ≤ l) × (l ≤ mostClasses) × (sum ≡ sumTo l (matrixOf cells k)) × (sum ≤ l * cellSumMost)
 
 abbrev μ-loop2 : tie.MeasureT-loop2
-μ-loop2 cells k sum₀ l₀ sum l = degrees - l
+μ-loop2 cells k sum₀ l₀ sum l = mostClasses - l
 
 pub row-sum-spec : {M : Type 1} → statement M
 row-sum-spec =
@@ -50,4 +50,4 @@ row-sum-spec =
     let s = l .before .before .before in
     let m = matrix-most _ (s .args .cells .now) (s .pre .1) (s .args .k) (l .loop2 .l) in
     simp sumTo-more (omega arith))  -- loop2-again
-    (λ c. let e : c .before .loop2 .l ≡ degrees = omega arith in (rw e at (c .before .loop2 .inv .2), omega arith)))  -- returns
+    (λ c. let e : c .before .loop2 .l ≡ mostClasses = omega arith in (rw e at (c .before .loop2 .inv .2), omega arith)))  -- returns

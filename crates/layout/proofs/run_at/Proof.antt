@@ -4,7 +4,7 @@ use mathlib.Core.Path.{sym}
 use Prim.Native.Nat.{_+_, _-_}
 use native.Mathlib.Omega.{arith}
 use Rattle.finite.proofs.Sum.{sumTo-more, sumTo-le}
-use Rattle.graph.specs.Tests.{degrees}
+use Rattle.graph.specs.Tests.{mostClasses}
 use Rattle.graph.proofs.Numbering.{classOf-range, class-after}
 use Rattle.layout.specs.Inner.Arrays.{countIn, Reaches}
 use Rattle.layout.proofs.run_at.Statement.{statement}
@@ -14,7 +14,7 @@ abbrev Inv-loop : tie.InvT-loop
 Inv-loop counts v class₀ end₀ class end = Reaches (countIn counts) class end v
 
 abbrev μ-loop : tie.MeasureT-loop
-μ-loop counts v class₀ end₀ class end = degrees - class
+μ-loop counts v class₀ end₀ class end = mostClasses - class
 
 pub run-at-spec : {M : Type 1} → statement M
 run-at-spec =
@@ -25,15 +25,15 @@ run-at-spec =
     (λ c.
     let l = c .before in
     let s = l .before in
-    class-after degrees (countIn (s .args .counts .now)) (s .args .v) (l .loop .class) (s .pre .1) (omega arith))  -- element-copy-out-end
+    class-after mostClasses (countIn (s .args .counts .now)) (s .args .v) (l .loop .class) (s .pre .1) (omega arith))  -- element-copy-out-end
     (λ c.
     let l = c .before .before in
     let s = l .before in
     let D = countIn (s .args .counts .now) in
     let k = l .loop .class in
-    let after = class-after degrees D (s .args .v) k (s .pre .1) (omega arith) in
+    let after = class-after mostClasses D (s .args .v) k (s .pre .1) (omega arith) in
     let more = sumTo-more D (k + 1) in
-    let most = sumTo-le (k + 1 + 1) degrees D (omega arith) in
+    let most = sumTo-le (k + 1 + 1) mostClasses D (omega arith) in
     omega arith)  -- add-end
     (λ c. omega arith)  -- loop-less
     (λ c.
@@ -41,11 +41,11 @@ run-at-spec =
     let s = l .before in
     let D = countIn (s .args .counts .now) in
     let k = l .loop .class in
-    let after = class-after degrees D (s .args .v) k (s .pre .1) (omega arith) in
+    let after = class-after mostClasses D (s .args .v) k (s .pre .1) (omega arith) in
     (after, rw (sumTo-more D (k + 1)) (omega arith), omega arith))  -- loop-again
     (λ c.
     let l = c .before in
     let s = l .before in (
       l .loop .inv,
-      sym (classOf-range degrees (countIn (s .args .counts .now)) (s .args .v) (l .loop .class) (s .pre .1) .1 (l .loop .inv .2, omega arith)),
+      sym (classOf-range mostClasses (countIn (s .args .counts .now)) (s .args .v) (l .loop .class) (s .pre .1) .1 (l .loop .inv .2, omega arith)),
     )))  -- returns

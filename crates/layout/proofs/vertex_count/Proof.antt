@@ -5,7 +5,7 @@ use Prim.Native.Nat.{_≤_, _-_, _*_}
 use native.Mathlib.Omega.{arith}
 use Rattle.finite.specs.Range.{sumTo}
 use Rattle.finite.proofs.Sum.{sumTo-none, sumTo-more}
-use Rattle.graph.specs.Tests.{degrees}
+use Rattle.graph.specs.Tests.{mostClasses}
 use Rattle.table.specs.Inner.Cells.{cellSumMost}
 use Rattle.layout.specs.Inner.Arrays.{countIn}
 use Rattle.layout.proofs.Counted.{counted-total, counts-most}
@@ -14,10 +14,10 @@ use Rattle.layout.proofs.vertex_count.Tie as tie
 
 abbrev Inv-loop : tie.InvT-loop
 Inv-loop cells counts n₀ k₀ n k =
-    (k ≤ degrees) × (n ≡ sumTo k (countIn counts)) × (n ≤ k * (degrees * cellSumMost))
+    (k ≤ mostClasses) × (n ≡ sumTo k (countIn counts)) × (n ≤ k * (mostClasses * cellSumMost))
 
 abbrev μ-loop : tie.MeasureT-loop
-μ-loop cells counts n₀ k₀ n k = degrees - k
+μ-loop cells counts n₀ k₀ n k = mostClasses - k
 
 pub vertex-count-spec : {M : Type 1} → statement M
 vertex-count-spec =
@@ -40,6 +40,6 @@ vertex-count-spec =
     (λ c.
     let l = c .before in
     let s = l .before in
-    let e : l .loop .k ≡ degrees = omega arith in
+    let e : l .loop .k ≡ mostClasses = omega arith in
     (rw e at (l .loop .inv .1))
     ∙ counted-total (s .args .cells .now) (s .args .counts .now) (s .pre .1)))  -- returns

@@ -11,17 +11,17 @@ use Rattle.finite.specs.Range.{sumTo, allTo}
 use Rattle.graph.specs.Target.{cellMost}
 use Rattle.finite.specs.Inner.Fill.{fillTo}
 use Rattle.graph.specs.Graph.{DegreeTable}
-use Rattle.graph.specs.Tests.{degrees, count, classCount, vertices, vertexDegree}
+use Rattle.graph.specs.Tests.{mostClasses, count, classCount, vertices, vertexClass}
 use Rattle.table.specs.Inner.Cells.{matrixOf, cellSumMost}
 use Rattle.layout.specs.Layout.{mostVertices}
 
 -- how many vertices each degree has
 abbrev pub countsOf : DegreeTable → List ℕ
-countsOf t = fillTo degrees (classCount t) (replicate degrees 0)
+countsOf t = fillTo mostClasses (classCount t) (replicate mostClasses 0)
 
 -- the degrees of the N vertices, in an array of 200 with zeros behind them
 abbrev pub classesOf : DegreeTable → List ℕ
-classesOf t = fillTo (vertices t) (vertexDegree t) (replicate mostVertices 0)
+classesOf t = fillTo (vertices t) (vertexClass t) (replicate mostVertices 0)
 
 -- how many vertices degree k has, as the array of counts says
 abbrev pub countIn : List ℕ → ℕ → ℕ
@@ -45,8 +45,8 @@ abbrev pub cellFits : (ℕ → ℕ → ℕ) → ℕ → ℕ → Bool
 cellFits T k l = ltb l k || leb (T k l) (cellMost (count T) k l)
 
 abbrev pub rowFits : (ℕ → ℕ → ℕ) → ℕ → Bool
-rowFits T k = allTo degrees (cellFits T k)
+rowFits T k = allTo mostClasses (cellFits T k)
 
 -- the vertices below `end` are those of the classes up to `class`, and v is past those of the classes before it
 abbrev pub Reaches : (ℕ → ℕ) → ℕ → ℕ → ℕ → Type 0
-Reaches D class end v = (class < degrees) × (end ≡ sumTo (class + 1) D) × (sumTo class D ≤ v)
+Reaches D class end v = (class < mostClasses) × (end ≡ sumTo (class + 1) D) × (sumTo class D ≤ v)

@@ -8,7 +8,7 @@ use Rattle.answer.specs.Inner.Moved.{SwitchBelow, Each}
 use Rattle.answer.specs.declared.switches.Switch.{Switch}
 use Rattle.answer.specs.declared.switches.Switches.{Switches}
 use Rattle.answer.specs.declared.switches.Switches.the-variants.{None, One, Two}
-use Rattle.graph.specs.Tests.{degrees}
+use Rattle.graph.specs.Tests.{mostClasses}
 use Rattle.adjacency.specs.Adjacency.{side}
 use Rattle.open_pairs.specs.Inner.Rows.{freeTo}
 
@@ -36,7 +36,7 @@ markFull k from to full = foldTo (to - from) (λ i f. set f (k * side + (from + 
 
 -- the array has a class for each of the n vertices
 abbrev pub Classed : ℕ → List ℕ → Type 0
-Classed n classes = (v : ℕ) → v < n → getD classes v 0 < degrees
+Classed n classes = (v : ℕ) → v < n → getD classes v 0 < mostClasses
 
 -- the vertices of all switches are below n
 abbrev pub Within : ℕ → Switches → Type 0

@@ -8,12 +8,12 @@ use Prim.Native.Nat.{ℕ, _+_, _-_, _*_, _≤_, _<_}
 use lib.Dec.{eqb}
 use lib.ListN.{length, getD}
 use Rattle.finite.specs.Range.{bit, sumTo}
-use Rattle.graph.specs.Tests.{degrees}
+use Rattle.graph.specs.Tests.{mostClasses}
 use Rattle.adjacency.specs.Adjacency.{adjacencySize, side, edge}
 
 -- one flag for each class and vertex: 1 where the cell of the class and the vertex's class is full
 abbrev pub flagsSize : ℕ
-flagsSize = degrees * side
+flagsSize = mostClasses * side
 
 -- v, of class k, and w are not linked, and their cell is not full
 abbrev pub isFree : List ℕ → List ℕ → ℕ → ℕ → ℕ → Bool

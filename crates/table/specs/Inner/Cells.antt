@@ -6,20 +6,20 @@ use Prim.Native.Nat.{ℕ, _+_, _*_, _≤_, min, max}
 use lib.Dec.{ltb}
 use lib.ListN.{getD, set}
 use Rattle.finite.specs.Range.{foldTo}
-use Rattle.graph.specs.Tests.{degrees}
+use Rattle.graph.specs.Tests.{mostClasses}
 use Rattle.table.specs.Block.{mostRecords, records, recordK, recordL, recordCount}
 
 -- how many numbers the array has
 abbrev pub cellsSize : ℕ
-cellsSize = degrees * degrees
+cellsSize = mostClasses * mostClasses
 
 -- where the cell of k and l stands, in either order
 abbrev pub place : ℕ → ℕ → ℕ
-place k l = min k l * degrees + max k l
+place k l = min k l * mostClasses + max k l
 
 -- the matrix that an array holds; cells of degree 41 and above are 0
 abbrev pub matrixOf : List ℕ → ℕ → ℕ → ℕ
-matrixOf c k l = cond (ltb k degrees && ltb l degrees) (getD c (place k l) 0) 0
+matrixOf c k l = cond (ltb k mostClasses && ltb l mostClasses) (getD c (place k l) 0) 0
 
 -- the place of (0, 0), where no cell is: records of isolated vertices are added there, until they are taken out
 abbrev pub isolatedPlace : ℕ

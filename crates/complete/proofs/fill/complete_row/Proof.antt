@@ -5,7 +5,7 @@ use Prim.Native.Nat.{_+_, _≤_, _-_}
 use native.Mathlib.Omega.{arith}
 use Rattle.finite.specs.Range.{foldTo}
 use Rattle.finite.proofs.Fold.{foldTo-none, foldTo-after}
-use Rattle.graph.specs.Tests.{degrees}
+use Rattle.graph.specs.Tests.{mostClasses}
 use Rattle.table.specs.Inner.Cells.{matrixOf}
 use Rattle.classes.specs.Inner.Block.{classFrom}
 use Rattle.joining.specs.Inner.Work.{degreesOf}
@@ -18,7 +18,7 @@ use Rattle.complete.proofs.fill.complete_row.Tie as tie
 
 abbrev Inv-loop : tie.InvT-loop
 Inv-loop adjacency₀ output₀ held₀ cells starts n k sum₀ i₀ i-end adjacency output held sum i =
-    (k + i ≤ degrees)
+    (k + i ≤ mostClasses)
     × (ran adjacency output sum ≡ foldTo i (λ i. fillCell n (classFrom starts) (matrixOf cells) k (k + i)) (ran adjacency₀ output₀ sum₀))
     × (held ≡ degreesOf n adjacency)
     × WroteRecords (sum₀ .joins) (sum .joins) output₀ output
@@ -72,5 +72,5 @@ complete-row-spec =
     (λ c. c .before .loop .inv .3 .sized)  -- same-length-2
     (λ c.
     let l = c .before in
-    let e : l .loop .i ≡ degrees - l .before .before .before .before .before .before .args .k = omega (arith, l .loop .inv .0) in
+    let e : l .loop .i ≡ mostClasses - l .before .before .before .before .before .before .args .k = omega (arith, l .loop .inv .0) in
     (rw e at (l .loop .inv .1), (l .loop .inv .3, l .loop .inv .2))))  -- returns-2

@@ -5,7 +5,7 @@ use Prim.Native.Nat.{_+_, _≤_, _-_}
 use native.Mathlib.Omega.{arith}
 use Rattle.finite.specs.Range.{foldTo}
 use Rattle.finite.proofs.Fold.{foldTo-none, foldTo-after}
-use Rattle.graph.specs.Tests.{leastDegree, mostDegree}
+use Rattle.graph.specs.Tests.{leastClass, mostDegree}
 use Rattle.table.specs.Inner.Cells.{matrixOf}
 use Rattle.classes.specs.Inner.Block.{classFrom}
 use Rattle.joining.specs.Inner.Work.{degreesOf}
@@ -19,7 +19,7 @@ use Rattle.complete.proofs.fill.complete_rows.Tie as tie
 abbrev Inv-loop : tie.InvT-loop
 Inv-loop adjacency₀ output₀ held₀ cells starts n sum₀ i₀ adjacency output held sum i =
     (i ≤ mostDegree)
-    × (ran adjacency output sum ≡ foldTo i (λ i. fillRow n (classFrom starts) (matrixOf cells) (leastDegree + i)) (ran adjacency₀ output₀ sum₀))
+    × (ran adjacency output sum ≡ foldTo i (λ i. fillRow n (classFrom starts) (matrixOf cells) (leastClass + i)) (ran adjacency₀ output₀ sum₀))
     × (held ≡ degreesOf n adjacency)
     × WroteRecords (sum₀ .joins) (sum .joins) output₀ output
 
@@ -46,7 +46,7 @@ complete-rows-spec =
     let l = t .before in
     let a = l .before .before .before .args in (
       omega (arith, t .loop-test .taken),
-      foldTo-after (λ i. fillRow (a .n) (classFrom (a .starts .now)) (matrixOf (a .cells .now)) (leastDegree + i))
+      foldTo-after (λ i. fillRow (a .n) (classFrom (a .starts .now)) (matrixOf (a .cells .now)) (leastClass + i))
           _ (l .loop .i) _ _ (l .loop .inv .1) (d .complete-row .ensures .0),
       d .complete-row .ensures .1 .1,
       wrote-then (l .loop .inv .3) (d .complete-row .ensures .1 .0),

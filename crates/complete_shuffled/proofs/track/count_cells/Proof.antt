@@ -3,7 +3,7 @@
 use mathlib.Core.Path.{_≡_, sym, _∙_}
 use Prim.Native.Nat.{_-_, _≤_}
 use native.Mathlib.Omega.{arith}
-use Rattle.graph.specs.Tests.{degrees}
+use Rattle.graph.specs.Tests.{mostClasses}
 use Rattle.table.specs.Inner.Cells.{cellsSize}
 use Rattle.complete_shuffled.specs.Inner.Track.{cellPlace, Counted}
 use Rattle.complete_shuffled.proofs.Cells.{counted-none}
@@ -11,10 +11,10 @@ use Rattle.complete_shuffled.proofs.track.count_cells.Statement.{statem
 use Rattle.complete_shuffled.proofs.track.count_cells.Tie as tie
 
 abbrev Inv-loop : tie.InvT-loop
-Inv-loop adjacency cells starts have₀ full₀ n k₀ have full k = (k ≤ degrees) × Counted (cellPlace k 0) n cells starts adjacency have full
+Inv-loop adjacency cells starts have₀ full₀ n k₀ have full k = (k ≤ mostClasses) × Counted (cellPlace k 0) n cells starts adjacency have full
 
 abbrev μ-loop : tie.MeasureT-loop
-μ-loop adjacency cells starts have₀ full₀ n k₀ have full k = degrees - k
+μ-loop adjacency cells starts have₀ full₀ n k₀ have full k = mostClasses - k
 
 pub count-cells-spec : {M : Type 1} → statement M
 count-cells-spec =

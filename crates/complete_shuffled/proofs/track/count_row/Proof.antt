@@ -3,7 +3,7 @@
 use mathlib.Core.Path.{_≡_, sym, _∙_}
 use Prim.Native.Nat.{_+_, _-_, _≤_}
 use native.Mathlib.Omega.{arith}
-use Rattle.graph.specs.Tests.{degrees}
+use Rattle.graph.specs.Tests.{mostClasses}
 use Rattle.complete_shuffled.specs.Inner.Track.{cellPlace, Counted}
 use Rattle.complete_shuffled.proofs.Cells.{counted-row}
 use Rattle.complete_shuffled.proofs.track.count_row.Statement.{statement}
@@ -11,10 +11,10 @@ use Rattle.complete_shuffled.proofs.track.count_row.Tie as tie
 
 abbrev Inv-loop : tie.InvT-loop
 Inv-loop adjacency cells starts have₀ full₀ n k l₀ have full l =
-    (k ≤ l) × (l ≤ degrees) × Counted (cellPlace k l) n cells starts adjacency have full
+    (k ≤ l) × (l ≤ mostClasses) × Counted (cellPlace k l) n cells starts adjacency have full
 
 abbrev μ-loop : tie.MeasureT-loop
-μ-loop adjacency cells starts have₀ full₀ n k l₀ have full l = degrees - l
+μ-loop adjacency cells starts have₀ full₀ n k l₀ have full l = mostClasses - l
 
 pub count-row-spec : {M : Type 1} → statement M
 count-row-spec =

@@ -5,7 +5,7 @@ use mathlib.Core.Logic.{⊎-elim}
 use Prim.Native.Nat.{_<_}
 use native.Mathlib.Omega.{arith}
 use lib.ListN.{length}
-use Rattle.graph.specs.Tests.{degrees}
+use Rattle.graph.specs.Tests.{mostClasses}
 use Rattle.complete_shuffled.proofs.Cells.{class-range, marked-scannable}
 use Rattle.complete_shuffled.proofs.track.update.Statement.{statement}
 use Rattle.complete_shuffled.proofs.track.update.Tie as tie
@@ -33,7 +33,7 @@ update-spec =
     let m = c .before .before .before .before .before .before .before in
     let s = m .before .before .before .before .before .before .before .before .before in
     let p = s .pre .0 in
-    let k : s .args .k < degrees = omega (arith, s .pre .1) in
+    let k : s .args .k < mostClasses = omega (arith, s .pre .1) in
     let r = class-range (p .3) (s .args .k) k in
     (rw (m .mark-full .ensures) (marked-scannable (p .3) (s .args .l) (s .pre .1 .2) (p .0) (s .args .k) k), p .1, p .2, r .0, r .1))  -- refresh-range-requires
     (λ c κs.
@@ -44,7 +44,7 @@ update-spec =
     let j = c .before .before .before in
     let s = j .before .before .before .before .before in
     let p = s .pre .0 in
-    let k : s .args .k < degrees = omega (arith, s .pre .1) in
+    let k : s .args .k < mostClasses = omega (arith, s .pre .1) in
     ⊎-elim
     (λ w. (
       rw (w .13 ∙ w .4 .ensures) (marked-scannable (p .3) (s .args .l) (s .pre .1 .2) (p .0) (s .args .k) k),
@@ -58,7 +58,7 @@ update-spec =
     let j = c .before .before .before .before in
     let s = j .before .before .before .before .before in
     let p = s .pre .0 in
-    let k : s .args .k < degrees = omega (arith, s .pre .1) in
+    let k : s .args .k < mostClasses = omega (arith, s .pre .1) in
     ⊎-elim
     (λ w. ap length (w .13 ∙ w .4 .ensures) ∙ marked-scannable (p .3) (s .args .l) (s .pre .1 .2) (p .0) (s .args .k) k .flags ∙ sym (p .0 .flags))
     (λ w. ap length (w .5))

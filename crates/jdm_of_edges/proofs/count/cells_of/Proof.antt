@@ -4,7 +4,7 @@ use mathlib.Core.Path.{_≡_, _∙_}
 use Prim.Native.Nat.{ℕ, _-_, _≤_, _<_}
 use lib.ListN.{length, length-replicate}
 use Rattle.graph.specs.Graph.{degree}
-use Rattle.graph.specs.Tests.{degrees}
+use Rattle.graph.specs.Tests.{mostClasses}
 use Rattle.table.specs.Inner.Cells.{cellsSize}
 use Rattle.edge_lists.specs.EdgeList.{listed, endV, endW, graphOf}
 use Rattle.edge_lists.proofs.List.{graphTo, good}
@@ -54,8 +54,8 @@ cells-of-spec =
     let ea = a .degree-at .ensures ∙ s .pre .3 (endV e i) (omega arith) in
     let eb = b .degree-at2 .ensures ∙ s .pre .3 (endW e i) (omega arith) in
     let low = cells-small e t (s .pre .1) (s .pre .2) (s .pre .0) (degree t (graphOf e)) (l .loop .cells) i (omega arith) (l .loop .inv .2) in
-    let ra : a .degree-at .result < degrees = omega arith in
-    let rb : b .degree-at2 .result < degrees = omega arith in
+    let ra : a .degree-at .result < mostClasses = omega arith in
+    let rb : b .degree-at2 .result < mostClasses = omega arith in
     (ra, rb, cell-room (l .loop .cells) (a .degree-at .result) (b .degree-at2 .result) low ra rb))  -- count-cell-requires
     (λ c. omega arith)  -- add-i
     (λ c. omega arith)  -- loop-less

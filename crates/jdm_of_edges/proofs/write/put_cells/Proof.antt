@@ -8,7 +8,7 @@ use lib.ListN.{length, length-append}
 use lib.Seq.{sets, length-sets}
 use Rattle.finite.specs.Range.{catTo}
 use Rattle.finite.proofs.Fold.{catTo-none, catTo-more, sets-append}
-use Rattle.graph.specs.Tests.{degrees}
+use Rattle.graph.specs.Tests.{mostClasses}
 use Rattle.table.specs.Block.{recordSize}
 use Rattle.table.specs.Inner.Cells.{matrixOf}
 use Rattle.jdm_of_edges.specs.Survey.{cellRecord}
@@ -17,13 +17,13 @@ use Rattle.jdm_of_edges.proofs.write.put_cells.Tie as tie
 
 abbrev Inv-loop : tie.InvT-loop
 Inv-loop cells out₀ at a₀ k₀ out a k =
-    (k ≤ degrees)
-    × (a ≡ at + length (catTo k (λ k. catTo degrees (cellRecord (matrixOf cells) k))))
-    × (a ≤ at + recordSize * degrees * k)
-    × (out ≡ sets out₀ at (catTo k (λ k. catTo degrees (cellRecord (matrixOf cells) k))))
+    (k ≤ mostClasses)
+    × (a ≡ at + length (catTo k (λ k. catTo mostClasses (cellRecord (matrixOf cells) k))))
+    × (a ≤ at + recordSize * mostClasses * k)
+    × (out ≡ sets out₀ at (catTo k (λ k. catTo mostClasses (cellRecord (matrixOf cells) k))))
 
 abbrev μ-loop : tie.MeasureT-loop
-μ-loop cells out₀ at a₀ k₀ out a k = degrees - k
+μ-loop cells out₀ at a₀ k₀ out a k = mostClasses - k
 
 pub put-cells-spec : {M : Type 1} → statement M
 put-cells-spec =
@@ -38,7 +38,7 @@ put-cells-spec =
     let p = c .before .before in
     let l = p .before .before .before in
     let s = l .before .before in
-    let row : ℕ → List ℕ = λ k. catTo degrees (cellRecord (matrixOf (s .args .cells .now)) k) in
+    let row : ℕ → List ℕ = λ k. catTo mostClasses (cellRecord (matrixOf (s .args .cells .now)) k) in
     let more = catTo-more row (l .loop .k) in (
       omega arith,
       rw (more, length-append) (omega arith),
@@ -48,5 +48,5 @@ put-cells-spec =
     (λ c. rw (c .before .loop .inv .3, length-sets))  -- same-length
     (λ c.
     let l = c .before in
-    let e : l .loop .k ≡ degrees = omega arith in
+    let e : l .loop .k ≡ mostClasses = omega arith in
     ((rw e at (l .loop .inv .1), omega arith), rw e at (l .loop .inv .3))))  -- returns

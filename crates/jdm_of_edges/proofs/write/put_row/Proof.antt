@@ -7,7 +7,7 @@ use lib.Seq.{sets, length-sets}
 use borrow.Author.Tests.{le-leb}
 use Rattle.finite.specs.Range.{catTo}
 use Rattle.finite.proofs.Fold.{catTo-more, sets-append}
-use Rattle.graph.specs.Tests.{degrees}
+use Rattle.graph.specs.Tests.{mostClasses}
 use Rattle.table.specs.Block.{recordSize}
 use Rattle.table.specs.Inner.Cells.{matrixOf}
 use Rattle.jdm_of_edges.specs.Survey.{countRecord, cellRecord}
@@ -18,13 +18,13 @@ use Rattle.jdm_of_edges.proofs.write.put_row.Tie as tie
 
 abbrev Inv-loop : tie.InvT-loop
 Inv-loop cells k out₀ at a₀ l₀ out a l =
-    (k ≤ l) × (l ≤ degrees)
+    (k ≤ l) × (l ≤ mostClasses)
     × (a ≡ at + length (catTo l (cellRecord (matrixOf cells) k)))
     × (a ≤ at + recordSize * l)
     × (out ≡ sets out₀ at (catTo l (cellRecord (matrixOf cells) k)))
 
 abbrev μ-loop : tie.MeasureT-loop
-μ-loop cells k out₀ at a₀ l₀ out a l = degrees - l
+μ-loop cells k out₀ at a₀ l₀ out a l = mostClasses - l
 
 pub put-row-spec : {M : Type 1} → statement M
 put-row-spec =
@@ -58,5 +58,5 @@ put-row-spec =
     (λ c. rw (c .before .loop .inv .4, length-sets))  -- same-length
     (λ c.
     let l = c .before in
-    let e : l .loop .l ≡ degrees = omega arith in
+    let e : l .loop .l ≡ mostClasses = omega arith in
     ((rw e at (l .loop .inv .2), omega arith), rw e at (l .loop .inv .4))))  -- returns

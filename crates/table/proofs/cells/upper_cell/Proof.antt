@@ -5,7 +5,7 @@ use Prim.Native.Nat.{ℕ, _+_, _*_, _<_}
 use native.Mathlib.Omega.{arith}
 use lib.ListN.{getD}
 use borrow.Author.Tests.{lt-ltb}
-use Rattle.graph.specs.Tests.{degrees}
+use Rattle.graph.specs.Tests.{mostClasses}
 use Rattle.table.specs.Inner.Cells.{place}
 use Rattle.table.proofs.cells.upper_cell.Statement.{statement}
 use Rattle.table.proofs.cells.upper_cell.Tie as tie
@@ -22,8 +22,8 @@ upper-cell-spec =
     let s = c .before .before in
     let k = s .args .k in
     let l = s .args .l in
-    let e : k * degrees + l ≡ place k l = omega arith in
-    let h : k < degrees = omega arith in (
+    let e : k * mostClasses + l ≡ place k l = omega arith in
+    let h : k < mostClasses = omega arith in (
       rw (lt-ltb _ _ h, lt-ltb _ _ (s .pre .1)) (c .wide32 .ensures .0 ∙ ap (λ (q : ℕ). getD (s .args .cells .now) q 0) e),
       c .wide32 .ensures .1,
     )))  -- returns
