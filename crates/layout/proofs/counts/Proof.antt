@@ -25,16 +25,18 @@ counts-spec =
     (λ c. omega arith)  -- array-write-t
     (λ c. (omega arith, omega arith, sym (fillTo-more _ _ 0 ∙ rw (fillTo-none))))  -- loop-holds
     (λ c κs. (omega arith, c .before .before .pre .0))  -- row-sum-requires
+    (λ c κs. tt)  -- class-degree-requires
     (λ c. omega arith)  -- div-t
     (λ c. omega arith)  -- mul-t
     (λ c. omega arith)  -- array-write-t-2
     (λ c. omega arith)  -- add-k
     (λ c. omega arith)  -- loop-less
     (λ c.
-    let l = c .before .before in
+    let r = c .before in
+    let l = r .before .before in
     let s = l .before in
     let e = count-at (tableIn (s .args .cells .now) (s .args .isolated)) (l .loop .k) (l .loop .inv .0) in
-    (omega arith, omega arith, rw (c .row-sum .ensures .0, fillTo-more, e, l .loop .inv .2)))  -- loop-again
+    (omega arith, omega arith, rw (r .row-sum .ensures .0, c .class-degree .ensures, fillTo-more, e, l .loop .inv .2)))  -- loop-again
     (λ c.
     let l = c .before in
     let s = l .before in
