@@ -7,13 +7,14 @@ use lib.Dec.{leb}
 use Rattle.finite.specs.Range.{allTo}
 use Rattle.finite.proofs.All.{allTo-none, allTo-more}
 use Rattle.graph.specs.Graph.{degree}
+use Rattle.graph.specs.Tests.{classDegree}
 use Rattle.layout.specs.Inner.Arrays.{classIn}
 use Rattle.adjacency.specs.Adjacency.{edge}
 use Rattle.adjacency.proofs.degrees_within.Statement.{statement}
 use Rattle.adjacency.proofs.degrees_within.Tie as tie
 
 abbrev Inv-loop : tie.InvT-loop
-Inv-loop adjacency n classes ok₀ v₀ ok v = (v ≤ n) × (ok ≡ allTo v (λ v. leb (degree n (edge adjacency) v) (classIn classes v)))
+Inv-loop adjacency n classes ok₀ v₀ ok v = (v ≤ n) × (ok ≡ allTo v (λ v. leb (degree n (edge adjacency) v) (classDegree (classIn classes v))))
 
 abbrev μ-loop : tie.MeasureT-loop
 μ-loop adjacency n classes ok₀ v₀ ok v = n - v
@@ -25,9 +26,11 @@ degrees-within-spec =
     (λ c κs. omega arith)  -- degree-of-requires
     (λ c. omega arith)  -- element-copy-out-wide
     (λ c κs. tt)  -- wide-requires
+    (λ c κs. tt)  -- class-degree-requires
     (λ c. omega arith)  -- add-v
     (λ c. omega arith)  -- loop-less
     (λ c.
-    let d = c .before .before in
-    (omega arith, rw (allTo-more, d .before .before .loop .inv .1, d .degree-of .ensures .0, c .wide .ensures .0)))  -- loop-again
+    let w = c .before in
+    let d = w .before .before in
+    (omega arith, rw (allTo-more, d .before .before .loop .inv .1, d .degree-of .ensures .0, c .class-degree .ensures, w .wide .ensures .0)))  -- loop-again
     (λ c. let e : c .before .loop .v ≡ c .before .before .before .args .n = omega arith in rw e at (c .before .loop .inv .1)))  -- returns
