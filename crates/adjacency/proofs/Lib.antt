@@ -4,3 +4,4 @@ pub mod Classes
 pub mod Set
 pub mod Facts
 pub mod Empty
+pub mod Degrees

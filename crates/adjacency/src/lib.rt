@@ -1,18 +1,19 @@
 // The adjacency matrix in lent bytes (document 01: the grid): its check, the count of its edges, the setting of one.
 ghost use mathlib.Core.Path.{_≡_};
 ghost use mathlib.Core.Bool.{true, _&&_, _||_};
-ghost use Prim.Native.Nat.{ℕ, _+_, _-_, _*_, _≤_, _<_};
+ghost use Prim.Native.Nat.{ℕ, _+_, _-_, _*_, _/_, _≤_, _<_};
 ghost use lib.Dec.{eqb, leb, ltb};
-ghost use lib.ListN.{length, getD, take, drop};
+ghost use lib.ListN.{length, getD, take, drop, replicate};
 ghost use Rattle.finite.specs.Range.{δ, sumTo, allTo};
-ghost use Rattle.graph.specs.Graph.{degree, edges};
-ghost use Rattle.graph.specs.Tests.{mostClasses};
+ghost use Rattle.graph.specs.Graph.{degree};
+ghost use Rattle.graph.specs.Tests.{mostClasses, mostDegree, classDegree};
 ghost use Rattle.slices.specs.Slices.{allZero};
 ghost use Rattle.table.specs.Inner.Cells.{matrixOf};
 ghost use Rattle.layout.specs.Layout.{mostVertices};
 ghost use Rattle.layout.specs.Inner.Arrays.{classIn};
-ghost use Rattle.adjacency.specs.Adjacency.{adjacencySize, side, edge, setEdge, rowMirrored, mirrored, zeroOutside, degreesWithin, cellsWithin, adjacencyOk};
+ghost use Rattle.adjacency.specs.Adjacency.{adjacencySize, side, edge, setEdge, rowMirrored, mirrored, zeroOutside, cellsWithin, adjacencyOk};
 ghost use Rattle.adjacency.specs.Inner.Sums.{sumsSize, Added, classEdges};
+ghost use Rattle.adjacency.specs.Inner.Degrees.{degreesOf};
 use layout::MAX_VERTICES;
 use slices::all_zero;
 use slices::byte_sum;
@@ -103,25 +104,35 @@ pub fn degree_of(adjacency: &[u8], n: usize, v: usize) -> usize
     byte_sum(&adjacency[from..to])
 }
 
-// How many edges there are, each counted at its higher end.
-pub fn edge_count(adjacency: &[u8], n: usize) -> usize
-    requires { ⌜ (length (now adjacency) ≡ adjacencySize) × (n ≤ side) ⌝ }
-    ensures { λ r. ⌜ r ≡ edges n (edge (now (adjacency .entry))) ⌝ }
+// The degrees of the n vertices, in an array of zeros.
+fn hold_degrees(adjacency: &[u8], n: usize, held: &mut [usize; MAX_VERTICES])
+    requires { ⌜ (length (now adjacency) ≡ adjacencySize) × (n ≤ side) × (now held ≡ replicate mostVertices 0) ⌝ }
+    ensures { λ _. ⌜ now (held .exit) ≡ degreesOf n (now (adjacency .entry)) ⌝ }
+{
+    for v in 0..n {
+        held[v] = degree_of(adjacency, n, v);
+    }
+}
+
+// How many edges there are, by the degrees of the n vertices: each edge stands at both its ends.
+pub fn edges_held(held: &[usize; MAX_VERTICES], n: usize) -> usize
+    requires { ⌜ (n ≤ side) × ((v : ℕ) → v < n → getD (now held) v 0 ≤ mostDegree) ⌝ }
+    ensures { λ r. ⌜ r ≡ sumTo n (λ v. getD (now (held .entry)) v 0) / 2 ⌝ }
 {
     let mut sum = 0;
     for v in 0..n {
-        sum += degree_of(adjacency, v, v);
+        sum += held[v];
     }
-    sum
+    sum / 2
 }
 
-fn degrees_within(adjacency: &[u8], n: usize, classes: &[u8; MAX_VERTICES]) -> bool
-    requires { ⌜ (length (now adjacency) ≡ adjacencySize) × (n ≤ side) ⌝ }
-    ensures { λ r. ⌜ r ≡ degreesWithin n (classIn (now (classes .entry))) (now (adjacency .entry)) ⌝ }
+fn degrees_within(held: &[usize; MAX_VERTICES], n: usize, classes: &[u8; MAX_VERTICES]) -> bool
+    requires { ⌜ n ≤ side ⌝ }
+    ensures { λ r. ⌜ r ≡ allTo n (λ v. leb (getD (now (held .entry)) v 0) (classDegree (classIn (now (classes .entry)) v))) ⌝ }
 {
     let mut ok = true;
     for v in 0..n {
-        ok = ok & (degree_of(adjacency, n, v) <= class_degree(wide(classes[v])));
+        ok = ok & (held[v] <= class_degree(wide(classes[v])));
     }
     ok
 }
@@ -243,20 +254,23 @@ pub fn set_edge(adjacency: &mut [u8], v: usize, w: usize, x: u8)
     adjacency[w * SIDE + v] = x;
 }
 
-// The matrix is as document 01 lays it down for a laid state with these classes and cells.
+// The matrix is as document 01 lays it down for a laid state with these classes and cells. Where it is, the array of zeros holds the degrees afterwards.
 pub fn adjacency_ok(
     adjacency: &[u8],
     n: usize,
     classes: &[u8; MAX_VERTICES],
     cells: &[u32; CELLS],
+    held: &mut [usize; MAX_VERTICES],
 ) -> bool
-    requires { ⌜ (length (now adjacency) ≡ adjacencySize) × (n ≤ mostVertices) × ((v : ℕ) → v < n → classIn (now classes) v < mostClasses) × ((v w : ℕ) → v ≤ w → w < n → classIn (now classes) v ≤ classIn (now classes) w) ⌝ }
+    requires { ⌜ (length (now adjacency) ≡ adjacencySize) × (n ≤ mostVertices) × ((v : ℕ) → v < n → classIn (now classes) v < mostClasses) × ((v w : ℕ) → v ≤ w → w < n → classIn (now classes) v ≤ classIn (now classes) w) × (now held ≡ replicate mostVertices 0) ⌝ }
     ensures { λ r. ⌜ r ≡ adjacencyOk n (classIn (now (classes .entry))) (matrixOf (now (cells .entry))) (now (adjacency .entry)) ⌝ }
+    ensures { λ r. ⌜ (r ≡ true → now (held .exit) ≡ degreesOf n (now (adjacency .entry))) ⌝ }
 {
     if !is_mirrored(adjacency, n) {
         return false;
     }
+    hold_degrees(adjacency, n, held);
     is_zero_outside(adjacency, n)
-        & degrees_within(adjacency, n, classes)
+        & degrees_within(held, n, classes)
         & cells_within(adjacency, n, classes, cells)
 }

@@ -1,6 +1,7 @@
 // Document 01's tests 9 to 12 on a matrix, D(k), N, and the class of each vertex.
 ghost use mathlib.Core.Path.{_≡_};
 ghost use Prim.Native.Nat.{_*_, _≤_, _<_};
+ghost use lib.ListN.{replicate};
 ghost use Rattle.graph.specs.Numbering.{total, classOf};
 ghost use Rattle.graph.specs.Target.{cellMost};
 ghost use Rattle.graph.specs.Tests.{mostClasses, rowSum, odd, uneven, overfull, firstOdd, firstUneven, firstOverfull, firstOverfullIn, vertices};
@@ -76,17 +77,15 @@ fn first_uneven(cells: &[u32; CELLS]) -> usize
     k
 }
 
-// How many vertices each class has: D(k), and of class 0 the isolated ones.
-pub fn counts(cells: &[u32; CELLS], isolated: usize) -> [usize; MAX_CLASSES]
-    requires { ⌜ AtMost cellSumMost (now cells) × (isolated ≤ cellSumMost) ⌝ }
-    ensures { λ r. ⌜ Counts (now (cells .entry)) r × (countIn r 0 ≡ isolated) ⌝ }
+// How many vertices each class has, in an array of zeros: D(k), and of class 0 the isolated ones.
+pub fn count_classes(cells: &[u32; CELLS], isolated: usize, counts: &mut [usize; MAX_CLASSES])
+    requires { ⌜ AtMost cellSumMost (now cells) × (isolated ≤ cellSumMost) × (now counts ≡ replicate mostClasses 0) ⌝ }
+    ensures { λ _. ⌜ Counts (now (cells .entry)) (now (counts .exit)) × (countIn (now (counts .exit)) 0 ≡ isolated) ⌝ }
 {
-    let mut t = [0usize; MAX_CLASSES];
-    t[0] = isolated;
+    counts[0] = isolated;
     for k in LEAST_CLASS..MAX_CLASSES {
-        t[k] = row_sum(cells, k) / class_degree(k);
+        counts[k] = row_sum(cells, k) / class_degree(k);
     }
-    t
 }
 
 // The most that cell (k, l) can hold: D(k) × D(l), on the diagonal D(k) × (D(k) - 1).

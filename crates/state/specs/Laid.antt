@@ -1,25 +1,25 @@
 -- A laid state's graph: what follows from what the journal says alone, and its cells so far.
 -- Assumes nothing.
 use mathlib.Core.Bool.{Bool}
-use mathlib.Core.List.{List}
 use Prim.Native.Nat.{ℕ}
 use lib.Dec.{ltb}
 use Rattle.graph.specs.Graph.{jdm}
 use Rattle.graph.specs.Tests.{vertices, vertexClass}
 use Rattle.journal.specs.Journal.{jdmOf, tableOf}
 use Rattle.adjacency.specs.Adjacency.{edge}
+use Rattle.state.specs.State.{State}
 
--- N, and the degree of vertex v
-abbrev pub vertexCount : List ℕ → ℕ
-vertexCount j = vertices (tableOf j)
+-- N, and the class of vertex v
+abbrev pub vertexCount : State → ℕ
+vertexCount s = vertices (tableOf (s .journal))
 
-abbrev pub classAt : List ℕ → ℕ → ℕ
-classAt j = vertexClass (tableOf j)
+abbrev pub classAt : State → ℕ → ℕ
+classAt s = vertexClass (tableOf (s .journal))
 
--- cell (k, l) of the edges so far: equation (1) at the degrees laid out
-abbrev pub cellAt : List ℕ → List ℕ → ℕ → ℕ → ℕ
-cellAt j g = jdm (vertexCount j) (classAt j) (edge g)
+-- cell (k, l) of the edges so far: equation (1) at the classes laid out
+abbrev pub cellAt : State → ℕ → ℕ → ℕ
+cellAt s = jdm (vertexCount s) (classAt s) (edge (s .adjacency))
 
 -- the cell is below the table (document 01: it is short)
-abbrev pub isShort : List ℕ → List ℕ → ℕ → ℕ → Bool
-isShort j g k l = ltb (cellAt j g k l) (jdmOf j k l)
+abbrev pub isShort : State → ℕ → ℕ → Bool
+isShort s k l = ltb (cellAt s k l) (jdmOf (s .journal) k l)

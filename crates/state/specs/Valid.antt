@@ -1,6 +1,7 @@
--- The state: a journal j and an adjacency matrix g (document 01: the bench), and when it is valid (document 01: sound).
+-- When a state is valid (document 01: sound).
 -- Assumes nothing.
-use mathlib.Core.Bool.{Bool, _&&_, cond}
+use mathlib.Core.Path.{_≡_}
+use mathlib.Core.Bool.{Bool, true, _&&_, cond}
 use mathlib.Core.List.{List}
 use Prim.Native.Nat.{ℕ}
 use lib.Dec.{eqb, leb}
@@ -11,15 +12,23 @@ use Rattle.slices.specs.Slices.{allZero}
 use Rattle.layout.specs.Layout.{mostVertices}
 use Rattle.journal.specs.Journal.{journalSize, phase, journalOk, tableOf}
 use Rattle.adjacency.specs.Adjacency.{adjacencySize, adjacencyOk}
+use Rattle.state.specs.State.{State}
 
 -- both have their lengths
-abbrev pub lengthsOk : List ℕ → List ℕ → Bool
-lengthsOk j g = eqb (length j) journalSize && eqb (length g) adjacencySize
+abbrev pub lengthsOk : State → Bool
+lengthsOk s = eqb (length (s .journal)) journalSize && eqb (length (s .adjacency)) adjacencySize
 
 -- in phase 1: the summed table passes the tests 9 to 12, and the matrix is one of its partial graphs
 abbrev pub laidOk : DegreeTable → List ℕ → Bool
 laidOk t g = passes (t .cells) && leb (vertices t) mostVertices && adjacencyOk (vertices t) (vertexClass t) (t .cells) g
 
 -- The journal is as laid down; in phase 0 the matrix is all zero, in phase 1 it is as above.
-abbrev pub valid : List ℕ → List ℕ → Bool
-valid j g = journalOk j && cond (eqb (phase j) 0) (allZero g) (laidOk (tableOf j) g)
+abbrev pub valid : State → Bool
+valid s =
+    journalOk (s .journal) && cond (eqb (phase (s .journal)) 0) (allZero (s .adjacency)) (laidOk (tableOf (s .journal)) (s .adjacency))
+
+-- a "laid bench": valid, in phase 1
+pub record ValidLaid (s : State) : Type 0 where
+  pub lengths : lengthsOk s ≡ true
+  pub is-valid : valid s ≡ true
+  pub phased : phase (s .journal) ≡ 1

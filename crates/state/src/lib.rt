@@ -1,14 +1,19 @@
-// The state: journal and adjacency together, and the checks of both with which every entry but clear and survey begins.
+// The state: journal and adjacency together, and the checks of both with which every entry but clear and survey begins. A laid state is checked
+// once: the arrays that its check counts in are lent by the entry, which goes on with them.
 ghost use mathlib.Core.Path.{_≡_};
 ghost use mathlib.Core.Bool.{true};
 ghost use lib.ListN.{length, replicate};
+ghost use Rattle.answer.specs.declared.Verdict.the-variants.{Go};
+ghost use Rattle.graph.specs.Tests.{mostClasses};
 ghost use Rattle.table.specs.Inner.Cells.{cellsSize, AtMost, cellSumMost};
+ghost use Rattle.layout.specs.Layout.{mostVertices};
 ghost use Rattle.layout.specs.Inner.Arrays.{countIn, tableIn, Counts};
 ghost use Rattle.journal.specs.Journal.{journalSize, journalOk, tableOf};
 ghost use Rattle.adjacency.specs.Adjacency.{adjacencySize};
-ghost use Rattle.state.specs.Valid.{lengthsOk, laidOk, valid};
-ghost use Rattle.state.specs.Checks.{stateVerdict, phaseVerdict};
-ghost use Rattle.state.specs.Laid.{vertexCount};
+ghost use Rattle.state.specs.State.{stateOf};
+ghost use Rattle.state.specs.Valid.{lengthsOk, laidOk};
+ghost use Rattle.state.specs.Checks.{stateVerdict, phaseVerdict, pairVerdict};
+ghost use Rattle.state.specs.Inner.Opened.{frontVerdict, laidFront, Opened};
 use adjacency::ADJACENCY_BYTES;
 use adjacency::adjacency_ok;
 use answer::Cause;
@@ -18,8 +23,9 @@ use journal::JOURNAL_BYTES;
 use journal::journal_ok;
 use journal::phase_of;
 use journal::sum_blocks;
+use layout::MAX_VERTICES;
 use layout::classes;
-use layout::counts;
+use layout::count_classes;
 use layout::layout_check;
 use layout::vertex_count;
 use table::cells::CELLS;
@@ -27,67 +33,119 @@ use table::class::MAX_CLASSES;
 
 // Both have their lengths.
 pub fn lengths_ok(journal: &[u8], adjacency: &[u8]) -> bool
-    ensures { λ r. ⌜ r ≡ lengthsOk (now (journal .entry)) (now (adjacency .entry)) ⌝ }
+    ensures { λ r. ⌜ r ≡ lengthsOk (stateOf (now (journal .entry)) (now (adjacency .entry))) ⌝ }
 {
     (journal.len() == JOURNAL_BYTES) & (adjacency.len() == ADJACENCY_BYTES)
 }
 
-// What the journal says: the cells of its table, in an array of zeros, and how many vertices each degree has.
-pub fn sum_table(journal: &[u8], cells: &mut [u32; CELLS]) -> [usize; MAX_CLASSES]
-    requires { ⌜ (length (now journal) ≡ journalSize) × (journalOk (now journal) ≡ true) × (now cells ≡ replicate cellsSize 0) ⌝ }
-    ensures { λ r. ⌜ (tableIn (now (cells .exit)) (countIn r 0) ≡ tableOf (now (journal .entry))) × AtMost cellSumMost (now (cells .exit)) × Counts (now (cells .exit)) r ⌝ }
+// What the journal says, in two arrays of zeros: the cells of its table, and how many vertices each class has.
+pub fn sum_table(journal: &[u8], cells: &mut [u32; CELLS], counts: &mut [usize; MAX_CLASSES])
+    requires { ⌜ (length (now journal) ≡ journalSize) × (journalOk (now journal) ≡ true) × (now cells ≡ replicate cellsSize 0) × (now counts ≡ replicate mostClasses 0) ⌝ }
+    ensures { λ _. ⌜ (tableIn (now (cells .exit)) (countIn (now (counts .exit)) 0) ≡ tableOf (now (journal .entry))) × AtMost cellSumMost (now (cells .exit)) × Counts (now (cells .exit)) (now (counts .exit)) ⌝ }
 {
     let isolated = sum_blocks(journal, cells);
-    counts(cells, isolated)
+    count_classes(cells, isolated, counts);
 }
 
-// Phase 1: the table passes its tests, and the matrix is one of its partial graphs.
+// The check 2 of a laid matrix: the table passes its tests, and the matrix is one of its partial graphs. Where it passes, the arrays, which are zeros
+// before it, are what it has counted.
+pub fn open(
+    journal: &[u8],
+    adjacency: &[u8],
+    cells: &mut [u32; CELLS],
+    counts: &mut [usize; MAX_CLASSES],
+    held: &mut [usize; MAX_VERTICES],
+) -> bool
+    requires { ⌜ (length (now journal) ≡ journalSize) × (length (now adjacency) ≡ adjacencySize) × (journalOk (now journal) ≡ true) × (now cells ≡ replicate cellsSize 0) × (now counts ≡ replicate mostClasses 0) × (now held ≡ replicate mostVertices 0) ⌝ }
+    ensures { λ r. ⌜ r ≡ laidOk (tableOf (now (journal .entry))) (now (adjacency .entry)) ⌝ }
+    ensures { λ r. ⌜ (r ≡ true → Opened (stateOf (now (journal .entry)) (now (adjacency .entry))) (now (cells .exit)) (now (counts .exit)) (now (held .exit))) ⌝ }
+{
+    sum_table(journal, cells, counts);
+    let verdict = layout_check(cells, counts);
+    match verdict {
+        Verdict::Stop(_) => false,
+        Verdict::Go => {
+            let n = vertex_count(cells, counts);
+            let c = classes(cells, counts);
+            adjacency_ok(adjacency, n, &c, cells, held)
+        }
+    }
+}
+
+// The same for a call that goes on with nothing.
 fn is_laid_ok(journal: &[u8], adjacency: &[u8]) -> bool
     requires { ⌜ (length (now journal) ≡ journalSize) × (length (now adjacency) ≡ adjacencySize) × (journalOk (now journal) ≡ true) ⌝ }
     ensures { λ r. ⌜ r ≡ laidOk (tableOf (now (journal .entry))) (now (adjacency .entry)) ⌝ }
 {
     let mut cells = [0u32; CELLS];
-    let d = sum_table(journal, &mut cells);
-    let verdict = layout_check(&cells, &d);
-    match verdict {
-        Verdict::Stop(_) => false,
-        Verdict::Go => {
-            let n = vertex_count(&cells, &d);
-            let c = classes(&cells, &d);
-            adjacency_ok(adjacency, n, &c, &cells)
-        }
-    }
+    let mut counts = [0usize; MAX_CLASSES];
+    let mut held = [0usize; MAX_VERTICES];
+    open(journal, adjacency, &mut cells, &mut counts, &mut held)
 }
 
-fn is_valid(journal: &[u8], adjacency: &[u8]) -> bool
-    requires { ⌜ (length (now journal) ≡ journalSize) × (length (now adjacency) ≡ adjacencySize) ⌝ }
-    ensures { λ r. ⌜ r ≡ valid (now (journal .entry)) (now (adjacency .entry)) ⌝ }
-{
-    if !journal_ok(journal) {
-        return false;
-    }
-    if phase_of(journal) == 0 {
-        return slices::all_zero(adjacency);
-    }
-    is_laid_ok(journal, adjacency)
-}
-
-// The checks 1 and 2.
-pub fn state_check(journal: &[u8], adjacency: &[u8]) -> Verdict
-    ensures { λ r. ⌜ r ≡ stateVerdict (now (journal .entry)) (now (adjacency .entry)) ⌝ }
+// The check 1 and, of 2, all but a laid matrix.
+pub fn front_check(journal: &[u8], adjacency: &[u8]) -> Verdict
+    ensures { λ r. ⌜ r ≡ frontVerdict (stateOf (now (journal .entry)) (now (adjacency .entry))) ⌝ }
 {
     if !lengths_ok(journal, adjacency) {
         return stopped(Cause::WrongLength);
     }
-    if !is_valid(journal, adjacency) {
+    if !journal_ok(journal) {
+        return stopped(Cause::InvalidState);
+    }
+    if phase_of(journal) != 0 {
+        return Verdict::Go;
+    }
+    if !slices::all_zero(adjacency) {
         return stopped(Cause::InvalidState);
     }
     Verdict::Go
 }
 
+// And 3, for a call that needs a laid state: `open` is what is left to check.
+pub fn laid_check(journal: &[u8], adjacency: &[u8]) -> Verdict
+    ensures { λ r. ⌜ r ≡ laidFront (stateOf (now (journal .entry)) (now (adjacency .entry))) ⌝ }
+{
+    let verdict = front_check(journal, adjacency);
+    match verdict {
+        Verdict::Stop(r) => Verdict::Stop(r),
+        Verdict::Go => {
+            if phase_of(journal) != 1 {
+                return stopped(Cause::WrongPhase);
+            }
+            Verdict::Go
+        }
+    }
+}
+
+// The matrix of a state whose front passes.
+fn matrix_check(journal: &[u8], adjacency: &[u8]) -> Verdict
+    requires { ⌜ frontVerdict (stateOf (now journal) (now adjacency)) ≡ Go ⌝ }
+    ensures { λ r. ⌜ r ≡ stateVerdict (stateOf (now (journal .entry)) (now (adjacency .entry))) ⌝ }
+{
+    if phase_of(journal) == 0 {
+        return Verdict::Go;
+    }
+    if !is_laid_ok(journal, adjacency) {
+        return stopped(Cause::InvalidState);
+    }
+    Verdict::Go
+}
+
+// The checks 1 and 2.
+pub fn state_check(journal: &[u8], adjacency: &[u8]) -> Verdict
+    ensures { λ r. ⌜ r ≡ stateVerdict (stateOf (now (journal .entry)) (now (adjacency .entry))) ⌝ }
+{
+    let verdict = front_check(journal, adjacency);
+    match verdict {
+        Verdict::Stop(r) => Verdict::Stop(r),
+        Verdict::Go => matrix_check(journal, adjacency),
+    }
+}
+
 // And 3, for a call that needs this phase.
 pub fn phase_check(journal: &[u8], adjacency: &[u8], phase: usize) -> Verdict
-    ensures { λ r. ⌜ r ≡ phaseVerdict phase (now (journal .entry)) (now (adjacency .entry)) ⌝ }
+    ensures { λ r. ⌜ r ≡ phaseVerdict phase (stateOf (now (journal .entry)) (now (adjacency .entry))) ⌝ }
 {
     let verdict = state_check(journal, adjacency);
     match verdict {
@@ -101,12 +159,18 @@ pub fn phase_check(journal: &[u8], adjacency: &[u8], phase: usize) -> Verdict
     }
 }
 
-// N of a laid state.
-pub fn laid_vertices(journal: &[u8]) -> usize
-    requires { ⌜ (length (now journal) ≡ journalSize) × (journalOk (now journal) ≡ true) ⌝ }
-    ensures { λ r. ⌜ r ≡ vertexCount (now (journal .entry)) ⌝ }
+// The checks 13 and 14 of a pair.
+pub fn pair_check(n: usize, v: usize, w: usize) -> Verdict
+    ensures { λ r. ⌜ r ≡ pairVerdict n v w ⌝ }
 {
-    let mut cells = [0u32; CELLS];
-    let d = sum_table(journal, &mut cells);
-    vertex_count(&cells, &d)
+    if n <= v {
+        return stopped(Cause::NoSuchVertex);
+    }
+    if n <= w {
+        return stopped(Cause::NoSuchVertex);
+    }
+    if v == w {
+        return stopped(Cause::SameVertex);
+    }
+    Verdict::Go
 }

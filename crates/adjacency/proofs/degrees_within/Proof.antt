@@ -4,26 +4,26 @@ use mathlib.Core.Path.{_≡_}
 use Prim.Native.Nat.{_≤_, _-_}
 use native.Mathlib.Omega.{arith}
 use lib.Dec.{leb}
+use lib.ListN.{getD}
 use Rattle.finite.specs.Range.{allTo}
 use Rattle.finite.proofs.All.{allTo-none, allTo-more}
-use Rattle.graph.specs.Graph.{degree}
 use Rattle.graph.specs.Tests.{classDegree}
 use Rattle.layout.specs.Inner.Arrays.{classIn}
-use Rattle.adjacency.specs.Adjacency.{edge}
 use Rattle.adjacency.proofs.degrees_within.Statement.{statement}
 use Rattle.adjacency.proofs.degrees_within.Tie as tie
 
 abbrev Inv-loop : tie.InvT-loop
-Inv-loop adjacency n classes ok₀ v₀ ok v = (v ≤ n) × (ok ≡ allTo v (λ v. leb (degree n (edge adjacency) v) (classDegree (classIn classes v))))
+Inv-loop held n classes ok₀ v₀ ok v = (v ≤ n) × (ok ≡ allTo v (λ v. leb (getD held v 0) (classDegree (classIn classes v))))
 
 abbrev μ-loop : tie.MeasureT-loop
-μ-loop adjacency n classes ok₀ v₀ ok v = n - v
+μ-loop held n classes ok₀ v₀ ok v = n - v
 
 pub degrees-within-spec : {M : Type 1} → statement M
 degrees-within-spec =
     tie.close (tie.spec Inv-loop μ-loop
     (λ c. (omega arith, rw allTo-none))  -- loop-holds
-    (λ c κs. omega arith)  -- degree-of-requires
+    (λ c. omega arith)  -- mul-ok
+    (λ c. omega arith)  -- element-copy-out-ok
     (λ c. omega arith)  -- element-copy-out-wide
     (λ c κs. tt)  -- wide-requires
     (λ c κs. tt)  -- class-degree-requires
@@ -31,6 +31,6 @@ degrees-within-spec =
     (λ c. omega arith)  -- loop-less
     (λ c.
     let w = c .before in
-    let d = w .before .before in
-    (omega arith, rw (allTo-more, d .before .before .loop .inv .1, d .degree-of .ensures .0, c .class-degree .ensures, w .wide .ensures .0)))  -- loop-again
-    (λ c. let e : c .before .loop .v ≡ c .before .before .before .args .n = omega arith in rw e at (c .before .loop .inv .1)))  -- returns
+    let l = w .before .before .before .before in
+    (omega arith, rw (allTo-more, l .loop .inv .1, c .class-degree .ensures, w .wide .ensures .0)))  -- loop-again
+    (λ c. let e : c .before .loop .v ≡ c .before .before .args .n = omega arith in rw e at (c .before .loop .inv .1)))  -- returns

@@ -3,6 +3,7 @@
 use mathlib.Core.Path.{sym, _∙_}
 use borrow.Author.Needs.{needs}
 use borrow.Author.Tests.{eq-eqb, ne-eqb}
+use Rattle.state.specs.State.{stateOf}
 use Rattle.state.proofs.Checks.{state-facts}
 use Rattle.state.proofs.phase_check.Statement.{statement}
 use Rattle.state.proofs.phase_check.Tie as tie
@@ -16,7 +17,7 @@ phase-check-spec =
     (λ c κs.
     let s = c .before .before in
     let a = s .before .before .before .args in
-    state-facts (a .journal .now) (a .adjacency .now) (sym (s .state-check .ensures) ∙ c .enum-told .given .1) .journal-length)  -- phase-of-requires
+    state-facts (stateOf (a .journal .now) (a .adjacency .now)) (sym (s .state-check .ensures) ∙ c .enum-told .given .1) .journal-length)  -- phase-of-requires
     (λ c κs. tt)  -- stopped-requires
     (λ c.
     let i = c .before in

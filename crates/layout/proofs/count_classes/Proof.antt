@@ -1,4 +1,4 @@
--- `layout::counts` meets its contract: after k turns the counts of the degrees below k are filled in.
+-- `layout::count_classes` meets its contract: after k turns the counts of the classes below k are filled in.
 -- Assumes nothing.
 use mathlib.Core.Path.{_≡_, sym, _∙_}
 use Prim.Native.Nat.{_≤_, _-_}
@@ -10,25 +10,25 @@ use Rattle.graph.specs.Tests.{mostClasses, classCount}
 use Rattle.graph.proofs.Counts.{count-at}
 use Rattle.layout.specs.Inner.Arrays.{tableIn}
 use Rattle.layout.proofs.Counted.{counts-made}
-use Rattle.layout.proofs.counts.Statement.{statement}
-use Rattle.layout.proofs.counts.Tie as tie
+use Rattle.layout.proofs.count_classes.Statement.{statement}
+use Rattle.layout.proofs.count_classes.Tie as tie
 
 abbrev Inv-loop : tie.InvT-loop
-Inv-loop cells isolated t₀ k₀ t k = (1 ≤ k) × (k ≤ mostClasses) × (t ≡ fillTo k (classCount (tableIn cells isolated)) (replicate mostClasses 0))
+Inv-loop cells isolated counts₀ k₀ counts k = (1 ≤ k) × (k ≤ mostClasses) × (counts ≡ fillTo k (classCount (tableIn cells isolated)) (replicate mostClasses 0))
 
 abbrev μ-loop : tie.MeasureT-loop
-μ-loop cells isolated t₀ k₀ t k = mostClasses - k
+μ-loop cells isolated counts₀ k₀ counts k = mostClasses - k
 
-pub counts-spec : {M : Type 1} → statement M
-counts-spec =
+pub count-classes-spec : {M : Type 1} → statement M
+count-classes-spec =
     tie.close (tie.spec Inv-loop μ-loop
-    (λ c. omega arith)  -- array-write-t
-    (λ c. (omega arith, omega arith, sym (fillTo-more _ _ 0 ∙ rw (fillTo-none))))  -- loop-holds
+    (λ c. omega arith)  -- element-write-counts
+    (λ c. (omega arith, omega arith, rw (c .pre .2) (sym (fillTo-more _ _ 0 ∙ rw (fillTo-none)))))  -- loop-holds
     (λ c κs. (omega arith, c .before .before .pre .0))  -- row-sum-requires
     (λ c κs. tt)  -- class-degree-requires
-    (λ c. omega arith)  -- div-t
-    (λ c. omega arith)  -- mul-t
-    (λ c. omega arith)  -- array-write-t-2
+    (λ c. omega arith)  -- div-counts
+    (λ c. omega arith)  -- mul-counts
+    (λ c. omega arith)  -- element-write-counts-2
     (λ c. omega arith)  -- add-k
     (λ c. omega arith)  -- loop-less
     (λ c.

@@ -1,0 +1,33 @@
+-- `adjacency::hold_degrees` meets its contract: after v turns the degrees of the first v vertices are filled in.
+-- Assumes nothing.
+use mathlib.Core.Path.{_≡_, sym, _∙_}
+use Prim.Native.Nat.{_≤_, _-_}
+use native.Mathlib.Omega.{arith}
+use lib.ListN.{replicate}
+use Rattle.finite.specs.Inner.Fill.{fillTo}
+use Rattle.finite.proofs.Fold.{fillTo-none, fillTo-more}
+use Rattle.graph.specs.Graph.{degree}
+use Rattle.layout.specs.Layout.{mostVertices}
+use Rattle.adjacency.specs.Adjacency.{edge}
+use Rattle.adjacency.proofs.hold_degrees.Statement.{statement}
+use Rattle.adjacency.proofs.hold_degrees.Tie as tie
+
+abbrev Inv-loop : tie.InvT-loop
+Inv-loop adjacency n held₀ v₀ held v = (v ≤ n) × (held ≡ fillTo v (degree n (edge adjacency)) (replicate mostVertices 0))
+
+abbrev μ-loop : tie.MeasureT-loop
+μ-loop adjacency n held₀ v₀ held v = n - v
+
+pub hold-degrees-spec : {M : Type 1} → statement M
+hold-degrees-spec =
+    tie.close (tie.spec Inv-loop μ-loop
+    (λ c. (omega arith, c .before .pre .2 ∙ sym (fillTo-none _ _)))  -- loop-holds
+    (λ c κs. omega arith)  -- degree-of-requires
+    (λ c. omega arith)  -- mul-held
+    (λ c. omega arith)  -- element-write-held
+    (λ c. omega arith)  -- add-v
+    (λ c. omega arith)  -- loop-less
+    (λ c.
+    let l = c .before .before in
+    (omega arith, rw (c .degree-of .ensures .0, fillTo-more, l .loop .inv .1)))  -- loop-again
+    (λ c. let e : c .before .loop .v ≡ c .before .before .before .args .n = omega arith in rw e at (c .before .loop .inv .1)))  -- returns
