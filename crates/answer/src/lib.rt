@@ -96,7 +96,7 @@ pub enum RemoveAnswer {
 
 // Which open pair completing joins next (document 01: finish): the lowest one of the lowest short cell, or the one that x picks, from this x on
 // (document 02, P7).
-pub enum Finish {
+pub enum Choice {
     Lowest,
     Picked(u32),
 }

@@ -33,7 +33,7 @@ use Rattle.state.proofs.Facts.{edgeTotal, StateFacts, Laid, valid-facts, length
 use Rattle.state.proofs.Checks.{phase-passed, phase-go}
 use Rattle.state.proofs.Graph.{laid-valid}
 use Rattle.join_records.specs.Record.{joinRecordSize}
-use Rattle.complete.specs.Complete.{Ran, mostEdges, fresh, completed, missing, finishLaid, finishAnswer}
+use Rattle.complete.specs.Complete.{Ran, mostEdges, fresh, completed, missing, ranLaid, ranAnswer}
 use Rattle.complete.proofs.Works.{few-edges, Good, Finished, finishes}
 use Rattle.complete.proofs.Records.{Recorded, completed-length}
 
@@ -65,7 +65,7 @@ module _ (j g : List ℕ) where
       pub switches-are : switches ≡ r .switches
       pub length-is : n ≡ length (r .records)
 
-    pub completed-facts : (m joins switches n : ℕ) → finishAnswer r j g m ≡ Completed joins switches n → CompletedFacts m joins switches n
+    pub completed-facts : (m joins switches n : ℕ) → ranAnswer r j g m ≡ Completed joins switches n → CompletedFacts m joins switches n
     completed-facts m joins switches n e =
         let no = refused-not-completed joins switches n in
         let p = unless-stopped-passed (phaseVerdict 1 j g) Refused _ (Completed joins switches n) no e in
@@ -80,17 +80,17 @@ module _ (j g : List ℕ) where
 
     -- by the room that an output of m bytes has
     module _ (m : ℕ) where
-      pub laid-roomy : joinRecordSize * missing j g ≤ m → finishLaid r j g m ≡ Completed (r .joins) (r .switches) (length (r .records))
+      pub laid-roomy : joinRecordSize * missing j g ≤ m → ranLaid r j g m ≡ Completed (r .joins) (r .switches) (length (r .records))
       laid-roomy h = rw (le-leb (joinRecordSize * missing j g) m h)
 
-      pub laid-short : m < joinRecordSize * missing j g → finishLaid r j g m ≡ Refused (refusal OutputTooShort 0 0)
+      pub laid-short : m < joinRecordSize * missing j g → ranLaid r j g m ≡ Refused (refusal OutputTooShort 0 0)
       laid-short h = rw (lt-leb (joinRecordSize * missing j g) m h)
 
       pub facts-completed : CompleteFacts j g → joinRecordSize * missing j g ≤ m
-          → finishAnswer r j g m ≡ Completed (r .joins) (r .switches) (length (r .records))
+          → ranAnswer r j g m ≡ Completed (r .joins) (r .switches) (length (r .records))
       facts-completed f h = rw (phase-go 1 j g (f .lengths) (f .sound) (f .phased)) (laid-roomy h)
 
-      pub short-refused : CompleteFacts j g → m < joinRecordSize * missing j g → finishAnswer r j g m ≡ Refused (refusal OutputTooShort 0 0)
+      pub short-refused : CompleteFacts j g → m < joinRecordSize * missing j g → ranAnswer r j g m ≡ Refused (refusal OutputTooShort 0 0)
       short-refused f h = rw (phase-go 1 j g (f .lengths) (f .sound) (f .phased)) (laid-short h)
 
   -- a valid laid state is where a run may begin

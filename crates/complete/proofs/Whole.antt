@@ -28,7 +28,7 @@ use Rattle.finite.specs.Range.{sumTo}
 use Rattle.classes.specs.Inner.Block.{startsOf, classFrom}
 use Rattle.classes.proofs.Blocks.{table-numbered, table-classes}
 use Rattle.join_records.specs.Record.{joinRecordSize}
-use Rattle.complete.specs.Complete.{Ran, fresh, run, mostEdges, completed, missing, finishLaid, finishAdjacency, finishOutput}
+use Rattle.complete.specs.Complete.{Ran, fresh, run, mostEdges, completed, missing, ranLaid, ranAfter, ranOutput}
 use Rattle.complete.specs.Inner.Cellwise.{Filling, fillAll}
 use Rattle.complete.specs.Inner.Work.{WroteRecords, Working}
 use Rattle.complete.proofs.Cellwise.{edges-within, fill-all}
@@ -130,9 +130,9 @@ module _ (j g : List ℕ) {q : Ran} (works : CompleteWorks j g q) {r : Ran} (e :
   -- its records stand at the start of the output out′
   pub work-done : (out out′ : List ℕ) → joinRecordSize * missing j g ≤ length out → WroteRecords 0 (r .joins) out out′
       → take (joinRecordSize * r .joins) out′ ≡ r .records
-      → (Completed (r .joins) (r .switches) (joinRecordSize * r .joins) ≡ finishLaid q j g (length out))
-      × ((r .adjacency ≡ finishAdjacency (finishLaid q j g (length out)) q g)
-      × (out′ ≡ finishOutput (finishLaid q j g (length out)) q out))
+      → (Completed (r .joins) (r .switches) (joinRecordSize * r .joins) ≡ ranLaid q j g (length out))
+      × ((r .adjacency ≡ ranAfter (ranLaid q j g (length out)) q g)
+      × (out′ ≡ ranOutput (ranLaid q j g (length out)) q out))
   work-done out out′ fits recorded records =
       let whole = wrote-all (r .joins) out out′ (r .records) recorded (omega (arith, made, fits)) records in
       rw (laid-roomy j g q (length out) fits) (

@@ -17,6 +17,7 @@ use Rattle.graph.specs.Tests.{mostDegree, mostClasses}
 use Rattle.layout.specs.Layout.{mostVertices, wanted}
 use Rattle.journal.specs.Journal.{jdmOf}
 use Rattle.adjacency.specs.Adjacency.{edge}
+use Rattle.state.specs.State.{State, withMatrix}
 use Rattle.state.specs.Checks.{phaseVerdict}
 use Rattle.state.specs.Laid.{vertexCount, classAt}
 use Rattle.joining.specs.Join.{joinBytes, joinSwitches}
@@ -66,40 +67,46 @@ abbrev pub mostEdges : ℕ
 mostEdges = mostVertices * mostDegree / 2
 
 -- a laid state completed
-abbrev pub completed : List ℕ → List ℕ → Ran
-completed j g = run mostEdges (vertexCount j) (classAt j) (jdmOf j) (fresh g)
+abbrev pub completed : State → Ran
+completed s = run mostEdges (vertexCount s) (classAt s) (jdmOf (s .journal)) (fresh (s .adjacency))
 
 -- the edges that are missing: wanted, less those laid
-abbrev pub missing : List ℕ → List ℕ → ℕ
-missing j g = wanted (jdmOf j) - edges (vertexCount j) (edge g)
+abbrev pub missing : State → ℕ
+missing s = wanted (jdmOf (s .journal)) - edges (vertexCount s) (edge (s .adjacency))
 
 -- What is answered where the work ends in r, whichever pairs it joins: on a valid laid state, for an output of m bytes, the check 18 before
 -- anything is joined
-abbrev pub finishLaid : Ran → List ℕ → List ℕ → ℕ → CompleteAnswer
-finishLaid r j g m =
-    unless (leb (joinRecordSize * missing j g) m) (Refused (refusal OutputTooShort 0 0))
+abbrev pub ranLaid : Ran → State → ℕ → CompleteAnswer
+ranLaid r s m =
+    unless (leb (joinRecordSize * missing s) m) (Refused (refusal OutputTooShort 0 0))
     (Completed (r .joins) (r .switches) (length (r .records)))
 
 -- the checks 1, 2, 3, then 18
-abbrev pub finishAnswer : Ran → List ℕ → List ℕ → ℕ → CompleteAnswer
-finishAnswer r j g m = unlessStopped (phaseVerdict 1 j g) Refused (finishLaid r j g m)
+abbrev pub ranAnswer : Ran → State → ℕ → CompleteAnswer
+ranAnswer r s m = unlessStopped (phaseVerdict 1 s) Refused (ranLaid r s m)
 
--- the matrix afterwards
-abbrev pub finishAdjacency : CompleteAnswer → Ran → List ℕ → List ℕ
-finishAdjacency (Completed joins switches n) r g = r .adjacency
-finishAdjacency (Refused x) r g = g
+-- the state afterwards
+abbrev pub afterRan : CompleteAnswer → Ran → State → State
+afterRan (Completed joins switches n) r s = withMatrix s (r .adjacency)
+afterRan (Refused x) r s = s
+
+abbrev pub ranAfter : Ran → State → ℕ → State
+ranAfter r s m = afterRan (ranAnswer r s m) r s
 
 -- the output afterwards: the records, and behind them what was there
-abbrev pub finishOutput : CompleteAnswer → Ran → List ℕ → List ℕ
-finishOutput (Completed joins switches n) r out = sets out 0 (r .records)
-finishOutput (Refused x) r out = out
+abbrev pub outputRan : CompleteAnswer → Ran → List ℕ → List ℕ
+outputRan (Completed joins switches n) r out = sets out 0 (r .records)
+outputRan (Refused x) r out = out
 
--- completing
-abbrev pub completeAnswer : List ℕ → List ℕ → ℕ → CompleteAnswer
-completeAnswer j g m = finishAnswer (completed j g) j g m
+abbrev pub ranOutput : Ran → State → List ℕ → List ℕ
+ranOutput r s out = outputRan (ranAnswer r s (length out)) r out
 
-abbrev pub completeAdjacency : CompleteAnswer → List ℕ → List ℕ → List ℕ
-completeAdjacency a j g = finishAdjacency a (completed j g) g
+-- completing, for an output of m bytes, or for one that is lent as `out`
+abbrev pub completeAnswer : State → ℕ → CompleteAnswer
+completeAnswer s m = ranAnswer (completed s) s m
 
-abbrev pub completeOutput : CompleteAnswer → List ℕ → List ℕ → List ℕ → List ℕ
-completeOutput a j g out = finishOutput a (completed j g) out
+abbrev pub completeAfter : State → ℕ → State
+completeAfter s m = ranAfter (completed s) s m
+
+abbrev pub completeOutput : State → List ℕ → List ℕ
+completeOutput s out = ranOutput (completed s) s out

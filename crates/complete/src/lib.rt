@@ -4,7 +4,7 @@ ghost use mathlib.Core.Path.{_≡_};
 ghost use lib.ListN.{length};
 ghost use Rattle.answer.specs.declared.Verdict.the-variants.{Go};
 ghost use Rattle.state.specs.Checks.{phaseVerdict};
-ghost use Rattle.complete.specs.Complete.{completed, finishLaid, finishAdjacency, finishOutput, completeAnswer, completeAdjacency, completeOutput};
+ghost use Rattle.complete.specs.Complete.{completed, ranLaid, ranAfter, ranOutput, completeAnswer, completeAdjacency, completeOutput};
 
 pub mod cell;
 pub mod fill;
@@ -25,9 +25,9 @@ use table::cells::CELLS;
 // On a valid laid state: the check 18, then the joins that are missing.
 fn complete_laid(journal: &[u8], adjacency: &mut [u8], output: &mut [u8]) -> CompleteAnswer
     requires { ⌜ phaseVerdict 1 (now journal) (now adjacency) ≡ Go ⌝ }
-    ensures { λ r. ⌜ r ≡ finishLaid (completed (now (journal .entry)) (now (adjacency .entry))) (now (journal .entry)) (now (adjacency .entry)) (length (now (output .entry))) ⌝ }
-    ensures { λ _. ⌜ now (adjacency .exit) ≡ finishAdjacency (finishLaid (completed (now (journal .entry)) (now (adjacency .entry))) (now (journal .entry)) (now (adjacency .entry)) (length (now (output .entry)))) (completed (now (journal .entry)) (now (adjacency .entry))) (now (adjacency .entry)) ⌝ }
-    ensures { λ _. ⌜ now (output .exit) ≡ finishOutput (finishLaid (completed (now (journal .entry)) (now (adjacency .entry))) (now (journal .entry)) (now (adjacency .entry)) (length (now (output .entry)))) (completed (now (journal .entry)) (now (adjacency .entry))) (now (output .entry)) ⌝ }
+    ensures { λ r. ⌜ r ≡ ranLaid (completed (now (journal .entry)) (now (adjacency .entry))) (now (journal .entry)) (now (adjacency .entry)) (length (now (output .entry))) ⌝ }
+    ensures { λ _. ⌜ now (adjacency .exit) ≡ ranAfter (ranLaid (completed (now (journal .entry)) (now (adjacency .entry))) (now (journal .entry)) (now (adjacency .entry)) (length (now (output .entry)))) (completed (now (journal .entry)) (now (adjacency .entry))) (now (adjacency .entry)) ⌝ }
+    ensures { λ _. ⌜ now (output .exit) ≡ ranOutput (ranLaid (completed (now (journal .entry)) (now (adjacency .entry))) (now (journal .entry)) (now (adjacency .entry)) (length (now (output .entry)))) (completed (now (journal .entry)) (now (adjacency .entry))) (now (output .entry)) ⌝ }
 {
     let mut cells = [0u32; CELLS];
     let begun = begin(journal, adjacency, &mut cells);

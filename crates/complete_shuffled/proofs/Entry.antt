@@ -17,7 +17,7 @@ use Rattle.state.specs.Checks.{phaseVerdict}
 use Rattle.classes.specs.Inner.Block.{startsOf, classFrom}
 use Rattle.classes.proofs.Blocks.{table-classes}
 use Rattle.join_records.specs.Record.{joinRecordSize}
-use Rattle.complete.specs.Complete.{fresh, mostEdges, missing, finishLaid, finishAdjacency, finishOutput}
+use Rattle.complete.specs.Complete.{fresh, mostEdges, missing, ranLaid, ranAfter, ranOutput}
 use Rattle.complete.specs.Inner.Work.{Working, Started, WroteRecords}
 use Rattle.complete.specs.declared.start.Start.{Start}
 use Rattle.complete.proofs.Entry.{phase-complete}
@@ -71,9 +71,9 @@ module _ (j g cells : List ℕ) (b : Start) (passed : phaseVerdict 1 j g ≡ Go)
     pub end-done : (out out′ : List ℕ) → joinRecordSize * missing j g ≤ length out → WroteRecords 0 (r .ran .joins) out out′
         → take (joinRecordSize * r .ran .joins) out′ ≡ r .ran .records
         → (Completed (r .ran .joins) (r .ran .switches) (joinRecordSize * r .ran .joins) (r .x)
-        ≡ withX (shuffled j g x .x) (finishLaid (shuffled j g x .ran) j g (length out)))
-        × ((r .ran .adjacency ≡ finishAdjacency (finishLaid (shuffled j g x .ran) j g (length out)) (shuffled j g x .ran) g)
-        × (out′ ≡ finishOutput (finishLaid (shuffled j g x .ran) j g (length out)) (shuffled j g x .ran) out))
+        ≡ withX (shuffled j g x .x) (ranLaid (shuffled j g x .ran) j g (length out)))
+        × ((r .ran .adjacency ≡ ranAfter (ranLaid (shuffled j g x .ran) j g (length out)) (shuffled j g x .ran) g)
+        × (out′ ≡ ranOutput (ranLaid (shuffled j g x .ran) j g (length out)) (shuffled j g x .ran) out))
     end-done out out′ fits wrote records =
         let done = work-done j g (shuffled-works j g x (phase-complete j g passed)) ran-is out out′ fits wrote records in (
           ap (λ (y : ℕ). Completed (r .ran .joins) (r .ran .switches) (joinRecordSize * r .ran .joins) y) (ap (λ (s : Shuffled). s .x) shuffled-is)

@@ -6,8 +6,8 @@ use mathlib.Core.Bool.{true}
 use mathlib.Core.List.{List}
 use Prim.Native.Nat.{ℕ, _<_}
 use Rattle.finite.proofs.Fold.{foldTo-none, foldTo-more, iterate-keeps}
-use Rattle.answer.specs.declared.Finish.{Finish}
-use Rattle.answer.specs.declared.Finish.the-variants.{Lowest, Picked as PickedFrom}
+use Rattle.answer.specs.declared.Choice.{Choice}
+use Rattle.answer.specs.declared.Choice.the-variants.{Lowest, Picked as PickedFrom}
 use Rattle.journal.specs.Journal.{jdmOf}
 use Rattle.state.specs.Laid.{vertexCount, classAt}
 use Rattle.complete.specs.Complete.{fresh, mostEdges}
@@ -68,6 +68,6 @@ module _ (j g : List ℕ) (x : ℕ) where
       (λ s h t. ap nextX h ∙ sym (foldTo-more (λ i. nextX) x (s .ran .joins)))
 
 -- whichever pairs it joins, completing works
-pub outcome-works : (f : Finish) (j g : List ℕ) → CompleteFacts j g → CompleteWorks j g (outcome f j g)
+pub outcome-works : (f : Choice) (j g : List ℕ) → CompleteFacts j g → CompleteWorks j g (outcome f j g)
 outcome-works Lowest j g = complete-works j g
 outcome-works (PickedFrom x) j g = shuffled-works j g x

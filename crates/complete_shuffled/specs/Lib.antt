@@ -1,4 +1,4 @@
 pub mod Choice
 pub mod Shuffle
-pub mod Finish
+pub mod Outcome
 pub mod Inner

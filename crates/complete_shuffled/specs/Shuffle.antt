@@ -5,15 +5,15 @@
 use mathlib.Core.Bool.{Bool}
 use mathlib.Core.List.{List}
 use Prim.Native.Nat.{ℕ}
-use lib.ListN.{length}
 use Rattle.finite.specs.Range.{iterate}
 use Rattle.answer.specs.declared.CompleteAnswer.{CompleteAnswer}
 use Rattle.answer.specs.declared.CompleteAnswer.the-variants as Complete
 use Rattle.answer.specs.declared.ShuffleAnswer.{ShuffleAnswer}
 use Rattle.answer.specs.declared.ShuffleAnswer.the-variants.{Completed, Refused}
 use Rattle.journal.specs.Journal.{jdmOf}
+use Rattle.state.specs.State.{State}
 use Rattle.state.specs.Laid.{vertexCount, classAt}
-use Rattle.complete.specs.Complete.{Ran, fresh, joined, isIncomplete, mostEdges, finishAnswer, finishAdjacency, finishOutput}
+use Rattle.complete.specs.Complete.{Ran, fresh, joined, isIncomplete, mostEdges, ranAnswer, ranAfter, ranOutput}
 use Rattle.complete_shuffled.specs.Choice.{nextX, pairV, pairW, position}
 
 -- what is done so far, and x
@@ -39,8 +39,8 @@ abbrev pub runShuffled : ℕ → ℕ → (ℕ → ℕ) → (ℕ → ℕ → ℕ)
 runShuffled fuel n cls T s = iterate fuel (isShort n cls T) (nextShuffled n cls T) s
 
 -- a laid state completed, from x on
-abbrev pub shuffled : List ℕ → List ℕ → ℕ → Shuffled
-shuffled j g x = runShuffled mostEdges (vertexCount j) (classAt j) (jdmOf j) (record { ran = fresh g; x = x })
+abbrev pub shuffled : State → ℕ → Shuffled
+shuffled s x = runShuffled mostEdges (vertexCount s) (classAt s) (jdmOf (s .journal)) (record { ran = fresh (s .adjacency); x = x })
 
 -- an answer, and x besides where it is no refusal
 abbrev pub withX : ℕ → CompleteAnswer → ShuffleAnswer
@@ -48,12 +48,12 @@ withX x (Complete.Completed joins switches n) = Completed joins switches n x
 withX x (Complete.Refused r) = Refused r
 
 -- for an output of m bytes
-abbrev pub shuffleAnswer : List ℕ → List ℕ → ℕ → ℕ → ShuffleAnswer
-shuffleAnswer j g x m = withX (shuffled j g x .x) (finishAnswer (shuffled j g x .ran) j g m)
+abbrev pub shuffleAnswer : State → ℕ → ℕ → ShuffleAnswer
+shuffleAnswer s x m = withX (shuffled s x .x) (ranAnswer (shuffled s x .ran) s m)
 
--- the matrix and the output afterwards, for an output that is lent as `out`
-abbrev pub shuffleAdjacency : List ℕ → List ℕ → ℕ → ℕ → List ℕ
-shuffleAdjacency j g x m = finishAdjacency (finishAnswer (shuffled j g x .ran) j g m) (shuffled j g x .ran) g
+abbrev pub shuffleAfter : State → ℕ → ℕ → State
+shuffleAfter s x m = ranAfter (shuffled s x .ran) s m
 
-abbrev pub shuffleOutput : List ℕ → List ℕ → ℕ → List ℕ → List ℕ
-shuffleOutput j g x out = finishOutput (finishAnswer (shuffled j g x .ran) j g (length out)) (shuffled j g x .ran) out
+-- the output afterwards, for one that is lent as `out`
+abbrev pub shuffleOutput : State → ℕ → List ℕ → List ℕ
+shuffleOutput s x out = ranOutput (shuffled s x .ran) s out

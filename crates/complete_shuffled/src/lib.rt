@@ -4,7 +4,7 @@ ghost use mathlib.Core.Path.{_≡_};
 ghost use lib.ListN.{length};
 ghost use Rattle.answer.specs.declared.Verdict.the-variants.{Go};
 ghost use Rattle.state.specs.Checks.{phaseVerdict};
-ghost use Rattle.complete.specs.Complete.{finishLaid, finishAdjacency, finishOutput};
+ghost use Rattle.complete.specs.Complete.{ranLaid, ranAfter, ranOutput};
 ghost use Rattle.complete_shuffled.specs.Shuffle.{shuffled, withX, shuffleAnswer, shuffleAdjacency, shuffleOutput};
 
 mod fill;
@@ -26,9 +26,9 @@ use table::cells::CELLS;
 // On a valid laid state: the check 18, then the joins that are missing.
 fn shuffle_laid(journal: &[u8], adjacency: &mut [u8], x: u32, output: &mut [u8]) -> ShuffleAnswer
     requires { ⌜ phaseVerdict 1 (now journal) (now adjacency) ≡ Go ⌝ }
-    ensures { λ r. ⌜ r ≡ withX (shuffled (now (journal .entry)) (now (adjacency .entry)) x .x) (finishLaid (shuffled (now (journal .entry)) (now (adjacency .entry)) x .ran) (now (journal .entry)) (now (adjacency .entry)) (length (now (output .entry)))) ⌝ }
-    ensures { λ _. ⌜ now (adjacency .exit) ≡ finishAdjacency (finishLaid (shuffled (now (journal .entry)) (now (adjacency .entry)) x .ran) (now (journal .entry)) (now (adjacency .entry)) (length (now (output .entry)))) (shuffled (now (journal .entry)) (now (adjacency .entry)) x .ran) (now (adjacency .entry)) ⌝ }
-    ensures { λ _. ⌜ now (output .exit) ≡ finishOutput (finishLaid (shuffled (now (journal .entry)) (now (adjacency .entry)) x .ran) (now (journal .entry)) (now (adjacency .entry)) (length (now (output .entry)))) (shuffled (now (journal .entry)) (now (adjacency .entry)) x .ran) (now (output .entry)) ⌝ }
+    ensures { λ r. ⌜ r ≡ withX (shuffled (now (journal .entry)) (now (adjacency .entry)) x .x) (ranLaid (shuffled (now (journal .entry)) (now (adjacency .entry)) x .ran) (now (journal .entry)) (now (adjacency .entry)) (length (now (output .entry)))) ⌝ }
+    ensures { λ _. ⌜ now (adjacency .exit) ≡ ranAfter (ranLaid (shuffled (now (journal .entry)) (now (adjacency .entry)) x .ran) (now (journal .entry)) (now (adjacency .entry)) (length (now (output .entry)))) (shuffled (now (journal .entry)) (now (adjacency .entry)) x .ran) (now (adjacency .entry)) ⌝ }
+    ensures { λ _. ⌜ now (output .exit) ≡ ranOutput (ranLaid (shuffled (now (journal .entry)) (now (adjacency .entry)) x .ran) (now (journal .entry)) (now (adjacency .entry)) (length (now (output .entry)))) (shuffled (now (journal .entry)) (now (adjacency .entry)) x .ran) (now (output .entry)) ⌝ }
 {
     let mut cells = [0u32; CELLS];
     let begun = begin(journal, adjacency, &mut cells);

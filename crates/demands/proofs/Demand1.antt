@@ -28,8 +28,8 @@ use Rattle.answer.specs.declared.CompleteAnswer.the-variants as Complete
 use Rattle.answer.specs.declared.WrittenAnswer.{WrittenAnswer}
 use Rattle.answer.specs.declared.ReadAnswer.{ReadAnswer}
 use Rattle.answer.specs.declared.WrittenAnswer.the-variants as Write
-use Rattle.answer.specs.declared.Finish.{Finish}
-use Rattle.answer.specs.declared.Finish.the-variants.{Lowest, Picked}
+use Rattle.answer.specs.declared.Choice.{Choice}
+use Rattle.answer.specs.declared.Choice.the-variants.{Lowest, Picked}
 use Rattle.graph.specs.Tests.{vertices}
 use Rattle.table.specs.Block.{blockLength}
 use Rattle.layout.specs.Layout.{layoutVerdict}
@@ -52,11 +52,11 @@ use Rattle.graph6.specs.Format.{sizeOf, tooLarge, wellFormed}
 use Rattle.graph6_write.specs.Write.{writeText, writeListed, writeAnswer, writeOutput}
 use Rattle.graph6_read.specs.Read.{readList, readAnswer, readOutput}
 use Rattle.join_records.specs.Record.{joinRecordSize}
-use Rattle.complete.specs.Complete.{Ran, completed, missing, finishLaid, finishAnswer, finishAdjacency, finishOutput}
+use Rattle.complete.specs.Complete.{Ran, completed, missing, ranLaid, ranAnswer, ranAfter, ranOutput}
 use Rattle.complete.proofs.Entry.{completed-facts}
 use Rattle.complete_shuffled.specs.Shuffle.{shuffled}
 use Rattle.complete_shuffled.proofs.Answers.{with-x-refused, with-x-completed}
-use Rattle.complete_shuffled.specs.Finish.{outcome}
+use Rattle.complete_shuffled.specs.Outcome.{outcome}
 use Rattle.complete_shuffled.proofs.Works.{outcome-works}
 use Rattle.demands.specs.Demand1.{oneOf, Numbered, SamePast, Demand1}
 use Rattle.demands.proofs.Chains.{OfClear, OfTake, OfLength, OfLayOut, OfFigures, OfAdd, OfRemove, OfComplete, OfWritten, OfRead, behind, state-numbers, phase-numbers, layout-numbers, clear-chain, takeLater, later-numbers, take-chain, length-chain, add-chain, remove-chain, complete-chain, fits-chain, list-numbers, survey-chain, read-chain}
@@ -103,26 +103,26 @@ read-numbers t m =
     read-chain (not (tooLarge t)) (wellFormed t) (leb n m) n (sizeOf t) m (leb-true n m)
 
 -- a finish, whichever pairs it joins
-finish-refused : (j g : List ℕ) (r : Ran) (out : List ℕ) (q : Refusal) → finishAnswer r j g (length out) ≡ Complete.Refused q
-    → Numbered q (1 ∷ 2 ∷ 3 ∷ 18 ∷ []) × (finishAdjacency (finishAnswer r j g (length out)) r g ≡ g)
-    × (finishOutput (finishAnswer r j g (length out)) r out ≡ out)
+finish-refused : (j g : List ℕ) (r : Ran) (out : List ℕ) (q : Refusal) → ranAnswer r j g (length out) ≡ Complete.Refused q
+    → Numbered q (1 ∷ 2 ∷ 3 ∷ 18 ∷ []) × (ranAfter (ranAnswer r j g (length out)) r g ≡ g)
+    × (ranOutput (ranAnswer r j g (length out)) r out ≡ out)
 finish-refused j g r out q e = (
   subst (OfComplete (1 ∷ 2 ∷ 3 ∷ 18 ∷ [])) e
-      (behind OfComplete _ (phaseVerdict 1 j g) Complete.Refused (finishLaid r j g (length out)) (λ r h. h) (phase-numbers 1 j g _)
+      (behind OfComplete _ (phaseVerdict 1 j g) Complete.Refused (ranLaid r j g (length out)) (λ r h. h) (phase-numbers 1 j g _)
       (complete-chain (leb (joinRecordSize * missing j g) (length out)) (r .joins) (r .switches) (length (r .records)))),
-  ap (λ (a : CompleteAnswer). finishAdjacency a r g) e,
-  ap (λ (a : CompleteAnswer). finishOutput a r out) e,
+  ap (λ (a : CompleteAnswer). ranAfter a r g) e,
+  ap (λ (a : CompleteAnswer). ranOutput a r out) e,
 )
 
-finish-written : (f : Finish) (j g out : List ℕ) (joins switches n : ℕ)
-    → finishAnswer (outcome f j g) j g (length out) ≡ Complete.Completed joins switches n
-    → (n ≡ joinRecordSize * joins) × SamePast n out (finishOutput (finishAnswer (outcome f j g) j g (length out)) (outcome f j g) out)
+finish-written : (f : Choice) (j g out : List ℕ) (joins switches n : ℕ)
+    → ranAnswer (outcome f j g) j g (length out) ≡ Complete.Completed joins switches n
+    → (n ≡ joinRecordSize * joins) × SamePast n out (ranOutput (ranAnswer (outcome f j g) j g (length out)) (outcome f j g) out)
 finish-written f j g out joins switches n e =
     let r = outcome f j g in
     let c = completed-facts j g r (length out) joins switches n e in
     let x = outcome-works f j g (c .facts) in (
       omega (arith, c .length-is, c .joins-are, x .written),
-      subst (SamePast n out) (sym (ap (λ (a : CompleteAnswer). finishOutput a r out) e))
+      subst (SamePast n out) (sym (ap (λ (a : CompleteAnswer). ranOutput a r out) e))
           (past out (r .records) n (c .length-is) (omega (arith, c .room, x .made, x .written))),
     )
 

@@ -19,7 +19,7 @@ use Rattle.answer.specs.declared.RemoveAnswer.{RemoveAnswer}
 use Rattle.answer.specs.declared.RemoveAnswer.the-variants as Remove
 use Rattle.answer.specs.declared.CompleteAnswer.{CompleteAnswer}
 use Rattle.answer.specs.declared.CompleteAnswer.the-variants.{Completed, Refused as CompleteRefused}
-use Rattle.answer.specs.declared.Finish.{Finish}
+use Rattle.answer.specs.declared.Choice.{Choice}
 use Rattle.finite.proofs.All.{and-left, and-right, and-false}
 use Rattle.graph.specs.Graph.{jdm, DegreeTable, noTable}
 use Rattle.graph.specs.Tests.{mostClasses, Table}
@@ -38,9 +38,9 @@ use Rattle.take_block.proofs.Take.{isTaken, taken-facts, held-facts, take-taken
 use Rattle.lay_out.proofs.LayOut.{lay-out-laid-out}
 use Rattle.add_edge.specs.Add.{addAnswer, addAdjacency}
 use Rattle.remove_edge.specs.Remove.{removeAnswer, removeAdjacency}
-use Rattle.complete.specs.Complete.{Ran, finishAnswer, finishAdjacency}
+use Rattle.complete.specs.Complete.{Ran, ranAnswer, ranAfter}
 use Rattle.complete.proofs.Entry.{completed-facts}
-use Rattle.complete_shuffled.specs.Finish.{outcome}
+use Rattle.complete_shuffled.specs.Outcome.{outcome}
 use Rattle.complete_shuffled.proofs.Works.{outcome-works}
 use Rattle.demands.specs.Calls.{Call, take, layOut, add, remove, complete, readBack, list, figures, survey, writeGraph6, readGraph6, State, cleared, after, afterAll}
 use Rattle.demands.specs.Tally.{Tally, noTally, told, toldAdd, toldRemove, toldComplete, counts, withBlock, laysOut, nowLaid, tally, tallyAll}
@@ -143,7 +143,7 @@ module _ (adds : List ℕ → ℕ) (read : DegreeTable → ℕ) (more : (u : Deg
       (answered-tally cs (after s (remove v w)) (tally t (told s (remove v w))) seen (after-call s t r (remove v w))
       (seen-still seen t (tally t (told s (remove v w))) (p .1) h))
   answered-tally (complete f out ∷ cs) s t seen r h =
-      let p = complete-still t (finishAnswer (outcome f (s .journal) (s .adjacency)) (s .journal) (s .adjacency) (length out)) in
+      let p = complete-still t (ranAnswer (outcome f (s .journal) (s .adjacency)) (s .journal) (s .adjacency) (length out)) in
       through t (tally t (told s (complete f out))) _ _ (p .0)
       (answered-tally cs (after s (complete f out)) (tally t (told s (complete f out))) seen (after-call s t r (complete f out))
       (seen-still seen t (tally t (told s (complete f out))) (p .1) h))
@@ -173,8 +173,8 @@ record Done (s : State) : Type 0 where
   phased : phase (s .journal) ≡ 1
   has : HasTable (tableOf (s .journal)) s
 
-done-completed : (s : State) (f : Finish) (out : List ℕ) (joins switches n : ℕ)
-    → finishAnswer (outcome f (s .journal) (s .adjacency)) (s .journal) (s .adjacency) (length out) ≡ Completed joins switches n
+done-completed : (s : State) (f : Choice) (out : List ℕ) (joins switches n : ℕ)
+    → ranAnswer (outcome f (s .journal) (s .adjacency)) (s .journal) (s .adjacency) (length out) ≡ Completed joins switches n
     → Done (after s (complete f out))
 done-completed s f out joins switches n e =
     let facts = completed-facts (s .journal) (s .adjacency) (outcome f (s .journal) (s .adjacency)) (length out) joins switches n e .facts in
@@ -183,17 +183,17 @@ done-completed s f out joins switches n e =
     (record { lengths = x .lengths; sound = x .sound; phased = facts .phased; has = outcome-has s f facts })
 
 -- completed again, or refused
-done-complete : (s : State) (f : Finish) (out : List ℕ) → Done s → Done (after s (complete f out))
-done-complete s f out d = go (finishAnswer r (s .journal) (s .adjacency) (length out)) refl
+done-complete : (s : State) (f : Choice) (out : List ℕ) → Done s → Done (after s (complete f out))
+done-complete s f out d = go (ranAnswer r (s .journal) (s .adjacency) (length out)) refl
   where
     r : Ran
     r = outcome f (s .journal) (s .adjacency)
 
-    go : (a : CompleteAnswer) → finishAnswer r (s .journal) (s .adjacency) (length out) ≡ a → Done (after s (complete f out))
+    go : (a : CompleteAnswer) → ranAnswer r (s .journal) (s .adjacency) (length out) ≡ a → Done (after s (complete f out))
     go (Completed joins switches n) e = done-completed s f out joins switches n e
     go (CompleteRefused q) e =
         subst (λ (h : List ℕ). Done (record { journal = s .journal; adjacency = h }))
-        (sym (ap (λ (a : CompleteAnswer). finishAdjacency a r (s .adjacency)) e)) d
+        (sym (ap (λ (a : CompleteAnswer). ranAfter a r (s .adjacency)) e)) d
 
 -- no block is taken and nothing is laid out in phase 1
 done-take : (s : State) → Done s → (number : ℕ) (b : List ℕ) → after s (take number b) ≡ s
@@ -244,9 +244,9 @@ done-rest (writeGraph6 e total out ∷ cs) s d q = done-rest cs s d q
 done-rest (readGraph6 text out ∷ cs) s d q = done-rest cs s d q
 
 -- completed, and nothing moved since
-completed-has : (before rest : List Call) (f : Finish) (out : List ℕ) (joins switches n : ℕ)
+completed-has : (before rest : List Call) (f : Choice) (out : List ℕ) (joins switches n : ℕ)
     → let s = afterAll cleared before in
-    finishAnswer (outcome f (s .journal) (s .adjacency)) (s .journal) (s .adjacency) (length out) ≡ Completed joins switches n
+    ranAnswer (outcome f (s .journal) (s .adjacency)) (s .journal) (s .adjacency) (length out) ≡ Completed joins switches n
     → quiet (after s (complete f out)) rest ≡ true
     → HasTable (answeredSum (before ++ complete f out ∷ rest)) (afterAll (after s (complete f out)) rest)
 completed-has before rest f out joins switches n e q =

@@ -17,7 +17,7 @@ use Rattle.answer.specs.declared.AddAnswer.{AddAnswer}
 use Rattle.answer.specs.declared.AddAnswer.the-variants.{Added}
 use Rattle.answer.specs.declared.CompleteAnswer.{CompleteAnswer}
 use Rattle.answer.specs.declared.CompleteAnswer.the-variants.{Completed}
-use Rattle.answer.specs.declared.Finish.{Finish}
+use Rattle.answer.specs.declared.Choice.{Choice}
 use Rattle.layout.specs.Layout.{wanted}
 use Rattle.journal.specs.Journal.{phase, jdmOf, tableOf}
 use Rattle.journal.proofs.Table.{jdm-table}
@@ -30,9 +30,9 @@ use Rattle.add_edge.specs.Add.{addAnswer, addAdjacency}
 use Rattle.add_edge.proofs.Add.{AddFacts, facts-added, AddWorks, add-works}
 use Rattle.joining.specs.Join.{joinBytes, joinSwitches}
 use Rattle.join_records.specs.Record.{joinRecordSize}
-use Rattle.complete.specs.Complete.{Ran, missing, finishAnswer, finishAdjacency}
+use Rattle.complete.specs.Complete.{Ran, missing, ranAnswer, ranAfter}
 use Rattle.complete.proofs.Entry.{CompleteFacts, short-refused, CompleteWorks}
-use Rattle.complete_shuffled.specs.Finish.{outcome}
+use Rattle.complete_shuffled.specs.Outcome.{outcome}
 use Rattle.complete_shuffled.proofs.Works.{outcome-works}
 use Rattle.demands.specs.Calls.{State, cleared, afterAll}
 use Rattle.demands.specs.Tally.{Tally, noTally, missingEdges, tallyAll}
@@ -143,7 +143,7 @@ module _ (s : State) (lengths : Rattle.state.specs.Valid.lengthsOk (s .journal)
           )
 
   -- Completing. The tally t has the journal's table and the matrix's edges, and so the edges missing.
-  module _ (t : Tally) (same : tableOf (s .journal) ≡ t .table) (counted : edgeTotal (s .journal) (s .adjacency) ≡ t .edges) (f : Finish) (out : List ℕ) where
+  module _ (t : Tally) (same : tableOf (s .journal) ≡ t .table) (counted : edgeTotal (s .journal) (s .adjacency) ≡ t .edges) (f : Choice) (out : List ℕ) where
     checked : CompleteFacts (s .journal) (s .adjacency)
     checked = record { lengths = lengths; sound = sound; phased = phased }
 
@@ -160,7 +160,7 @@ module _ (s : State) (lengths : Rattle.state.specs.Valid.lengthsOk (s .journal)
         (outcome-answer (s .journal) (s .adjacency) f checked (length out) (omega (arith, same-missing, room))))
       where
         own : CompleteWorks (s .journal) (s .adjacency) r
-            → finishAnswer r (s .journal) (s .adjacency) (length out) ≡ Completed (r .joins) (r .switches) (joinRecordSize * r .joins)
+            → ranAnswer r (s .journal) (s .adjacency) (length out) ≡ Completed (r .joins) (r .switches) (joinRecordSize * r .joins)
             → D.Completes (record { blocks = t .blocks; table = tableOf (s .journal); laid = t .laid; edges = t .edges }) s f out
         own x a =
             record {
@@ -179,7 +179,7 @@ module _ (s : State) (lengths : Rattle.state.specs.Valid.lengthsOk (s .journal)
         let e = short-refused (s .journal) (s .adjacency) r (length out) checked (omega (arith, same-missing, no-room)) in
         record {
           answer = e;
-          unchanged = ap (λ (a : CompleteAnswer). record { journal = s .journal; adjacency = finishAdjacency a r (s .adjacency) }) e;
+          unchanged = ap (λ (a : CompleteAnswer). record { journal = s .journal; adjacency = ranAfter a r (s .adjacency) }) e;
         }
 
 pub demand-3 : D.Demand3

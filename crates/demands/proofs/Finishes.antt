@@ -1,4 +1,4 @@
--- What holds of every finish (crates/complete_shuffled/specs/Finish.antt), whichever pairs it joins: the laws of completing by any choice of open pairs, at the two that there are.
+-- What holds of every finish (crates/complete_shuffled/specs/Choice.antt), whichever pairs it joins: the laws of completing by any choice of open pairs, at the two that there are.
 -- Assumes nothing.
 use mathlib.Core.Path.{_≡_, refl, sym, ap, subst, _∙_}
 use mathlib.Core.Bool.{true}
@@ -9,20 +9,20 @@ use lib.ListN.{length}
 use Rattle.finite.specs.Range.{iterate}
 use Rattle.answer.specs.declared.CompleteAnswer.{CompleteAnswer}
 use Rattle.answer.specs.declared.CompleteAnswer.the-variants.{Completed}
-use Rattle.answer.specs.declared.Finish.{Finish}
-use Rattle.answer.specs.declared.Finish.the-variants.{Lowest, Picked}
+use Rattle.answer.specs.declared.Choice.{Choice}
+use Rattle.answer.specs.declared.Choice.the-variants.{Lowest, Picked}
 use Rattle.graph.specs.Tests.{leastClass, mostClasses, classCount}
 use Rattle.graph.proofs.Numbering.{classOf-rises}
 use Rattle.journal.specs.Journal.{jdmOf, tableOf}
 use Rattle.state.specs.Laid.{vertexCount, classAt, cellAt}
 use Rattle.join_records.specs.Record.{joinRecordSize}
-use Rattle.complete.specs.Complete.{Ran, fresh, mostEdges, missing, finishAnswer, finishAdjacency}
+use Rattle.complete.specs.Complete.{Ran, fresh, mostEdges, missing, ranAnswer, ranAfter}
 use Rattle.complete.proofs.Works.{Good, Chooser, short, lowest-pair, next-rising}
 use Rattle.complete.proofs.Full.{full-run}
 use Rattle.complete.proofs.Entry.{CompleteFacts, facts-completed}
 use Rattle.complete_shuffled.specs.Shuffle.{Shuffled}
 use Rattle.complete_shuffled.proofs.Works.{shuffled-pair, shuffled-rises, outcome-works}
-use Rattle.complete_shuffled.specs.Finish.{outcome}
+use Rattle.complete_shuffled.specs.Outcome.{outcome}
 use Rattle.demands.specs.Calls.{complete, State, after}
 use Rattle.demands.specs.Matrix.{HasTable}
 
@@ -37,7 +37,7 @@ pub record By (j g : List ℕ) (r : Ran) : Type 1 where
   pub ends : r ≡ way .ran (iterate mostEdges (short (vertexCount j) (classAt j) (jdmOf j) way) (way .next) start)
 
 module _ (j g : List ℕ) where
-  pub by : (f : Finish) → By j g (outcome f j g)
+  pub by : (f : Choice) → By j g (outcome f j g)
   by Lowest =
       record {
         S = Ran;
@@ -57,10 +57,10 @@ module _ (j g : List ℕ) where
         ends = refl;
       }
 
-  module _ (f : Finish) (facts : CompleteFacts j g) where
+  module _ (f : Choice) (facts : CompleteFacts j g) where
     -- the answer, for an output of m bytes with room
     pub outcome-answer : (m : ℕ) → joinRecordSize * missing j g ≤ m
-        → finishAnswer (outcome f j g) j g m ≡ Completed (outcome f j g .joins) (outcome f j g .switches) (joinRecordSize * outcome f j g .joins)
+        → ranAnswer (outcome f j g) j g m ≡ Completed (outcome f j g .joins) (outcome f j g .switches) (joinRecordSize * outcome f j g .joins)
     outcome-answer m h =
         facts-completed j g (outcome f j g) m facts h
         ∙ ap (Completed (outcome f j g .joins) (outcome f j g .switches)) (outcome-works f j g facts .written)
@@ -74,14 +74,14 @@ module _ (j g : List ℕ) where
           ∙ ap (b .way .ran) (full-run (vertexCount j) (classAt j) (jdmOf j) (b .way) (b .start) (rw (b .begins) full) mostEdges)
           ∙ b .begins
 
-      pub full-answer : (m : ℕ) → finishAnswer (outcome f j g) j g m ≡ Completed 0 0 0
+      pub full-answer : (m : ℕ) → ranAnswer (outcome f j g) j g m ≡ Completed 0 0 0
       full-answer m =
           let none = ap (λ (r : Ran). r .joins) full-outcome in
           outcome-answer m (omega (arith, none, outcome-works f j g facts .made))
           ∙ ap (λ (r : Ran). Completed (r .joins) (r .switches) (joinRecordSize * r .joins)) full-outcome
 
 -- the state that a finish which was not refused leaves
-module _ (s : State) (f : Finish) where
+module _ (s : State) (f : Choice) where
   abbrev pub finishedState : State
   finishedState = record { journal = s .journal; adjacency = outcome f (s .journal) (s .adjacency) .adjacency }
 
@@ -91,12 +91,12 @@ module _ (s : State) (f : Finish) where
       record { simple = x .simple; exact = x .table; exact-isolated = x .no-edge }
 
   pub after-finish : (out : List ℕ) (joins switches n : ℕ)
-      → finishAnswer (outcome f (s .journal) (s .adjacency)) (s .journal) (s .adjacency) (length out) ≡ Completed joins switches n
+      → ranAnswer (outcome f (s .journal) (s .adjacency)) (s .journal) (s .adjacency) (length out) ≡ Completed joins switches n
       → after s (complete f out) ≡ finishedState
   after-finish out joins switches n e =
-      ap (λ (a : CompleteAnswer). record { journal = s .journal; adjacency = finishAdjacency a (outcome f (s .journal) (s .adjacency)) (s .adjacency) }) e
+      ap (λ (a : CompleteAnswer). record { journal = s .journal; adjacency = ranAfter a (outcome f (s .journal) (s .adjacency)) (s .adjacency) }) e
 
   pub finish-has : (out : List ℕ) (joins switches n : ℕ) → CompleteFacts (s .journal) (s .adjacency)
-      → finishAnswer (outcome f (s .journal) (s .adjacency)) (s .journal) (s .adjacency) (length out) ≡ Completed joins switches n
+      → ranAnswer (outcome f (s .journal) (s .adjacency)) (s .journal) (s .adjacency) (length out) ≡ Completed joins switches n
       → HasTable (tableOf (s .journal)) (after s (complete f out))
   finish-has out joins switches n facts e = subst (HasTable (tableOf (s .journal))) (sym (after-finish out joins switches n e)) (outcome-has facts)

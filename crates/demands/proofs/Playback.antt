@@ -16,7 +16,7 @@ use Rattle.answer.specs.declared.AddAnswer.{AddAnswer}
 use Rattle.answer.specs.declared.AddAnswer.the-variants.{Added}
 use Rattle.answer.specs.declared.CompleteAnswer.{CompleteAnswer}
 use Rattle.answer.specs.declared.CompleteAnswer.the-variants.{Completed}
-use Rattle.answer.specs.declared.Finish.{Finish}
+use Rattle.answer.specs.declared.Choice.{Choice}
 use Rattle.journal.specs.Journal.{phase, jdmOf}
 use Rattle.state.specs.Valid.{lengthsOk, valid}
 use Rattle.state.specs.Laid.{vertexCount, classAt}
@@ -24,11 +24,11 @@ use Rattle.state.proofs.Facts.{StateFacts, Laid, valid-facts}
 use Rattle.joining.specs.Join.{joinSwitches}
 use Rattle.add_edge.specs.Add.{addAnswer, addAdjacency}
 use Rattle.add_edge.proofs.Add.{AddFacts, added-facts}
-use Rattle.complete.specs.Complete.{Ran, fresh, mostEdges, missing, finishAnswer, finishAdjacency, finishOutput}
+use Rattle.complete.specs.Complete.{Ran, fresh, mostEdges, missing, ranAnswer, ranAfter, ranOutput}
 use Rattle.complete.proofs.Works.{Good, Chooser, short, next-good}
 use Rattle.complete.proofs.Records.{Recorded, next-recorded, Rising, records-rising}
 use Rattle.complete.proofs.Entry.{CompleteFacts, good-start, CompleteWorks}
-use Rattle.complete_shuffled.specs.Finish.{outcome}
+use Rattle.complete_shuffled.specs.Outcome.{outcome}
 use Rattle.complete_shuffled.proofs.Works.{outcome-works}
 use Rattle.demands.specs.Playback.{play, CompletingPlays, addedRecord, Playback}
 use Rattle.demands.proofs.Finishes.{By, by, outcome-answer}
@@ -58,7 +58,7 @@ module _ (n : ℕ) (cls : ℕ → ℕ) (T : ℕ → ℕ → ℕ) {S : Type 0} (c
                 ∙ join-plays n cls T (r .adjacency) (c .v s) (c .w s) (f .sized) (f .few) (f .target) (f .partial) (c .pair s (h .0) t)),
           )
 
-completing-plays : (f : Finish) (j g out : List ℕ) → lengthsOk j g ≡ true → valid j g ≡ true → phase j ≡ 1 → 8 * missing j g ≤ length out
+completing-plays : (f : Choice) (j g out : List ℕ) → lengthsOk j g ≡ true → valid j g ≡ true → phase j ≡ 1 → 8 * missing j g ≤ length out
     → CompletingPlays f j g out
 completing-plays f j g out lengths sound phased room =
     record {
@@ -67,11 +67,11 @@ completing-plays f j g out lengths sound phased room =
       answer = e;
       made = x .made;
       played =
-          ap (λ (a : CompleteAnswer). play (take (8 * r .joins) (finishOutput a r out)) g) e
+          ap (λ (a : CompleteAnswer). play (take (8 * r .joins) (ranOutput a r out)) g) e
           ∙ ap (λ (k : ℕ). play (take k (sets out 0 (r .records))) g) (sym (x .written))
           ∙ ap (λ (l : List ℕ). play l g) (take-sets out (r .records) (omega (arith, x .written, x .made)))
           ∙ rw (b .ends) (run-plays (vertexCount j) (classAt j) (jdmOf j) (b .way) g mostEdges (b .start) (b .begins) (good-start j g checked))
-          ∙ sym (ap (λ (a : CompleteAnswer). fits (finishAdjacency a r g)) e);
+          ∙ sym (ap (λ (a : CompleteAnswer). fits (ranAfter a r g)) e);
       rising = λ i l. rw (e, there (8 * i) (omega (arith, x .written)), there (8 * i + 1) (omega (arith, x .written))) (rising i l);
     }
   where
@@ -96,7 +96,7 @@ completing-plays f j g out lengths sound phased room =
         rw (b .ends)
         (records-rising (vertexCount j) (classAt j) (jdmOf j) (b .way) (b .rises) mostEdges (b .start) g (b .begins) (good-start j g checked))
 
-    e : finishAnswer (outcome f j g) j g (length out) ≡ Completed (outcome f j g .joins) (outcome f j g .switches) (8 * outcome f j g .joins)
+    e : ranAnswer (outcome f j g) j g (length out) ≡ Completed (outcome f j g .joins) (outcome f j g .switches) (8 * outcome f j g .joins)
     e = outcome-answer j g f checked (length out) room
 
 adding-plays : (j g : List ℕ) (v w : ℕ) (s : Switches) → addAnswer j g v w ≡ Added s

@@ -18,7 +18,7 @@ use Rattle.answer.specs.declared.RemoveAnswer.{RemoveAnswer}
 use Rattle.answer.specs.declared.RemoveAnswer.the-variants as Remove
 use Rattle.answer.specs.declared.CompleteAnswer.{CompleteAnswer}
 use Rattle.answer.specs.declared.CompleteAnswer.the-variants as Complete
-use Rattle.answer.specs.declared.Finish.{Finish}
+use Rattle.answer.specs.declared.Choice.{Choice}
 use Rattle.graph.specs.Graph.{DegreeTable}
 use Rattle.graph.specs.Tests.{passes, vertices}
 use Rattle.table.specs.Block.{wellFormed, plus}
@@ -38,9 +38,9 @@ use Rattle.add_edge.specs.Add.{addAnswer, addAdjacency}
 use Rattle.remove_edge.specs.Remove.{removeAnswer, removeAdjacency}
 use Rattle.add_edge.proofs.Add.{added-facts, add-works}
 use Rattle.remove_edge.proofs.Remove.{removed-facts, remove-works}
-use Rattle.complete.specs.Complete.{Ran, finishAnswer, finishAdjacency}
+use Rattle.complete.specs.Complete.{Ran, ranAnswer, ranAfter}
 use Rattle.complete.proofs.Entry.{completed-facts}
-use Rattle.complete_shuffled.specs.Finish.{outcome}
+use Rattle.complete_shuffled.specs.Outcome.{outcome}
 use Rattle.complete_shuffled.proofs.Works.{outcome-works}
 use Rattle.demands.specs.Calls.{Call, take, layOut, add, remove, complete, readBack, list, figures, survey, writeGraph6, readGraph6, State, cleared, after, afterAll}
 use Rattle.demands.specs.Tally.{Tally, noTally, told, toldAdd, toldRemove, toldComplete, counts, withBlock, laysOut, nowLaid, withEdges, tally, tallyAll}
@@ -208,14 +208,14 @@ module _ (s : State) (t : Tally) (r : Reach s t) where
           (omega (arith, x .one-less, laid-counted s t r l))
       go (Remove.Refused q) e = r
 
-  after-complete : (f : Finish) (out : List ℕ) → Reach (after s (complete f out)) (tally t (told s (complete f out)))
-  after-complete f out = go (finishAnswer r₀ (s .journal) (s .adjacency) (length out)) refl
+  after-complete : (f : Choice) (out : List ℕ) → Reach (after s (complete f out)) (tally t (told s (complete f out)))
+  after-complete f out = go (ranAnswer r₀ (s .journal) (s .adjacency) (length out)) refl
     where
       r₀ : Ran
       r₀ = outcome f (s .journal) (s .adjacency)
 
-      go : (a : CompleteAnswer) → finishAnswer r₀ (s .journal) (s .adjacency) (length out) ≡ a
-          → Reach (record { journal = s .journal; adjacency = finishAdjacency a r₀ (s .adjacency) }) (tally t (toldComplete a))
+      go : (a : CompleteAnswer) → ranAnswer r₀ (s .journal) (s .adjacency) (length out) ≡ a
+          → Reach (record { journal = s .journal; adjacency = ranAfter a r₀ (s .adjacency) }) (tally t (toldComplete a))
       go (Complete.Completed joins switches n) e =
           let c = completed-facts (s .journal) (s .adjacency) r₀ (length out) joins switches n e in
           let x = outcome-works f (s .journal) (s .adjacency) (c .facts) in

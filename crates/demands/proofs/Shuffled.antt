@@ -10,12 +10,12 @@ use Rattle.finite.proofs.Fold.{foldTo-none}
 use Rattle.answer.specs.declared.CompleteAnswer.{CompleteAnswer}
 use Rattle.answer.specs.declared.CompleteAnswer.the-variants as Complete
 use Rattle.answer.specs.declared.ShuffleAnswer.the-variants.{Completed}
-use Rattle.answer.specs.declared.Finish.the-variants.{Picked}
+use Rattle.answer.specs.declared.Choice.the-variants.{Picked}
 use Rattle.graph.specs.Tests.{leastClass, mostClasses}
 use Rattle.journal.specs.Journal.{phase, jdmOf, tableOf}
 use Rattle.state.specs.Valid.{lengthsOk, valid}
 use Rattle.state.specs.Laid.{cellAt}
-use Rattle.complete.specs.Complete.{Ran, fresh, missing, finishAnswer, finishAdjacency, finishOutput}
+use Rattle.complete.specs.Complete.{Ran, fresh, missing, ranAnswer, ranAfter, ranOutput}
 use Rattle.complete.proofs.Entry.{CompleteFacts}
 use Rattle.complete_shuffled.specs.Choice.{nextX, stepsX}
 use Rattle.complete_shuffled.specs.Shuffle.{shuffled, withX, shuffleOutput}
@@ -54,7 +54,7 @@ shuffles s x out lengths sound phased room =
     made : shuffled (s .journal) (s .adjacency) x .ran .joins ≡ missing (s .journal) (s .adjacency)
     made = outcome-works (Picked x) (s .journal) (s .adjacency) checked .made
 
-    answered : finishAnswer r (s .journal) (s .adjacency) (length out) ≡ Complete.Completed (r .joins) (r .switches) (8 * r .joins)
+    answered : ranAnswer r (s .journal) (s .adjacency) (length out) ≡ Complete.Completed (r .joins) (r .switches) (8 * r .joins)
     answered = outcome-answer (s .journal) (s .adjacency) (Picked x) checked (length out) room
 
 left-alone : (s : State) (x : ℕ) (out : List ℕ) → lengthsOk (s .journal) (s .adjacency) ≡ true → valid (s .journal) (s .adjacency) ≡ true
@@ -64,8 +64,8 @@ left-alone s x out lengths sound phased none =
       answer =
           ap (withX (shuffled (s .journal) (s .adjacency) x .x)) answered
           ∙ ap (Completed 0 0 0) (shuffled-last (s .journal) (s .adjacency) x ∙ ap (λ (m : ℕ). stepsX m x) (ap (λ (r : Ran). r .joins) ended) ∙ foldTo-none (λ i. nextX) x);
-      same-matrix = ap₂ (λ (a : CompleteAnswer) (r : Ran). finishAdjacency a r (s .adjacency)) answered ended;
-      same-output = ap₂ (λ (a : CompleteAnswer) (r : Ran). finishOutput a r out) answered ended;
+      same-matrix = ap₂ (λ (a : CompleteAnswer) (r : Ran). ranAfter a r (s .adjacency)) answered ended;
+      same-output = ap₂ (λ (a : CompleteAnswer) (r : Ran). ranOutput a r out) answered ended;
     }
   where
     checked : CompleteFacts (s .journal) (s .adjacency)
@@ -77,7 +77,7 @@ left-alone s x out lengths sound phased none =
     ended : shuffled (s .journal) (s .adjacency) x .ran ≡ fresh (s .adjacency)
     ended = full-outcome (s .journal) (s .adjacency) (Picked x) checked full
 
-    answered : finishAnswer (shuffled (s .journal) (s .adjacency) x .ran) (s .journal) (s .adjacency) (length out) ≡ Complete.Completed 0 0 0
+    answered : ranAnswer (shuffled (s .journal) (s .adjacency) x .ran) (s .journal) (s .adjacency) (length out) ≡ Complete.Completed 0 0 0
     answered = full-answer (s .journal) (s .adjacency) (Picked x) checked full (length out)
 
 pub shuffled-finishing : ShuffledFinishing

@@ -18,7 +18,7 @@ use Rattle.answer.specs.declared.switches.Switches.the-variants.{None}
 use Rattle.answer.specs.declared.AddAnswer.{AddAnswer}
 use Rattle.answer.specs.declared.AddAnswer.the-variants.{Added, Refused as AddRefused}
 use Rattle.answer.specs.declared.CompleteAnswer.the-variants.{Completed, Refused}
-use Rattle.answer.specs.declared.Finish.{Finish}
+use Rattle.answer.specs.declared.Choice.{Choice}
 use Rattle.table.specs.Block.{wellFormed, blockIsolated}
 use Rattle.adjacency.specs.Adjacency.{edge, setEdge}
 use Rattle.journal.specs.Journal.{mostBlocks, tableOf}
@@ -28,9 +28,9 @@ use Rattle.joining.proofs.Alone.{none-alone}
 use Rattle.add_edge.specs.Add.{addAnswer, addAdjacency}
 use Rattle.add_edge.proofs.Add.{added-facts}
 use Rattle.join_records.specs.Record.{joinRecordSize}
-use Rattle.complete.specs.Complete.{finishAnswer}
+use Rattle.complete.specs.Complete.{ranAnswer}
 use Rattle.complete.proofs.Entry.{refused-not-completed}
-use Rattle.complete_shuffled.specs.Finish.{outcome}
+use Rattle.complete_shuffled.specs.Outcome.{outcome}
 use Rattle.demands.specs.Calls.{Call, take, add, complete, State, emptyMatrix, cleared, after, afterAll}
 use Rattle.demands.specs.Accepted.{accepted, AcceptedIn}
 use Rattle.demands.specs.Tally.{Tally, noTally, missingEdges, toldTake, counts, withBlock, tally, tallyAll}
@@ -58,23 +58,23 @@ module _ (calls : List Call) where
   every-pair e v w o = demand-3 calls .1 e .joinable v w o .1
 
   -- an output of as many bytes as the tally's missing edges need is room enough: completing into it is not refused, whichever pairs are joined ..
-  pub room-enough : tallyAll cleared noTally calls .laid ≡ true → (f : Finish) (out : List ℕ)
+  pub room-enough : tallyAll cleared noTally calls .laid ≡ true → (f : Choice) (out : List ℕ)
       → length out ≡ joinRecordSize * missingEdges (tallyAll cleared noTally calls) → (r : Refusal)
       → let s = afterAll cleared calls in
-      finishAnswer (outcome f (s .journal) (s .adjacency)) (s .journal) (s .adjacency) (length out) ≡ Refused r → ⊥
+      ranAnswer (outcome f (s .journal) (s .adjacency)) (s .journal) (s .adjacency) (length out) ≡ Refused r → ⊥
   room-enough l f out h r e =
       let c = demand-3 calls .1 l .completes f out (omega arith) in
       refused-not-completed (c .joins) (c .switches) (joinRecordSize * c .joins) r (sym e ∙ c .answer)
 
   -- .. and with one byte less nothing changes
-  pub short-unchanged : tallyAll cleared noTally calls .laid ≡ true → (f : Finish) (out : List ℕ)
+  pub short-unchanged : tallyAll cleared noTally calls .laid ≡ true → (f : Choice) (out : List ℕ)
       → length out + 1 ≡ joinRecordSize * missingEdges (tallyAll cleared noTally calls) → after (afterAll cleared calls) (complete f out) ≡ afterAll cleared calls
   short-unchanged l f out h = demand-3 calls .1 l .refuses f out (λ room. omega arith) .unchanged
 
   -- once completed, exactly as many vertices have no edge as the blocks taken or held add up to
-  pub isolated-exact : (f : Finish) (out : List ℕ) (joins switches n : ℕ)
+  pub isolated-exact : (f : Choice) (out : List ℕ) (joins switches n : ℕ)
       → let s = afterAll cleared calls in
-      finishAnswer (outcome f (s .journal) (s .adjacency)) (s .journal) (s .adjacency) (length out) ≡ Completed joins switches n
+      ranAnswer (outcome f (s .journal) (s .adjacency)) (s .journal) (s .adjacency) (length out) ≡ Completed joins switches n
       → isolated (vertices (answeredSum (calls ++ complete f out ∷ []))) (edge (after s (complete f out) .adjacency))
       ≡ answered blockIsolated [] cleared (calls ++ complete f out ∷ [])
   isolated-exact f out joins switches n e = demand-2 .completed calls [] f out joins switches n e refl .exact-isolated

@@ -10,15 +10,15 @@ use lib.ListN.{length, replicate, length-replicate}
 use Rattle.graph.specs.Graph.{Graph, DegreeTable}
 use Rattle.graph.specs.Tests.{vertices}
 use Rattle.answer.specs.declared.CompleteAnswer.the-variants.{Completed}
-use Rattle.answer.specs.declared.Finish.{Finish}
-use Rattle.answer.specs.declared.Finish.the-variants.{Lowest}
+use Rattle.answer.specs.declared.Choice.{Choice}
+use Rattle.answer.specs.declared.Choice.the-variants.{Lowest}
 use Rattle.journal.specs.Journal.{phase, tableOf}
 use Rattle.adjacency.specs.Adjacency.{edge}
 use Rattle.state.specs.Laid.{vertexCount}
 use Rattle.join_records.specs.Record.{joinRecordSize}
-use Rattle.complete.specs.Complete.{finishAnswer}
+use Rattle.complete.specs.Complete.{ranAnswer}
 use Rattle.complete.proofs.Entry.{completed-facts}
-use Rattle.complete_shuffled.specs.Finish.{outcome}
+use Rattle.complete_shuffled.specs.Outcome.{outcome}
 use Rattle.complete_shuffled.proofs.Works.{outcome-works}
 use Rattle.demands.specs.Calls.{Call, complete, State, emptyMatrix, cleared, after, afterAll}
 use Rattle.demands.specs.Tally.{noTally, missingEdges, tallyAll}
@@ -33,8 +33,8 @@ use Rattle.demands.proofs.Bytes.{empty-edge}
 use Rattle.demands.proofs.Drawing.{laid, drawn, redrawn, emptied}
 
 -- what completing ends in
-some : (s : State) (f : Finish) (out : List ℕ) (joins switches m : ℕ)
-    → finishAnswer (outcome f (s .journal) (s .adjacency)) (s .journal) (s .adjacency) (length out) ≡ Completed joins switches m
+some : (s : State) (f : Choice) (out : List ℕ) (joins switches m : ℕ)
+    → ranAnswer (outcome f (s .journal) (s .adjacency)) (s .journal) (s .adjacency) (length out) ≡ Completed joins switches m
     → Replica (tableOf (s .journal)) (edge (after s (complete f out) .adjacency))
 some s f out joins switches m e =
     let j = s .journal in

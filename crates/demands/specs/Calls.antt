@@ -3,15 +3,15 @@
 use mathlib.Core.List.{List, [], _∷_}
 use Prim.Native.Nat.{ℕ}
 use lib.ListN.{length, replicate}
-use Rattle.answer.specs.declared.Finish.{Finish}
+use Rattle.answer.specs.declared.Choice.{Choice}
 use Rattle.journal.specs.Journal.{journalSize}
 use Rattle.adjacency.specs.Adjacency.{adjacencySize}
 use Rattle.take_block.specs.Take.{takeAnswer, takeJournal}
 use Rattle.lay_out.specs.LayOut.{layOutAnswer, layOutJournal}
 use Rattle.add_edge.specs.Add.{addAnswer, addAdjacency}
 use Rattle.remove_edge.specs.Remove.{removeAnswer, removeAdjacency}
-use Rattle.complete.specs.Complete.{finishAnswer, finishAdjacency}
-use Rattle.complete_shuffled.specs.Finish.{outcome}
+use Rattle.complete.specs.Complete.{ranAnswer, ranAfter}
+use Rattle.complete_shuffled.specs.Outcome.{outcome}
 
 -- the calls that demand 3 lists: those that may change the state, with any arguments, and the reading ones between them; a survey, and
 -- writing or reading graph6, which are lent no state, may stand there too. Completing is by either finish. A list of bytes is a block, or an output as it is lent, with room or without.
@@ -20,7 +20,7 @@ pub data Call : Type 0 where
   layOut : Call
   add : ℕ → ℕ → Call
   remove : ℕ → ℕ → Call
-  complete : Finish → List ℕ → Call
+  complete : Choice → List ℕ → Call
   readBack : ℕ → Call
   list : List ℕ → Call
   figures : Call
@@ -63,7 +63,7 @@ after s (complete f out) =
     let r = outcome f (s .journal) (s .adjacency) in
     record {
       journal = s .journal;
-      adjacency = finishAdjacency (finishAnswer r (s .journal) (s .adjacency) (length out)) r (s .adjacency);
+      adjacency = ranAfter (ranAnswer r (s .journal) (s .adjacency) (length out)) r (s .adjacency);
     }
 after s (readBack number) = s
 after s (list out) = s

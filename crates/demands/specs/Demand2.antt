@@ -13,15 +13,15 @@ use Rattle.answer.specs.declared.AddAnswer.the-variants as Add
 use Rattle.answer.specs.declared.RemoveAnswer.{RemoveAnswer}
 use Rattle.answer.specs.declared.RemoveAnswer.the-variants as Remove
 use Rattle.answer.specs.declared.CompleteAnswer.the-variants.{Completed}
-use Rattle.answer.specs.declared.Finish.{Finish}
+use Rattle.answer.specs.declared.Choice.{Choice}
 use Rattle.graph.specs.Graph.{DegreeTable}
 use Rattle.table.specs.Block.{blockCell, blockIsolated}
 use Rattle.journal.specs.Journal.{phase}
 use Rattle.take_block.specs.Take.{takeAnswer}
 use Rattle.add_edge.specs.Add.{addAnswer}
 use Rattle.remove_edge.specs.Remove.{removeAnswer}
-use Rattle.complete.specs.Complete.{finishAnswer}
-use Rattle.complete_shuffled.specs.Finish.{outcome}
+use Rattle.complete.specs.Complete.{ranAnswer}
+use Rattle.complete_shuffled.specs.Outcome.{outcome}
 use Rattle.demands.specs.Calls.{Call, take, layOut, add, remove, complete, readBack, list, figures, survey, writeGraph6, readGraph6, State, cleared, after, afterAll}
 use Rattle.demands.specs.Matrix.{Short, HasTable}
 use Rattle.demands.specs.Accepted.{accepted, AcceptedIn}
@@ -79,9 +79,9 @@ quiet s (readGraph6 text out ∷ cs) = quiet s cs
 
 pub record Demand2 : Type 0 where
   -- completed: calls since the clear, a completing that was not refused, and calls after it that added and removed nothing
-  pub completed : (before rest : List Call) (f : Finish) (out : List ℕ) (joins switches n : ℕ) →
+  pub completed : (before rest : List Call) (f : Choice) (out : List ℕ) (joins switches n : ℕ) →
       let s = afterAll cleared before in
-      finishAnswer (outcome f (s .journal) (s .adjacency)) (s .journal) (s .adjacency) (length out) ≡ Completed joins switches n →
+      ranAnswer (outcome f (s .journal) (s .adjacency)) (s .journal) (s .adjacency) (length out) ≡ Completed joins switches n →
       quiet (after s (complete f out)) rest ≡ true →
       HasTable (answeredSum (before ++ complete f out ∷ rest)) (afterAll (after s (complete f out)) rest)
   -- finished in any way, "touched by these entries alone since its last clear": laid, and no cell is short

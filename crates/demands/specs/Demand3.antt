@@ -16,14 +16,14 @@ use Rattle.answer.specs.declared.Cause.the-variants.{OutputTooShort}
 use Rattle.answer.specs.declared.switches.Switches.{Switches}
 use Rattle.answer.specs.declared.AddAnswer.the-variants.{Added}
 use Rattle.answer.specs.declared.CompleteAnswer.the-variants.{Completed, Refused}
-use Rattle.answer.specs.declared.Finish.{Finish}
+use Rattle.answer.specs.declared.Choice.{Choice}
 use Rattle.adjacency.specs.Adjacency.{edge}
 use Rattle.state.specs.Valid.{valid}
 use Rattle.lay_out.specs.LayOut.{layOutAnswer}
 use Rattle.add_edge.specs.Add.{addAnswer}
 use Rattle.join_records.specs.Record.{joinRecordSize}
-use Rattle.complete.specs.Complete.{finishAnswer}
-use Rattle.complete_shuffled.specs.Finish.{outcome}
+use Rattle.complete.specs.Complete.{ranAnswer}
+use Rattle.complete_shuffled.specs.Outcome.{outcome}
 use Rattle.demands.specs.Calls.{Call, add, complete, State, cleared, after, afterAll}
 use Rattle.demands.specs.Matrix.{Short, HasTable}
 use Rattle.demands.specs.Tally.{Tally, noTally, missingEdges, tallyAll}
@@ -56,10 +56,10 @@ pub record CanBeJoined (t : DegreeTable) (s : State) (v w : ℕ) : Type 0 where
 
 -- Completing into the output is not refused; its joins and the tally's edges together are half the sum of all cells of T; the matrix then holds
 -- exactly that many edges more and, as a simple graph, has T in every cell and as many vertices without an edge as the tally's isolated ones.
-pub record Completes (t : Tally) (s : State) (f : Finish) (out : List ℕ) : Type 0 where
+pub record Completes (t : Tally) (s : State) (f : Choice) (out : List ℕ) : Type 0 where
   pub joins : ℕ
   pub switches : ℕ
-  pub answer : finishAnswer (outcome f (s .journal) (s .adjacency)) (s .journal) (s .adjacency) (length out) ≡ Completed joins switches (joinRecordSize * joins)
+  pub answer : ranAnswer (outcome f (s .journal) (s .adjacency)) (s .journal) (s .adjacency) (length out) ≡ Completed joins switches (joinRecordSize * joins)
   pub missing : 2 * (t .edges + joins) ≡ sumTo mostClasses (rowSum (t .table .cells))
   pub more : edgesLaid (t .table) (after s (complete f out)) ≡ edgesLaid (t .table) s + joins
   pub has-table : HasTable (t .table) (after s (complete f out))
@@ -69,8 +69,8 @@ abbrev pub HasRoom : Tally → List ℕ → Type 0
 HasRoom t out = joinRecordSize * missingEdges t ≤ length out
 
 -- completing into a shorter output is refused with 18, and nothing changes
-pub record RefusedShort (s : State) (f : Finish) (out : List ℕ) : Type 0 where
-  pub answer : finishAnswer (outcome f (s .journal) (s .adjacency)) (s .journal) (s .adjacency) (length out) ≡ Refused (refusal OutputTooShort 0 0)
+pub record RefusedShort (s : State) (f : Choice) (out : List ℕ) : Type 0 where
+  pub answer : ranAnswer (outcome f (s .journal) (s .adjacency)) (s .journal) (s .adjacency) (length out) ≡ Refused (refusal OutputTooShort 0 0)
   pub unchanged : after s (complete f out) ≡ s
 
 -- not laid: refused with 9, 10 or 11 if and only if no simple graph of any size has T (isolated vertices hinder no graph)
@@ -81,8 +81,8 @@ pub record NotLaid (t : Tally) (s : State) : Type 0 where
 pub record Laid (t : Tally) (s : State) : Type 0 where
   pub joinable : (v w : ℕ) → OpenPair (t .table) s v w → CanBeJoined (t .table) s v w × CanBeJoined (t .table) s w v
   pub pair : (k l : ℕ) → Short (t .table) s k l → (v w : ℕ) × OpenPair (t .table) s v w
-  pub completes : (f : Finish) (out : List ℕ) → HasRoom t out → Completes t s f out
-  pub refuses : (f : Finish) (out : List ℕ) → (HasRoom t out → ⊥) → RefusedShort s f out
+  pub completes : (f : Choice) (out : List ℕ) → HasRoom t out → Completes t s f out
+  pub refuses : (f : Choice) (out : List ℕ) → (HasRoom t out → ⊥) → RefusedShort s f out
 
 -- after every list of calls from a cleared state
 abbrev pub Demand3 : Type 0

@@ -9,13 +9,13 @@ use lib.ListN.{length, take}
 use Rattle.answer.specs.declared.Refusal.{Refusal}
 use Rattle.answer.specs.declared.CompleteAnswer.the-variants as Complete
 use Rattle.answer.specs.declared.ShuffleAnswer.the-variants.{Completed, Refused}
-use Rattle.answer.specs.declared.Finish.the-variants.{Picked}
+use Rattle.answer.specs.declared.Choice.the-variants.{Picked}
 use Rattle.journal.specs.Journal.{phase, tableOf}
 use Rattle.state.specs.Valid.{lengthsOk, valid}
-use Rattle.complete.specs.Complete.{missing, finishAnswer}
+use Rattle.complete.specs.Complete.{missing, ranAnswer}
 use Rattle.complete_shuffled.specs.Choice.{stepsX}
 use Rattle.complete_shuffled.specs.Shuffle.{shuffleAnswer, shuffleAdjacency, shuffleOutput}
-use Rattle.complete_shuffled.specs.Finish.{outcome}
+use Rattle.complete_shuffled.specs.Outcome.{outcome}
 use Rattle.demands.specs.Calls.{complete, State, after}
 use Rattle.demands.specs.Matrix.{Short, HasTable}
 use Rattle.demands.specs.Playback.{play}
@@ -45,5 +45,5 @@ pub record ShuffledFinishing : Type 0 where
   -- the entry is the finish of the list of calls that x picks: it is refused where that is, and leaves the matrix that that leaves
   pub refused : (s : State) (x : ℕ) (out : List ℕ) (r : Refusal) →
       shuffleAnswer (s .journal) (s .adjacency) x (length out) ≡ Refused r →
-      finishAnswer (outcome (Picked x) (s .journal) (s .adjacency)) (s .journal) (s .adjacency) (length out) ≡ Complete.Refused r
+      ranAnswer (outcome (Picked x) (s .journal) (s .adjacency)) (s .journal) (s .adjacency) (length out) ≡ Complete.Refused r
   pub same-matrix : (s : State) (x : ℕ) (out : List ℕ) → shuffleAdjacency (s .journal) (s .adjacency) x (length out) ≡ after s (complete (Picked x) out) .adjacency

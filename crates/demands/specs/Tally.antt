@@ -19,8 +19,8 @@ use Rattle.layout.specs.Layout.{mostVertices, wanted}
 use Rattle.journal.specs.Journal.{mostBlocks}
 use Rattle.add_edge.specs.Add.{addAnswer}
 use Rattle.remove_edge.specs.Remove.{removeAnswer}
-use Rattle.complete.specs.Complete.{finishAnswer}
-use Rattle.complete_shuffled.specs.Finish.{outcome}
+use Rattle.complete.specs.Complete.{ranAnswer}
+use Rattle.complete_shuffled.specs.Outcome.{outcome}
 use Rattle.demands.specs.Calls.{Call, take, layOut, add, remove, complete, readBack, list, figures, survey, writeGraph6, readGraph6, State, after}
 
 -- what the tally is told of a call
@@ -37,7 +37,7 @@ told s (take number b) = toldTake number b
 told s layOut = toldLayOut
 told s (add v w) = toldAdd (addAnswer (s .journal) (s .adjacency) v w)
 told s (remove v w) = toldRemove (removeAnswer (s .journal) (s .adjacency) v w)
-told s (complete f out) = toldComplete (finishAnswer (outcome f (s .journal) (s .adjacency)) (s .journal) (s .adjacency) (length out))
+told s (complete f out) = toldComplete (ranAnswer (outcome f (s .journal) (s .adjacency)) (s .journal) (s .adjacency) (length out))
 told s (readBack number) = toldNothing
 told s (list out) = toldNothing
 told s figures = toldNothing

@@ -17,7 +17,7 @@ use Rattle.answer.specs.declared.AddAnswer.{AddAnswer}
 use Rattle.answer.specs.declared.AddAnswer.the-variants as Add
 use Rattle.answer.specs.declared.RemoveAnswer.the-variants.{Removed}
 use Rattle.answer.specs.declared.CompleteAnswer.the-variants.{Completed}
-use Rattle.answer.specs.declared.Finish.{Finish}
+use Rattle.answer.specs.declared.Choice.{Choice}
 use Rattle.journal.specs.Journal.{phase, tableOf}
 use Rattle.adjacency.specs.Adjacency.{side, adjacencySize, edge}
 use Rattle.state.specs.Valid.{lengthsOk, valid}
@@ -25,8 +25,8 @@ use Rattle.state.specs.Laid.{vertexCount}
 use Rattle.edge_lists.specs.EdgeList.{listOf}
 use Rattle.add_edge.specs.Add.{addAnswer}
 use Rattle.remove_edge.specs.Remove.{removeAnswer}
-use Rattle.complete.specs.Complete.{finishAnswer}
-use Rattle.complete_shuffled.specs.Finish.{outcome}
+use Rattle.complete.specs.Complete.{ranAnswer}
+use Rattle.complete_shuffled.specs.Outcome.{outcome}
 use Rattle.demands.specs.Calls.{Call, add, remove, complete, State, emptyMatrix, cleared, after, afterAll}
 use Rattle.demands.specs.Tally.{noTally, missingEdges, tallyAll}
 
@@ -100,8 +100,8 @@ pub record ValidLaid (s : State) : Type 0 where
 
 -- completing makes no join and changes nothing
 pub record NothingToComplete (s : State) : Type 0 where
-  pub no-joins : (f : Finish) (out : List ℕ) → finishAnswer (outcome f (s .journal) (s .adjacency)) (s .journal) (s .adjacency) (length out) ≡ Completed 0 0 0
-  pub unchanged : (f : Finish) (out : List ℕ) → after s (complete f out) ≡ s
+  pub no-joins : (f : Choice) (out : List ℕ) → ranAnswer (outcome f (s .journal) (s .adjacency)) (s .journal) (s .adjacency) (length out) ≡ Completed 0 0 0
+  pub unchanged : (f : Choice) (out : List ℕ) → after s (complete f out) ≡ s
 
 -- adding the pairs is never refused, makes no switch and ends in H
 pub record Drawn (s : State) (H : Graph) (ps : List Pair) : Type 0 where
@@ -126,8 +126,8 @@ lacking H E v w = E v w - H v w
 
 pub record EveryReplicaWithinReach : Type 0 where
   -- There always is such a graph: what completing ends in is one.
-  pub some : (s : State) (f : Finish) (out : List ℕ) (joins switches m : ℕ) →
-      finishAnswer (outcome f (s .journal) (s .adjacency)) (s .journal) (s .adjacency) (length out) ≡ Completed joins switches m →
+  pub some : (s : State) (f : Choice) (out : List ℕ) (joins switches m : ℕ) →
+      ranAnswer (outcome f (s .journal) (s .adjacency)) (s .journal) (s .adjacency) (length out) ≡ Completed joins switches m →
       Replica (tableOf (s .journal)) (edge (after s (complete f out) .adjacency))
   -- An order is as long as the graph has edges.
   pub order-length : (n : ℕ) (H : Graph) → Simple n H → (ps : List Pair) → Order n H ps → length ps ≡ edges n H

@@ -10,6 +10,7 @@ use Rattle.answer.specs.declared.Cause.the-variants.{OutputTooShort}
 use Rattle.answer.specs.declared.WrittenAnswer.{WrittenAnswer}
 use Rattle.answer.specs.declared.WrittenAnswer.the-variants.{Written, Refused}
 use Rattle.adjacency.specs.Adjacency.{edge}
+use Rattle.state.specs.State.{State}
 use Rattle.state.specs.Checks.{phaseVerdict}
 use Rattle.state.specs.Laid.{vertexCount}
 use Rattle.edge_lists.specs.EdgeList.{listOf}
@@ -19,16 +20,19 @@ abbrev pub listBytes : ℕ → List ℕ → List ℕ
 listBytes n g = listOf n (edge g)
 
 -- on a valid laid state, for an output of m bytes: the check 18
-abbrev pub listLaid : List ℕ → List ℕ → ℕ → WrittenAnswer
-listLaid j g m =
-    unless (leb (length (listBytes (vertexCount j) g)) m) (Refused (refusal OutputTooShort 0 0))
-    (Written (length (listBytes (vertexCount j) g)))
+abbrev pub listLaid : State → ℕ → WrittenAnswer
+listLaid s m =
+    unless (leb (length (listBytes (vertexCount s) (s .adjacency))) m) (Refused (refusal OutputTooShort 0 0))
+    (Written (length (listBytes (vertexCount s) (s .adjacency))))
 
 -- the checks 1, 2, 3, then 18
-abbrev pub listAnswer : List ℕ → List ℕ → ℕ → WrittenAnswer
-listAnswer j g m = unlessStopped (phaseVerdict 1 j g) Refused (listLaid j g m)
+abbrev pub listAnswer : State → ℕ → WrittenAnswer
+listAnswer s m = unlessStopped (phaseVerdict 1 s) Refused (listLaid s m)
 
 -- the output afterwards: the list, and behind it what was there
-abbrev pub listOutput : WrittenAnswer → List ℕ → List ℕ → List ℕ → List ℕ
-listOutput (Written n) j g out = sets out 0 (listBytes (vertexCount j) g)
-listOutput (Refused r) j g out = out
+abbrev pub outputListed : WrittenAnswer → State → List ℕ → List ℕ
+outputListed (Written n) s out = sets out 0 (listBytes (vertexCount s) (s .adjacency))
+outputListed (Refused r) s out = out
+
+abbrev pub listOutput : State → List ℕ → List ℕ
+listOutput s out = outputListed (listAnswer s (length out)) s out

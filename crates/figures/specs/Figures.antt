@@ -9,24 +9,25 @@ use Rattle.answer.specs.declared.Figures.{Figures}
 use Rattle.answer.specs.declared.FiguresAnswer.{FiguresAnswer}
 use Rattle.answer.specs.declared.FiguresAnswer.the-variants.{Reported, Refused}
 use Rattle.graph.specs.Graph.{edges}
-use Rattle.graph.specs.Tests.{vertices}
 use Rattle.layout.specs.Layout.{wanted}
-use Rattle.journal.specs.Journal.{phase, blocks, jdmOf, tableOf}
+use Rattle.journal.specs.Journal.{phase, blocks, jdmOf}
 use Rattle.adjacency.specs.Adjacency.{edge}
+use Rattle.state.specs.State.{State}
 use Rattle.state.specs.Checks.{stateVerdict}
+use Rattle.state.specs.Laid.{vertexCount}
 
 -- the figures of a state: the Bool tells whether its phase is 0
-abbrev pub figuresOf : Bool → List ℕ → List ℕ → Figures
-figuresOf true j g = record { phase = 0; blocks = blocks j; vertices = 0; wanted = 0; laid = 0 }
-figuresOf false j g =
+abbrev pub figuresOf : Bool → State → Figures
+figuresOf true s = record { phase = 0; blocks = blocks (s .journal); vertices = 0; wanted = 0; laid = 0 }
+figuresOf false s =
     record {
       phase = 1;
-      blocks = blocks j;
-      vertices = vertices (tableOf j);
-      wanted = wanted (jdmOf j);
-      laid = edges (vertices (tableOf j)) (edge g);
+      blocks = blocks (s .journal);
+      vertices = vertexCount s;
+      wanted = wanted (jdmOf (s .journal));
+      laid = edges (vertexCount s) (edge (s .adjacency));
     }
 
 -- the checks 1, 2
-abbrev pub figuresAnswer : List ℕ → List ℕ → FiguresAnswer
-figuresAnswer j g = unlessStopped (stateVerdict j g) Refused (Reported (figuresOf (eqb (phase j) 0) j g))
+abbrev pub figuresAnswer : State → FiguresAnswer
+figuresAnswer s = unlessStopped (stateVerdict s) Refused (Reported (figuresOf (eqb (phase (s .journal)) 0) s))

@@ -9,6 +9,7 @@ use Rattle.answer.specs.declared.LayOutAnswer.the-variants.{LaidOut, Refused}
 use Rattle.graph.specs.Tests.{vertices}
 use Rattle.layout.specs.Layout.{layoutVerdict}
 use Rattle.journal.specs.Journal.{tableOf, laid}
+use Rattle.state.specs.State.{State, withJournal}
 use Rattle.state.specs.Checks.{phaseVerdict}
 
 -- after the tests 9 to 12: N, or the refusal they gave
@@ -16,10 +17,14 @@ abbrev pub laidOut : Verdict → ℕ → LayOutAnswer
 laidOut v n = unlessStopped v Refused (LaidOut n)
 
 -- the checks 1, 2, 3, then 9, 10, 11, 12
-abbrev pub layOutAnswer : List ℕ → List ℕ → LayOutAnswer
-layOutAnswer j g = unlessStopped (phaseVerdict 0 j g) Refused (laidOut (layoutVerdict (tableOf j)) (vertices (tableOf j)))
+abbrev pub layOutAnswer : State → LayOutAnswer
+layOutAnswer s =
+    unlessStopped (phaseVerdict 0 s) Refused (laidOut (layoutVerdict (tableOf (s .journal))) (vertices (tableOf (s .journal))))
 
--- the journal afterwards
-abbrev pub layOutJournal : LayOutAnswer → List ℕ → List ℕ
-layOutJournal (LaidOut n) j = laid j
-layOutJournal (Refused r) j = j
+-- the state afterwards
+abbrev pub afterLayOut : LayOutAnswer → State → State
+afterLayOut (LaidOut n) s = withJournal s (laid (s .journal))
+afterLayOut (Refused r) s = s
+
+abbrev pub layOutAfter : State → State
+layOutAfter s = afterLayOut (layOutAnswer s) s

@@ -7,7 +7,7 @@ use Prim.Native.Nat.{ℕ, _+_, _-_, _*_}
 use lib.Dec.{eqb, leb, ltb}
 use lib.ListN.{length, getD}
 use Rattle.finite.specs.Range.{allTo, foldTo}
-use Rattle.answer.specs.declared.Finish.the-variants.{Lowest, Picked}
+use Rattle.answer.specs.declared.Choice.the-variants.{Lowest, Picked}
 use Rattle.slices.specs.Slices.{sameBytes}
 use Rattle.options.specs.declared.Form.{Form}
 use Rattle.options.specs.declared.Form.the-variants.{Lines, Graph6}

@@ -2,7 +2,7 @@
 ghost use mathlib.Core.Path.{_≡_};
 ghost use Prim.Native.Nat.{_-_};
 ghost use Rattle.options.specs.Options.{isDigit, numberOf, shuffledBy, oneWord, twoWords, threeWords, choiceOf};
-use answer::Finish;
+use answer::Choice;
 use slices::same_bytes;
 use slices::wide;
 
@@ -14,7 +14,7 @@ pub enum Form {
 
 // What the arguments ask for.
 pub enum Choice {
-    Show(Form, Finish),
+    Show(Form, Choice),
     Usage,
 }
 
@@ -59,7 +59,7 @@ fn shuffled_by(form: Form, word: &[u8]) -> Choice
 {
     let number = number_of(word);
     match number {
-        Number::Value(x) => Choice::Show(form, Finish::Picked(x)),
+        Number::Value(x) => Choice::Show(form, Choice::Picked(x)),
         Number::NoNumber => Choice::Usage,
     }
 }
@@ -69,7 +69,7 @@ fn one_word(first: &[u8]) -> Choice
     ensures { λ r. ⌜ r ≡ oneWord (now (first .entry)) ⌝ }
 {
     if same_bytes(first, b"--graph6") {
-        return Choice::Show(Form::Graph6, Finish::Lowest);
+        return Choice::Show(Form::Graph6, Choice::Lowest);
     }
     Choice::Usage
 }
@@ -102,7 +102,7 @@ pub fn choice_of(count: usize, first: &[u8], second: &[u8], third: &[u8]) -> Cho
     ensures { λ r. ⌜ r ≡ choiceOf count (now (first .entry)) (now (second .entry)) (now (third .entry)) ⌝ }
 {
     if count <= 1 {
-        return Choice::Show(Form::Lines, Finish::Lowest);
+        return Choice::Show(Form::Lines, Choice::Lowest);
     }
     if count == 2 {
         return one_word(first);

@@ -6,7 +6,7 @@ use mathlib.Core.Bool.{true}
 use mathlib.Core.List.{List, [], _∷_}
 use Prim.Native.Nat.{ℕ, zero, suc, _+_}
 use lib.ListN.{replicate}
-use Rattle.answer.specs.declared.Finish.the-variants.{Lowest}
+use Rattle.answer.specs.declared.Choice.the-variants.{Lowest}
 use Rattle.demands.specs.Calls.{take, layOut, add, remove, complete, readBack, list, figures, survey}
 use Rattle.worked.specs.Cases.{Step, _gives_, Case, allHold, taken, held, part, laidOut, finished, written, report, no, noInto, joined, noJoin, join, sevens, rec}
 

@@ -1,31 +1,28 @@
 -- Removing an edge (document 01: lift).
 -- Assumes nothing.
-use mathlib.Core.Bool.{not}
-use mathlib.Core.List.{List}
 use Prim.Native.Nat.{ℕ}
-use lib.Dec.{eqb, ltb}
+use lib.Dec.{eqb}
 use Rattle.answer.specs.Refusals.{refusal, unless, unlessStopped}
-use Rattle.answer.specs.declared.Cause.the-variants.{NoSuchVertex, SameVertex, EdgeAbsent}
+use Rattle.answer.specs.declared.Cause.the-variants.{EdgeAbsent}
 use Rattle.answer.specs.declared.RemoveAnswer.{RemoveAnswer}
 use Rattle.answer.specs.declared.RemoveAnswer.the-variants.{Removed, Refused}
 use Rattle.adjacency.specs.Adjacency.{edge, setEdge}
-use Rattle.state.specs.Checks.{phaseVerdict}
+use Rattle.state.specs.State.{State, withMatrix}
+use Rattle.state.specs.Checks.{phaseVerdict, pairVerdict}
 use Rattle.state.specs.Laid.{vertexCount}
 
--- on a valid laid state: the checks 13, 14, 17
-abbrev pub removeLaid : List ℕ → List ℕ → ℕ → ℕ → RemoveAnswer
-removeLaid j g v w =
-    unless (ltb v (vertexCount j)) (Refused (refusal NoSuchVertex 0 0))
-    (unless (ltb w (vertexCount j)) (Refused (refusal NoSuchVertex 0 0))
-    (unless (not (eqb v w)) (Refused (refusal SameVertex 0 0))
-    (unless (eqb (edge g v w) 1) (Refused (refusal EdgeAbsent 0 0))
-    Removed)))
+-- the checks 1, 2, 3, then 13, 14, then 17
+abbrev pub removeAnswer : State → ℕ → ℕ → RemoveAnswer
+removeAnswer s v w =
+    unlessStopped (phaseVerdict 1 s) Refused
+    (unlessStopped (pairVerdict (vertexCount s) v w) Refused
+    (unless (eqb (edge (s .adjacency) v w) 1) (Refused (refusal EdgeAbsent 0 0))
+    Removed))
 
--- the checks 1, 2, 3, then 13, 14, 17
-abbrev pub removeAnswer : List ℕ → List ℕ → ℕ → ℕ → RemoveAnswer
-removeAnswer j g v w = unlessStopped (phaseVerdict 1 j g) Refused (removeLaid j g v w)
+-- the state afterwards
+abbrev pub afterRemove : RemoveAnswer → State → ℕ → ℕ → State
+afterRemove Removed s v w = withMatrix s (setEdge (s .adjacency) v w 0)
+afterRemove (Refused r) s v w = s
 
--- the matrix afterwards
-abbrev pub removeAdjacency : RemoveAnswer → List ℕ → ℕ → ℕ → List ℕ
-removeAdjacency Removed g v w = setEdge g v w 0
-removeAdjacency (Refused r) g v w = g
+abbrev pub removeAfter : State → ℕ → ℕ → State
+removeAfter s v w = afterRemove (removeAnswer s v w) s v w

@@ -1,5 +1,5 @@
 // The program: builds the replica of the records on standard input and prints it.
-use answer::Finish;
+use answer::Choice;
 use libc::STDERR_FILENO;
 use libc::STDIN_FILENO;
 use libc::STDOUT_FILENO;
@@ -21,7 +21,7 @@ fn was_read(n: usize) -> bool {
 }
 
 // Reads the records and prints the replica.
-fn print_replica(form: Form, finish: Finish) {
+fn print_replica(form: Form, finish: Choice) {
     let mut input = [0u8; MAX_INPUT_BYTES];
     let n = io::read_full(STDIN_FILENO, &mut input);
     if !was_read(n) {

@@ -22,7 +22,7 @@ use Rattle.answer.specs.declared.LayOutAnswer.{LayOutAnswer}
 use Rattle.answer.specs.declared.LayOutAnswer.the-variants.{LaidOut, Refused as LayOutRefused}
 use Rattle.answer.specs.declared.CompleteAnswer.{CompleteAnswer}
 use Rattle.answer.specs.declared.CompleteAnswer.the-variants.{Completed, Refused as CompleteRefused}
-use Rattle.answer.specs.declared.Finish.{Finish}
+use Rattle.answer.specs.declared.Choice.{Choice}
 use Rattle.table.specs.Block.{blockCell, blockIsolated, plus}
 use Rattle.journal.specs.Journal.{journalSize, phase, blocks, tableOf, laid}
 use Rattle.journal.proofs.Store.{phase-stored, blocks-stored, table-stored}
@@ -44,9 +44,9 @@ use Rattle.edge_lists.proofs.Pairs.{cat-sized, one-sized}
 use Rattle.edge_list.specs.List.{listBytes}
 use Rattle.graph6.proofs.Text.{text-cong}
 use Rattle.graph6_write.specs.Write.{writeText}
-use Rattle.complete.specs.Complete.{Ran, finishAnswer, finishAdjacency}
+use Rattle.complete.specs.Complete.{Ran, ranAnswer, ranAfter}
 use Rattle.complete.proofs.Entry.{CompleteFacts, completed-facts, facts-completed, missing-most}
-use Rattle.complete_shuffled.specs.Finish.{outcome}
+use Rattle.complete_shuffled.specs.Outcome.{outcome}
 use Rattle.complete_shuffled.proofs.Works.{outcome-works}
 use Rattle.text.specs.Text.{newline, refusedLine, headLine, edgeLines}
 use Rattle.text.proofs.Lines.{lines-cat, lines-one}
@@ -155,8 +155,8 @@ state-shown Graph6 n switches j g count simple =
     (text-cong (vertexCount j) (edge g) (graphOf (listBytes (vertexCount j) g)) (list-graph (vertexCount j) (edge g) simple))
 
 -- a completed state's text
-module _ (finish : Finish) (j g : List ℕ) (n joins switches written : ℕ) (count : n ≡ vertexCount j)
-    (e : finishAnswer (outcome finish j g) j g recordsMost ≡ Completed joins switches written) where
+module _ (finish : Choice) (j g : List ℕ) (n joins switches written : ℕ) (count : n ≡ vertexCount j)
+    (e : ranAnswer (outcome finish j g) j g recordsMost ≡ Completed joins switches written) where
   built : (form : Form) → Built form (tableOf j) (stateText form n switches j (outcome finish j g .adjacency))
   built form =
       let w = outcome-works finish j g (completed-facts j g (outcome finish j g) recordsMost joins switches written e .facts) in
@@ -176,16 +176,16 @@ module _ (finish : Finish) (j g : List ℕ) (n joins switches written : ℕ) (co
 abbrev Told : Form → DegreeTable → List ℕ → Type 0
 Told form t text = ((r : Refusal) × (text ≡ refusedLine r)) ⊎ Built form t text
 
-told-completed : (form : Form) (finish : Finish) (j g : List ℕ) (n : ℕ) → n ≡ vertexCount j
+told-completed : (form : Form) (finish : Choice) (j g : List ℕ) (n : ℕ) → n ≡ vertexCount j
     → Told form (tableOf j) (laidText form finish (LaidOut n) j g)
-told-completed form finish j g n count = go (finishAnswer (outcome finish j g) j g recordsMost) refl
+told-completed form finish j g n count = go (ranAnswer (outcome finish j g) j g recordsMost) refl
   where
-    go : (a : CompleteAnswer) → finishAnswer (outcome finish j g) j g recordsMost ≡ a
-        → Told form (tableOf j) (completedText form a n j (finishAdjacency a (outcome finish j g) g))
+    go : (a : CompleteAnswer) → ranAnswer (outcome finish j g) j g recordsMost ≡ a
+        → Told form (tableOf j) (completedText form a n j (ranAfter a (outcome finish j g) g))
     go (Completed joins switches written) e = inr (built finish j g n joins switches written count e form)
     go (CompleteRefused r) e = inl (r, refl)
 
-told-laid : (form : Form) (finish : Finish) (j g : List ℕ) → Told form (tableOf j) (takenText form finish Go j g)
+told-laid : (form : Form) (finish : Choice) (j g : List ℕ) → Told form (tableOf j) (takenText form finish Go j g)
 told-laid form finish j g = go (layOutAnswer j g) refl
   where
     go : (a : LayOutAnswer) → layOutAnswer j g ≡ a → Told form (tableOf j) (laidText form finish a (layOutJournal a j) g)
@@ -194,7 +194,7 @@ told-laid form finish j g = go (layOutAnswer j g) refl
         (told-completed form finish (laid j) g n (laid-count j g n e))
     go (LayOutRefused r) e = inl (r, refl)
 
-told : (form : Form) (finish : Finish) (j g input : List ℕ) → ClearedState j g → Told form (inputTable input) (textFrom form finish j g input)
+told : (form : Form) (finish : Choice) (j g input : List ℕ) → ClearedState j g → Told form (inputTable input) (textFrom form finish j g input)
 told form finish j g input c = go (takeAll j g input .verdict) refl
   where
     go : (v : Verdict) → takeAll j g input .verdict ≡ v → Told form (inputTable input) (takenText form finish v (takeAll j g input .journal) g)
@@ -207,9 +207,9 @@ pub program-says : ProgramSays
 program-says form finish input = told form finish (replicate journalSize 0) (replicate adjacencySize 0) input cleared-state
 
 -- completing a laid state is not refused: no layout has more edges than there is room for
-laid-completes : (finish : Finish) (j g : List ℕ) (n : ℕ) → layOutAnswer j g ≡ LaidOut n
+laid-completes : (finish : Choice) (j g : List ℕ) (n : ℕ) → layOutAnswer j g ≡ LaidOut n
     → let j′ = layOutJournal (layOutAnswer j g) j in
-    (joins switches written : ℕ) × (finishAnswer (outcome finish j′ g) j′ g recordsMost ≡ Completed joins switches written)
+    (joins switches written : ℕ) × (ranAnswer (outcome finish j′ g) j′ g recordsMost ≡ Completed joins switches written)
 laid-completes finish j g n e =
     (r .joins, r .switches, length (r .records), facts-completed j′ g r recordsMost f (omega (arith, missing-most j′ g f)))
   where

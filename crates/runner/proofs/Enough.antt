@@ -11,7 +11,7 @@ use lib.Seq.{take-all, getD-take, ext-getD}
 use Rattle.finite.proofs.Fold.{foldTo-none, foldTo-more}
 use Rattle.answer.specs.declared.Verdict.{Verdict}
 use Rattle.answer.specs.declared.Verdict.the-variants.{Go, Stop}
-use Rattle.answer.specs.declared.Finish.{Finish}
+use Rattle.answer.specs.declared.Choice.{Choice}
 use Rattle.slices.proofs.Part.{length-part, getD-part}
 use Rattle.table.specs.Block.{blockMost}
 use Rattle.journal.specs.Journal.{mostBlocks, journalSize}
@@ -68,7 +68,7 @@ module _ (j g input : List ℕ) (long : inputMost < length input) where
           ∙ ap (after j g (take inputMost input)) q
 
 -- from any journal and matrix
-enough : (form : Form) (finish : Finish) (j g input : List ℕ) → textFrom form finish j g input ≡ textFrom form finish j g (take inputMost input)
+enough : (form : Form) (finish : Choice) (j g input : List ℕ) → textFrom form finish j g input ≡ textFrom form finish j g (take inputMost input)
 enough form finish j g input = go (decLt inputMost (length input))
   where
     go : Dec (inputMost < length input) → textFrom form finish j g input ≡ textFrom form finish j g (take inputMost input)

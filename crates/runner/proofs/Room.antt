@@ -17,7 +17,7 @@ use Rattle.answer.specs.declared.CompleteAnswer.{CompleteAnswer}
 use Rattle.answer.specs.declared.CompleteAnswer.the-variants.{Completed, Refused as CompleteRefused}
 use Rattle.answer.specs.declared.WrittenAnswer.{WrittenAnswer}
 use Rattle.answer.specs.declared.WrittenAnswer.the-variants.{Written, Refused as WriteRefused}
-use Rattle.answer.specs.declared.Finish.{Finish}
+use Rattle.answer.specs.declared.Choice.{Choice}
 use Rattle.slices.proofs.Part.{take-sets}
 use Rattle.journal.specs.Journal.{phase, jdmOf}
 use Rattle.state.specs.Valid.{lengthsOk, valid}
@@ -37,11 +37,11 @@ use Rattle.edge_lists.proofs.Listed.{list-rising, list-passed}
 use Rattle.graph6.specs.Format.{bodyMost}
 use Rattle.graph6.proofs.Text.{text-most}
 use Rattle.graph6_write.specs.Write.{writeText}
-use Rattle.complete.specs.Complete.{mostEdges, finishAnswer, finishAdjacency}
+use Rattle.complete.specs.Complete.{mostEdges, ranAnswer, ranAfter}
 use Rattle.complete.proofs.Cellwise.{room}
 use Rattle.complete.proofs.Works.{few-edges}
 use Rattle.complete.proofs.Entry.{completed-facts}
-use Rattle.complete_shuffled.specs.Finish.{outcome}
+use Rattle.complete_shuffled.specs.Outcome.{outcome}
 use Rattle.complete_shuffled.proofs.Works.{outcome-works}
 use Rattle.text.specs.Text.{newline, edgeLines, headLine, headMost, edgeMost}
 use Rattle.text.proofs.Decimal.{refused-length, head-length, edges-length}
@@ -136,12 +136,12 @@ module _ (j g : List ℕ) (lengths : lengthsOk j g ≡ true) (sound : valid j g 
 refused-fits : (r : Refusal) → length (Rattle.text.specs.Text.refusedLine r) ≤ textMost
 refused-fits r = omega (arith, refused-length r)
 
-completed-fits : (form : Form) (finish : Finish) (j g : List ℕ) (n : ℕ) → n ≡ vertexCount j
+completed-fits : (form : Form) (finish : Choice) (j g : List ℕ) (n : ℕ) → n ≡ vertexCount j
     → length (laidText form finish (LaidOut n) j g) ≤ textMost
-completed-fits form finish j g n count = go (finishAnswer (outcome finish j g) j g recordsMost) refl
+completed-fits form finish j g n count = go (ranAnswer (outcome finish j g) j g recordsMost) refl
   where
-    go : (a : CompleteAnswer) → finishAnswer (outcome finish j g) j g recordsMost ≡ a
-        → length (completedText form a n j (finishAdjacency a (outcome finish j g) g)) ≤ textMost
+    go : (a : CompleteAnswer) → ranAnswer (outcome finish j g) j g recordsMost ≡ a
+        → length (completedText form a n j (ranAfter a (outcome finish j g) g)) ≤ textMost
     go (Completed joins switches written) e =
         let f = completed-facts j g (outcome finish j g) recordsMost joins switches written e .facts in
         let w = outcome-works finish j g f in
@@ -153,7 +153,7 @@ pub laid-count : (j g : List ℕ) (n : ℕ) → layOutAnswer j g ≡ LaidOut n �
 laid-count j g n e = lay-out-vertices j g n e ∙ ap vertices (sym (table-laid j))
 
 -- every text fits
-pub text-fits : (form : Form) (finish : Finish) (v : Verdict) (j g : List ℕ) → length (takenText form finish v j g) ≤ textMost
+pub text-fits : (form : Form) (finish : Choice) (v : Verdict) (j g : List ℕ) → length (takenText form finish v j g) ≤ textMost
 text-fits form finish (Stop r) j g = refused-fits r
 text-fits form finish Go j g = go (layOutAnswer j g) refl
   where

@@ -15,7 +15,7 @@ use Rattle.answer.specs.declared.LayOutAnswer.{LayOutAnswer}
 use Rattle.answer.specs.declared.LayOutAnswer.the-variants.{LaidOut, Refused as LayOutRefused}
 use Rattle.answer.specs.declared.CompleteAnswer.{CompleteAnswer}
 use Rattle.answer.specs.declared.CompleteAnswer.the-variants.{Completed, Refused as CompleteRefused}
-use Rattle.answer.specs.declared.Finish.{Finish}
+use Rattle.answer.specs.declared.Choice.{Choice}
 use Rattle.table.specs.Block.{blockMost}
 use Rattle.journal.specs.Journal.{mostBlocks, journalSize}
 use Rattle.adjacency.specs.Adjacency.{adjacencySize}
@@ -23,8 +23,8 @@ use Rattle.state.specs.Laid.{vertexCount}
 use Rattle.take_block.specs.Take.{takeAnswer, takeJournal}
 use Rattle.lay_out.specs.LayOut.{layOutAnswer, layOutJournal}
 use Rattle.join_records.specs.Record.{joinRecordSize}
-use Rattle.complete.specs.Complete.{mostEdges, finishAnswer, finishAdjacency}
-use Rattle.complete_shuffled.specs.Finish.{outcome}
+use Rattle.complete.specs.Complete.{mostEdges, ranAnswer, ranAfter}
+use Rattle.complete_shuffled.specs.Outcome.{outcome}
 use Rattle.edge_list.specs.List.{listBytes}
 use Rattle.graph6_write.specs.Write.{writeText}
 use Rattle.options.specs.declared.Form.{Form}
@@ -80,24 +80,24 @@ completedText form (Completed joins switches written) n j g = stateText form n s
 completedText form (CompleteRefused r) n j g = refusedLine r
 
 -- after laying out
-abbrev pub laidText : Form → Finish → LayOutAnswer → List ℕ → List ℕ → List ℕ
+abbrev pub laidText : Form → Choice → LayOutAnswer → List ℕ → List ℕ → List ℕ
 laidText form finish (LaidOut n) j g =
     let r = outcome finish j g in
-    let a = finishAnswer r j g recordsMost in
-    completedText form a n j (finishAdjacency a r g)
+    let a = ranAnswer r j g recordsMost in
+    completedText form a n j (ranAfter a r g)
 laidText form finish (LayOutRefused r) j g = refusedLine r
 
 -- after taking
-abbrev pub takenText : Form → Finish → Verdict → List ℕ → List ℕ → List ℕ
+abbrev pub takenText : Form → Choice → Verdict → List ℕ → List ℕ → List ℕ
 takenText form finish Go j g = let a = layOutAnswer j g in laidText form finish a (layOutJournal a j) g
 takenText form finish (Stop r) j g = refusedLine r
 
 -- from a journal j and a matrix g
-abbrev pub textFrom : Form → Finish → List ℕ → List ℕ → List ℕ → List ℕ
+abbrev pub textFrom : Form → Choice → List ℕ → List ℕ → List ℕ → List ℕ
 textFrom form finish j g input = takenText form finish (takeAll j g input .verdict) (takeAll j g input .journal) g
 
 -- the program's text: the journal and the matrix are all zero at first
-abbrev pub programText : Form → Finish → List ℕ → List ℕ
+abbrev pub programText : Form → Choice → List ℕ → List ℕ
 programText form finish input = textFrom form finish (replicate journalSize 0) (replicate adjacencySize 0) input
 
 -- the bytes of an input that can matter: one block more than the journal has room for

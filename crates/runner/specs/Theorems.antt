@@ -13,15 +13,15 @@ use Rattle.answer.specs.declared.Refusal.{Refusal}
 use Rattle.answer.specs.declared.Verdict.the-variants.{Go}
 use Rattle.answer.specs.declared.LayOutAnswer.the-variants.{LaidOut}
 use Rattle.answer.specs.declared.CompleteAnswer.the-variants.{Completed}
-use Rattle.answer.specs.declared.Finish.{Finish}
+use Rattle.answer.specs.declared.Choice.{Choice}
 use Rattle.table.specs.Block.{blockMost, blockCell, blockIsolated}
 use Rattle.graph.specs.Tests.{vertices}
 use Rattle.journal.specs.Journal.{journalSize, tableOf}
 use Rattle.adjacency.specs.Adjacency.{adjacencySize, edge}
 use Rattle.lay_out.specs.LayOut.{layOutAnswer, layOutJournal}
-use Rattle.complete.specs.Complete.{finishAnswer}
+use Rattle.complete.specs.Complete.{ranAnswer}
 use Rattle.graph6.specs.Format.{graph6Text}
-use Rattle.complete_shuffled.specs.Finish.{outcome}
+use Rattle.complete_shuffled.specs.Outcome.{outcome}
 use Rattle.text.specs.Text.{newline, refusedLine, headLine, edgeLine}
 use Rattle.options.specs.declared.Form.{Form}
 use Rattle.options.specs.declared.Form.the-variants.{Lines, Graph6}
@@ -37,18 +37,18 @@ pub record InputCut : Type 0 where
 
 -- what lies behind 65 blocks cannot matter: the program need not read it
 abbrev pub ReadsEnough : Type 0
-ReadsEnough = (form : Form) (finish : Finish) (input : List ℕ) → programText form finish input ≡ programText form finish (take inputMost input)
+ReadsEnough = (form : Form) (finish : Choice) (input : List ℕ) → programText form finish input ≡ programText form finish (take inputMost input)
 
 -- where the input's blocks are taken and laid out, completing has room and is not refused
 abbrev pub CompletesAlways : Type 0
 CompletesAlways =
-    (finish : Finish) (input : List ℕ) (n : ℕ) →
+    (finish : Choice) (input : List ℕ) (n : ℕ) →
     let g : List ℕ = replicate adjacencySize 0 in
     let t = takeAll (replicate journalSize 0) g input in
     let a = layOutAnswer (t .journal) g in
     let j = layOutJournal a (t .journal) in
     t .verdict ≡ Go → a ≡ LaidOut n →
-    (joins switches written : ℕ) × (finishAnswer (outcome finish j g) j g recordsMost ≡ Completed joins switches written)
+    (joins switches written : ℕ) × (ranAnswer (outcome finish j g) j g recordsMost ≡ Completed joins switches written)
 
 -- the sum of the input's blocks: in each cell, and of the isolated vertices
 abbrev pub inputTable : List ℕ → DegreeTable
@@ -83,5 +83,5 @@ pub record Built (form : Form) (t : DegreeTable) (text : List ℕ) : Type 0 wher
 -- every text is a refusal, or that of a graph with the input's table
 abbrev pub ProgramSays : Type 0
 ProgramSays =
-    (form : Form) (finish : Finish) (input : List ℕ) →
+    (form : Form) (finish : Choice) (input : List ℕ) →
     ((r : Refusal) × (programText form finish input ≡ refusedLine r)) ⊎ Built form (inputTable input) (programText form finish input)

@@ -18,13 +18,13 @@ ghost use Rattle.text.specs.Text.{newline, headLine, edgeLines, headMost};
 ghost use Rattle.state.specs.Laid.{vertexCount};
 ghost use Rattle.edge_lists.specs.EdgeList.{listVerdict};
 ghost use Rattle.graph6_write.specs.Write.{writeText};
-ghost use Rattle.complete.specs.Complete.{finishAnswer, finishAdjacency};
-ghost use Rattle.complete_shuffled.specs.Finish.{outcome};
+ghost use Rattle.complete.specs.Complete.{ranAnswer, ranAfter};
+ghost use Rattle.complete_shuffled.specs.Outcome.{outcome};
 ghost use Rattle.complete_shuffled.specs.Shuffle.{withX};
 ghost use Rattle.runner.specs.Program.{blockIn, takeVerdict, takeAll, listText, stateText, laidText, takenText, programText, inputMost, textMost};
 use adjacency::ADJACENCY_BYTES;
+use answer::Choice;
 use answer::CompleteAnswer;
-use answer::Finish;
 use answer::LayOutAnswer;
 use answer::ShuffleAnswer;
 use answer::TakeAnswer;
@@ -194,15 +194,15 @@ fn without_x(answer: ShuffleAnswer) -> CompleteAnswer
 fn finish_by(
     journal: &[u8],
     adjacency: &mut [u8],
-    finish: Finish,
+    finish: Choice,
     records: &mut [u8],
 ) -> CompleteAnswer
-    ensures { λ r. ⌜ r ≡ finishAnswer (outcome finish (now (journal .entry)) (now (adjacency .entry))) (now (journal .entry)) (now (adjacency .entry)) (length (now (records .entry))) ⌝ }
-    ensures { λ r. ⌜ now (adjacency .exit) ≡ finishAdjacency r (outcome finish (now (journal .entry)) (now (adjacency .entry))) (now (adjacency .entry)) ⌝ }
+    ensures { λ r. ⌜ r ≡ ranAnswer (outcome finish (now (journal .entry)) (now (adjacency .entry))) (now (journal .entry)) (now (adjacency .entry)) (length (now (records .entry))) ⌝ }
+    ensures { λ r. ⌜ now (adjacency .exit) ≡ ranAfter r (outcome finish (now (journal .entry)) (now (adjacency .entry))) (now (adjacency .entry)) ⌝ }
 {
     match finish {
-        Finish::Lowest => complete::complete(journal, adjacency, records),
-        Finish::Picked(x) => without_x(complete_shuffled(journal, adjacency, x, records)),
+        Choice::Lowest => complete::complete(journal, adjacency, records),
+        Choice::Picked(x) => without_x(complete_shuffled(journal, adjacency, x, records)),
     }
 }
 
@@ -211,7 +211,7 @@ fn complete(
     journal: &[u8],
     adjacency: &mut [u8],
     form: Form,
-    finish: Finish,
+    finish: Choice,
     n: usize,
     output: &mut [u8],
 ) -> usize
@@ -239,7 +239,7 @@ fn lay_out(
     journal: &mut [u8],
     adjacency: &mut [u8],
     form: Form,
-    finish: Finish,
+    finish: Choice,
     output: &mut [u8],
 ) -> usize
     requires { ⌜ textMost ≤ length (now output) ⌝ }
@@ -254,7 +254,7 @@ fn lay_out(
 }
 
 // The program's text for an input, at the start of the output. Its length; it always fits.
-pub fn render(form: Form, finish: Finish, input: &[u8], output: &mut [u8; MAX_TEXT_BYTES]) -> usize
+pub fn render(form: Form, finish: Choice, input: &[u8], output: &mut [u8; MAX_TEXT_BYTES]) -> usize
     ensures { λ r. ⌜ r ≡ length (programText form finish (now (input .entry))) ⌝ }
     ensures { λ r. ⌜ Counts r (now (output .exit)) ⌝ }
     ensures { λ _. ⌜ now (output .exit) ≡ sets (now (output .entry)) 0 (programText form finish (now (input .entry))) ⌝ }
@@ -271,6 +271,6 @@ pub fn render(form: Form, finish: Finish, input: &[u8], output: &mut [u8; MAX_TE
 // Prints the lines for an input, completed by the lowest open pairs.
 pub fn run(input: &[u8]) -> bool {
     let mut output = [0u8; MAX_TEXT_BYTES];
-    let len = render(Form::Lines, Finish::Lowest, input, &mut output);
+    let len = render(Form::Lines, Choice::Lowest, input, &mut output);
     io::write_all(STDOUT_FILENO, &output[..len])
 }

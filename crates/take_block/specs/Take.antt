@@ -11,6 +11,7 @@ use Rattle.answer.specs.declared.TakeAnswer.{TakeAnswer}
 use Rattle.answer.specs.declared.TakeAnswer.the-variants.{Taken, Held, Refused}
 use Rattle.table.specs.Block.{blockLength, records, firstBad}
 use Rattle.journal.specs.Journal.{mostBlocks, phase, blocks, sameBlock, stored}
+use Rattle.state.specs.State.{State, withJournal}
 use Rattle.state.specs.Checks.{stateVerdict}
 
 -- a low number: the block held under it, or a conflict
@@ -38,11 +39,14 @@ takeOnValid j number b =
     (takeNumbered j number b))
 
 -- the checks 1, 2, then as above
-abbrev pub takeAnswer : List ℕ → List ℕ → ℕ → List ℕ → TakeAnswer
-takeAnswer j g number b = unlessStopped (stateVerdict j g) Refused (takeOnValid j number b)
+abbrev pub takeAnswer : State → ℕ → List ℕ → TakeAnswer
+takeAnswer s number b = unlessStopped (stateVerdict s) Refused (takeOnValid (s .journal) number b)
 
--- the journal afterwards
-abbrev pub takeJournal : TakeAnswer → List ℕ → List ℕ → List ℕ
-takeJournal (Taken next) j b = stored j b
-takeJournal Held j b = j
-takeJournal (Refused r) j b = j
+-- the state afterwards
+abbrev pub afterTake : TakeAnswer → State → List ℕ → State
+afterTake (Taken next) s b = withJournal s (stored (s .journal) b)
+afterTake Held s b = s
+afterTake (Refused r) s b = s
+
+abbrev pub takeAfter : State → ℕ → List ℕ → State
+takeAfter s number b = afterTake (takeAnswer s number b) s b

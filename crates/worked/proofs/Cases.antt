@@ -25,7 +25,7 @@ use Rattle.answer.specs.declared.CompleteAnswer.{CompleteAnswer}
 use Rattle.answer.specs.declared.CompleteAnswer.the-variants as Complete
 use Rattle.answer.specs.declared.WrittenAnswer.{WrittenAnswer}
 use Rattle.answer.specs.declared.WrittenAnswer.the-variants as Write
-use Rattle.answer.specs.declared.Finish.the-variants.{Lowest, Picked}
+use Rattle.answer.specs.declared.Choice.the-variants.{Lowest, Picked}
 use Rattle.finite.specs.Range.{δ, sumTo, allTo, lowFrom, lowest, catTo, iterate}
 use Rattle.graph.specs.Graph.{jdm, edges}
 use Rattle.graph.specs.Tests.{vertices}
@@ -46,9 +46,9 @@ use Rattle.edge_list.proofs.List.{zeros-none}
 use Rattle.jdm_of_edges.specs.Survey.{surveyAnswer, surveyOutput}
 use Rattle.graph6_write.specs.Write.{writeAnswer, writeOutput}
 use Rattle.graph6_read.specs.Read.{readAnswer, readOutput}
-use Rattle.complete.specs.Complete.{Ran, completed, finishLaid, finishAdjacency, finishOutput}
+use Rattle.complete.specs.Complete.{Ran, completed, ranLaid, ranAfter, ranOutput}
 use Rattle.complete_shuffled.specs.Shuffle.{shuffled, withX}
-use Rattle.complete_shuffled.specs.Finish.{outcome}
+use Rattle.complete_shuffled.specs.Outcome.{outcome}
 use Rattle.demands.specs.Calls.{Call, take, layOut, add, remove, complete, readBack, list, figures, survey, writeGraph6, readGraph6, State, cleared, after}
 use Rattle.demands.specs.Tally.{Tally, noTally, told, tally}
 use Rattle.worked.specs.Cases.{six, nine, answerOf, Step, Case, sameList, edgesOf, holdsFrom, allHold, starred, StarredHold, moved, MovedHold, picked, PickedHold}
@@ -68,7 +68,7 @@ abbrev removeRest : List ℕ → List ℕ → ℕ → ℕ → RemoveAnswer
 removeRest j g v w = unlessStopped (phaseRest 1 j) Remove.Refused (removeLaid j g v w)
 
 abbrev finishRest : Ran → List ℕ → List ℕ → ℕ → CompleteAnswer
-finishRest r j g m = unlessStopped (phaseRest 1 j) Complete.Refused (finishLaid r j g m)
+finishRest r j g m = unlessStopped (phaseRest 1 j) Complete.Refused (ranLaid r j g m)
 
 abbrev lengthRest : List ℕ → ℕ → LengthAnswer
 lengthRest j number = unless (ltb number (blocks j)) (Len.Refused (refusal BlockNumber 0 0)) (Len.Length (slotLength j number))
@@ -84,11 +84,11 @@ answerRest s (remove v w) = six (removeNumbers (removeRest (s .journal) (s .adja
 answerRest s (complete Lowest out) =
     let r = completed (s .journal) (s .adjacency) in
     let a = finishRest r (s .journal) (s .adjacency) (length out) in
-    six (completeNumbers a) ++ finishOutput a r out
+    six (completeNumbers a) ++ ranOutput a r out
 answerRest s (complete (Picked x) out) =
     let r = shuffled (s .journal) (s .adjacency) x in
     let a = finishRest (r .ran) (s .journal) (s .adjacency) (length out) in
-    six (shuffleNumbers (withX (r .x) a)) ++ finishOutput a (r .ran) out
+    six (shuffleNumbers (withX (r .x) a)) ++ ranOutput a (r .ran) out
 answerRest s (readBack number) = let a = lengthRest (s .journal) number in six (lengthNumbers a) ++ heldPart a (s .journal) number
 answerRest s (list out) =
     let a = listRest (s .journal) (s .adjacency) (length out) in
@@ -107,7 +107,7 @@ afterRest s (remove v w) =
     record { journal = s .journal; adjacency = removeAdjacency (removeRest (s .journal) (s .adjacency) v w) (s .adjacency) v w }
 afterRest s (complete f out) =
     let r = outcome f (s .journal) (s .adjacency) in
-    record { journal = s .journal; adjacency = finishAdjacency (finishRest r (s .journal) (s .adjacency) (length out)) r (s .adjacency) }
+    record { journal = s .journal; adjacency = ranAfter (finishRest r (s .journal) (s .adjacency) (length out)) r (s .adjacency) }
 afterRest s (readBack number) = s
 afterRest s (list out) = s
 afterRest s figures = s

@@ -9,7 +9,7 @@ use Prim.Native.Nat.{ℕ}
 use lib.Dec.{eqb}
 use lib.ListN.{length, replicate}
 use Rattle.answer.specs.Numbers.{Numbers, JoinNumbers, done, takeNumbers, layOutNumbers, addNumbers, removeNumbers, completeNumbers, shuffleNumbers, lengthNumbers, writtenNumbers, readNumbers, figuresNumbers}
-use Rattle.answer.specs.declared.Finish.the-variants.{Lowest, Picked}
+use Rattle.answer.specs.declared.Choice.the-variants.{Lowest, Picked}
 use Rattle.state.specs.Laid.{vertexCount}
 use Rattle.take_block.specs.Take.{takeAnswer}
 use Rattle.held_block.specs.Held.{lengthAnswer, heldPart}

@@ -2,7 +2,7 @@
 -- Assumes nothing.
 use borrow.Author.Needs.{needs}
 use lib.ListN.{length}
-use Rattle.complete.specs.Complete.{completed, finishAnswer}
+use Rattle.complete.specs.Complete.{completed, ranAnswer}
 use Rattle.complete_shuffled.specs.Shuffle.{shuffled}
 use Rattle.runner.proofs.Said.{ended}
 use Rattle.runner.proofs.finish_by.Statement.{statement}
@@ -36,5 +36,5 @@ finish-by-spec =
     let m = length (a .records .now) in
     let r = shuffled j g (k .finish .given .0 .0) in
     rw (k .finish .given .1)
-    (ended (r .ran) j g m _ _ (c .without-x .ensures (r .x) (finishAnswer (r .ran) j g m) (s .complete-shuffled .ensures .0))
+    (ended (r .ran) j g m _ _ (c .without-x .ensures (r .x) (ranAnswer (r .ran) j g m) (s .complete-shuffled .ensures .0))
     (s .complete-shuffled .ensures .1 .0))))  -- returns-2

@@ -1,13 +1,13 @@
 -- Both ways of completing: what each ends in. The checks before it, its answer, its matrix and its records are the same for each
 -- (crates/complete/specs/Complete.antt).
 -- Assumes nothing.
-use mathlib.Core.List.{List}
 use Prim.Native.Nat.{ℕ}
-use Rattle.answer.specs.declared.Finish.{Finish}
-use Rattle.answer.specs.declared.Finish.the-variants.{Lowest, Picked}
+use Rattle.answer.specs.declared.Choice.{Choice}
+use Rattle.answer.specs.declared.Choice.the-variants.{Lowest, Picked}
+use Rattle.state.specs.State.{State}
 use Rattle.complete.specs.Complete.{Ran, completed}
 use Rattle.complete_shuffled.specs.Shuffle.{shuffled}
 
-abbrev pub outcome : Finish → List ℕ → List ℕ → Ran
-outcome Lowest j g = completed j g
-outcome (Picked x) j g = shuffled j g x .ran
+abbrev pub outcome : Choice → State → Ran
+outcome Lowest s = completed s
+outcome (Picked x) s = shuffled s x .ran
