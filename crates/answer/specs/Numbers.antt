@@ -1,6 +1,9 @@
 -- Document 01's number of each cause, and the number and values of each case of each answer.
 -- Assumes nothing.
+use mathlib.Core.Bool.{Bool, false, _||_}
+use mathlib.Core.List.{List, [], _∷_}
 use Prim.Native.Nat.{ℕ}
+use lib.Dec.{eqb}
 use Rattle.answer.specs.Switches.{switchCount, firstSwitch, secondSwitch}
 use Rattle.answer.specs.declared.Cause.{Cause}
 use Rattle.answer.specs.declared.Cause.the-variants.{WrongLength, InvalidState, WrongPhase, BlockLength, BadRecord, BlockNumber, BlockDiffers, JournalFull, OddDiagonal, RowNotDivisible, CellTooLarge, TooManyVertices, NoSuchVertex, SameVertex, EdgePresent, CellNotShort, EdgeAbsent, OutputTooShort, BadEdgeList, DegreeTooHigh, Graph6Text, Graph6Size}
@@ -52,6 +55,11 @@ numberOf BadEdgeList = 19
 numberOf DegreeTooHigh = 20
 numberOf Graph6Text = 21
 numberOf Graph6Size = 22
+
+-- n is one of the numbers
+abbrev pub oneOf : ℕ → List ℕ → Bool
+oneOf n [] = false
+oneOf n (m ∷ ms) = eqb n m || oneOf n ms
 
 -- An answer in numbers: 0 and its values where the call did its work, else the refusal's number and its two places.
 -- What is not named is 0.

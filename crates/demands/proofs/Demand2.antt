@@ -96,23 +96,23 @@ module _ (adds : List ℕ → ℕ) (read : DegreeTable → ℕ) (more : (u : Deg
       → read (t .table) + answered adds seen s calls ≡ read (tallyAll s t calls .table)
   answered-tally [] s t seen r h = add-zero (read (t .table))
   answered-tally (take number b ∷ cs) s t seen r h =
-      go (takeAnswer (s .journal) (s .adjacency) number b) refl (counts t number b) refl
+      go (takeAnswer s number b) refl (counts t number b) refl
       (λ t′ seen′ r′ h′. answered-tally cs (after s (take number b)) t′ seen′ r′ h′)
     where
-      tested : isTaken (takeAnswer (s .journal) (s .adjacency) number b) ≡ counts t number b
-      tested = take-taken (s .journal) (s .adjacency) number b (r .lengths) (r .sound) .0 ∙ same-next s t r number b
+      tested : isTaken (takeAnswer s number b) ≡ counts t number b
+      tested = take-taken s number b (r .lengths) (r .is-valid) .0 ∙ same-next s t r number b
 
       reached : (c : Bool) → counts t number b ≡ c → Reach (after s (take number b)) (cond c (withBlock t b) t)
       reached c e = subst (λ (c : Bool). Reach (after s (take number b)) (cond c (withBlock t b) t)) e (after-call s t r (take number b))
 
-      go : (a : TakeAnswer) → takeAnswer (s .journal) (s .adjacency) number b ≡ a → (c : Bool) → counts t number b ≡ c
+      go : (a : TakeAnswer) → takeAnswer s number b ≡ a → (c : Bool) → counts t number b ≡ c
           → ((t′ : Tally) (seen′ : List ℕ) → Reach (after s (take number b)) t′ → Seen seen′ (t′ .blocks)
           → read (t′ .table) + answered adds seen′ (after s (take number b)) cs ≡ read (tallyAll (after s (take number b)) t′ cs .table))
           → read (t .table) + cond (accepted a && not (member number seen)) (adds b + answered adds (number ∷ seen) (after s (take number b)) cs)
           (answered adds seen (after s (take number b)) cs)
           ≡ read (tallyAll (after s (take number b)) (cond c (withBlock t b) t) cs .table)
       go (Taken m) e true p again =
-          let f = taken-facts (s .journal) (s .adjacency) number b m e in
+          let f = taken-facts s number b m e in
           let n : number ≡ t .blocks = f .next ∙ r .numbered in
           let fresh : member number seen ≡ false = h number ∙ le-ltb number (t .blocks) (omega arith) in
           let rest = answered adds (number ∷ seen) (after s (take number b)) cs in
@@ -123,7 +123,7 @@ module _ (adds : List ℕ → ℕ) (read : DegreeTable → ℕ) (more : (u : Deg
       go (Taken m) e false p again = absurd (true≢false (ap isTaken (sym e) ∙ tested ∙ p))
       go Held e true p again = absurd (true≢false (sym (ap isTaken (sym e) ∙ tested ∙ p)))
       go Held e false p again =
-          let f = held-facts (s .journal) (s .adjacency) number b e in
+          let f = held-facts s number b e in
           let known : member number seen ≡ true = h number ∙ lt-ltb number (t .blocks) (omega (arith, f .low, r .numbered)) in
           rw known (again t seen (reached false p) h)
       go (Refused q) e true p again = absurd (true≢false (sym (ap isTaken (sym e) ∙ tested ∙ p)))
@@ -133,17 +133,17 @@ module _ (adds : List ℕ → ℕ) (read : DegreeTable → ℕ) (more : (u : Deg
       through t (tally t (told s layOut)) _ _ (p .0)
       (answered-tally cs (after s layOut) (tally t (told s layOut)) seen (after-call s t r layOut) (seen-still seen t (tally t (told s layOut)) (p .1) h))
   answered-tally (add v w ∷ cs) s t seen r h =
-      let p = add-still t (addAnswer (s .journal) (s .adjacency) v w) in
+      let p = add-still t (addAnswer s v w) in
       through t (tally t (told s (add v w))) _ _ (p .0)
       (answered-tally cs (after s (add v w)) (tally t (told s (add v w))) seen (after-call s t r (add v w))
       (seen-still seen t (tally t (told s (add v w))) (p .1) h))
   answered-tally (remove v w ∷ cs) s t seen r h =
-      let p = remove-still t (removeAnswer (s .journal) (s .adjacency) v w) in
+      let p = remove-still t (removeAnswer s v w) in
       through t (tally t (told s (remove v w))) _ _ (p .0)
       (answered-tally cs (after s (remove v w)) (tally t (told s (remove v w))) seen (after-call s t r (remove v w))
       (seen-still seen t (tally t (told s (remove v w))) (p .1) h))
   answered-tally (complete f out ∷ cs) s t seen r h =
-      let p = complete-still t (ranAnswer (outcome f (s .journal) (s .adjacency)) (s .journal) (s .adjacency) (length out)) in
+      let p = complete-still t (choiceAnswer f s (length out)) in
       through t (tally t (told s (complete f out))) _ _ (p .0)
       (answered-tally cs (after s (complete f out)) (tally t (told s (complete f out))) seen (after-call s t r (complete f out))
       (seen-still seen t (tally t (told s (complete f out))) (p .1) h))
@@ -168,28 +168,28 @@ answered-table calls =
 
 -- a state that completing left, and that nothing has moved since
 record Done (s : State) : Type 0 where
-  lengths : lengthsOk (s .journal) (s .adjacency) ≡ true
-  sound : valid (s .journal) (s .adjacency) ≡ true
+  lengths : lengthsOk s ≡ true
+  is-valid : valid s ≡ true
   phased : phase (s .journal) ≡ 1
   has : HasTable (tableOf (s .journal)) s
 
 done-completed : (s : State) (f : Choice) (out : List ℕ) (joins switches n : ℕ)
-    → ranAnswer (outcome f (s .journal) (s .adjacency)) (s .journal) (s .adjacency) (length out) ≡ Completed joins switches n
+    → choiceAnswer f s (length out) ≡ Completed joins switches n
     → Done (after s (complete f out))
 done-completed s f out joins switches n e =
-    let facts = completed-facts (s .journal) (s .adjacency) (outcome f (s .journal) (s .adjacency)) (length out) joins switches n e .facts in
-    let x = outcome-works f (s .journal) (s .adjacency) facts in
+    let facts = completed-facts s (outcome f s) (length out) joins switches n e .facts in
+    let x = outcome-works f s facts in
     subst Done (sym (after-finish s f out joins switches n e))
-    (record { lengths = x .lengths; sound = x .sound; phased = facts .phased; has = outcome-has s f facts })
+    (record { lengths = x .lengths; is-valid = x .is-valid; phased = facts .phased; has = outcome-has s f facts })
 
 -- completed again, or refused
 done-complete : (s : State) (f : Choice) (out : List ℕ) → Done s → Done (after s (complete f out))
-done-complete s f out d = go (ranAnswer r (s .journal) (s .adjacency) (length out)) refl
+done-complete s f out d = go (ranAnswer r s (length out)) refl
   where
     r : Ran
-    r = outcome f (s .journal) (s .adjacency)
+    r = outcome f s
 
-    go : (a : CompleteAnswer) → ranAnswer r (s .journal) (s .adjacency) (length out) ≡ a → Done (after s (complete f out))
+    go : (a : CompleteAnswer) → ranAnswer r s (length out) ≡ a → Done (after s (complete f out))
     go (Completed joins switches n) e = done-completed s f out joins switches n e
     go (CompleteRefused q) e =
         subst (λ (h : List ℕ). Done (record { journal = s .journal; adjacency = h }))
@@ -199,23 +199,23 @@ done-complete s f out d = go (ranAnswer r (s .journal) (s .adjacency) (length ou
 done-take : (s : State) → Done s → (number : ℕ) (b : List ℕ) → after s (take number b) ≡ s
 done-take s d number b =
     ap (λ (h : List ℕ). record { journal = h; adjacency = s .adjacency })
-    (take-taken (s .journal) (s .adjacency) number b (d .lengths) (d .sound) .1 ∙ rw (d .phased, and-false (wellFormed b && eqb number (blocks (s .journal)))))
+    (take-taken s number b (d .lengths) (d .is-valid) .1 ∙ rw (d .phased, and-false (wellFormed b && eqb number (blocks (s .journal)))))
 
 done-layOut : (s : State) → Done s → after s layOut ≡ s
 done-layOut s d =
     ap (λ (h : List ℕ). record { journal = h; adjacency = s .adjacency })
-    (lay-out-laid-out (s .journal) (s .adjacency) (d .lengths) (d .sound) .1 ∙ rw (d .phased))
+    (lay-out-laid-out s (d .lengths) (d .is-valid) .1 ∙ rw (d .phased))
 
-done-add : (s : State) (v w : ℕ) → addRefused (addAnswer (s .journal) (s .adjacency) v w) ≡ true → after s (add v w) ≡ s
-done-add s v w e = go (addAnswer (s .journal) (s .adjacency) v w) e
+done-add : (s : State) (v w : ℕ) → addRefused (addAnswer s v w) ≡ true → after s (add v w) ≡ s
+done-add s v w e = go (addAnswer s v w) e
   where
     go : (a : AddAnswer) → addRefused a ≡ true
-        → _≡_ {A = State} (record { journal = s .journal; adjacency = addAdjacency a (s .journal) (s .adjacency) v w }) s
+        → _≡_ {A = State} (record { journal = s .journal; adjacency = addAdjacency a s v w }) s
     go (Add.Added m) h = absurd (true≢false (sym h))
     go (Add.Refused r) h = refl
 
-done-remove : (s : State) (v w : ℕ) → removeRefused (removeAnswer (s .journal) (s .adjacency) v w) ≡ true → after s (remove v w) ≡ s
-done-remove s v w e = go (removeAnswer (s .journal) (s .adjacency) v w) e
+done-remove : (s : State) (v w : ℕ) → removeRefused (removeAnswer s v w) ≡ true → after s (remove v w) ≡ s
+done-remove s v w e = go (removeAnswer s v w) e
   where
     go : (a : RemoveAnswer) → removeRefused a ≡ true
         → _≡_ {A = State} (record { journal = s .journal; adjacency = removeAdjacency a (s .adjacency) v w }) s
@@ -228,13 +228,13 @@ done-rest [] s d q = d
 done-rest (take number b ∷ cs) s d q = done-rest cs (after s (take number b)) (subst Done (sym (done-take s d number b)) d) q
 done-rest (layOut ∷ cs) s d q = done-rest cs (after s layOut) (subst Done (sym (done-layOut s d)) d) q
 done-rest (add v w ∷ cs) s d q =
-    let a = and-left (addRefused (addAnswer (s .journal) (s .adjacency) v w)) (quiet (after s (add v w)) cs) q in
+    let a = and-left (addRefused (addAnswer s v w)) (quiet (after s (add v w)) cs) q in
     done-rest cs (after s (add v w)) (subst Done (sym (done-add s v w a)) d)
-    (and-right (addRefused (addAnswer (s .journal) (s .adjacency) v w)) (quiet (after s (add v w)) cs) q)
+    (and-right (addRefused (addAnswer s v w)) (quiet (after s (add v w)) cs) q)
 done-rest (remove v w ∷ cs) s d q =
-    let a = and-left (removeRefused (removeAnswer (s .journal) (s .adjacency) v w)) (quiet (after s (remove v w)) cs) q in
+    let a = and-left (removeRefused (removeAnswer s v w)) (quiet (after s (remove v w)) cs) q in
     done-rest cs (after s (remove v w)) (subst Done (sym (done-remove s v w a)) d)
-    (and-right (removeRefused (removeAnswer (s .journal) (s .adjacency) v w)) (quiet (after s (remove v w)) cs) q)
+    (and-right (removeRefused (removeAnswer s v w)) (quiet (after s (remove v w)) cs) q)
 done-rest (complete f out ∷ cs) s d q = done-rest cs (after s (complete f out)) (done-complete s f out d) q
 done-rest (readBack number ∷ cs) s d q = done-rest cs s d q
 done-rest (list out ∷ cs) s d q = done-rest cs s d q
@@ -246,7 +246,7 @@ done-rest (readGraph6 text out ∷ cs) s d q = done-rest cs s d q
 -- completed, and nothing moved since
 completed-has : (before rest : List Call) (f : Choice) (out : List ℕ) (joins switches n : ℕ)
     → let s = afterAll cleared before in
-    ranAnswer (outcome f (s .journal) (s .adjacency)) (s .journal) (s .adjacency) (length out) ≡ Completed joins switches n
+    choiceAnswer f s (length out) ≡ Completed joins switches n
     → quiet (after s (complete f out)) rest ≡ true
     → HasTable (answeredSum (before ++ complete f out ∷ rest)) (afterAll (after s (complete f out)) rest)
 completed-has before rest f out joins switches n e q =
@@ -261,19 +261,19 @@ completed-has before rest f out joins switches n e q =
         ∙ ap (λ (s : State). tableOf (s .journal)) (after-append before (complete f out ∷ rest) cleared)
 
 -- laid, and no cell short: no cell is above the table on a valid state, so that every cell is the table's
-finished-has : (s : State) (lengths : lengthsOk (s .journal) (s .adjacency) ≡ true) (sound : valid (s .journal) (s .adjacency) ≡ true)
+finished-has : (s : State) (lengths : lengthsOk s ≡ true) (is-valid : valid s ≡ true)
     → phase (s .journal) ≡ 1 → ((k l : ℕ) → Short (tableOf (s .journal)) s k l → ⊥) → HasTable (tableOf (s .journal)) s
-finished-has s lengths sound phased full =
+finished-has s lengths is-valid phased full =
     record {
       simple = laid .partial .simple;
       exact = has-table (tableOf (s .journal)) table passed (edge (s .adjacency)) (laid .partial) filled;
       exact-isolated = has-isolated (tableOf (s .journal)) table passed (edge (s .adjacency)) (laid .partial) filled;
     }
   where
-    facts : StateFacts (s .journal) (s .adjacency)
-    facts = valid-facts (s .journal) (s .adjacency) lengths sound
+    facts : StateFacts s
+    facts = valid-facts s lengths is-valid
 
-    laid : Laid (s .journal) (s .adjacency)
+    laid : Laid s
     laid = facts .laid phased
 
     table : Table (jdmOf (s .journal))
@@ -283,7 +283,7 @@ finished-has s lengths sound phased full =
     passed = passes-passed (jdmOf (s .journal)) .0 (laid .passed)
 
     filled : (k l : ℕ) → k < mostClasses → l < mostClasses
-        → jdm (vertexCount (s .journal)) (classAt (s .journal)) (edge (s .adjacency)) k l ≡ jdmOf (s .journal) k l
+        → jdm (vertexCount s) (classAt s) (edge (s .adjacency)) k l ≡ jdmOf (s .journal) k l
     filled k l p q = omega (arith, laid .partial .within k l p q, full k l)
 
 pub demand-2 : Demand2
@@ -294,7 +294,7 @@ demand-2 =
           let r = reach calls in
           let same = answered-table calls in
           subst (λ (u : DegreeTable). HasTable u (afterAll cleared calls)) (sym same)
-          (finished-has (afterAll cleared calls) (r .lengths) (r .sound) phased
+          (finished-has (afterAll cleared calls) (r .lengths) (r .is-valid) phased
           (subst (λ (u : DegreeTable). (k l : ℕ) → Short u (afterAll cleared calls) k l → ⊥) same full));
       once = accepted-once;
     }

@@ -42,7 +42,7 @@ use Rattle.demands.proofs.Finishes.{outcome-answer, after-finish, finis
 use Rattle.demands.proofs.Reach.{Reach, reach, laid-counted, phase-0, phase-1}
 
 -- Everything is first said of the journal's own table, which is the tally's.
-module _ (s : State) (lengths : Rattle.state.specs.Valid.lengthsOk (s .journal) (s .adjacency) ≡ true) (sound : valid (s .journal) (s .adjacency) ≡ true)
+module _ (s : State) (lengths : Rattle.state.specs.Valid.lengthsOk s ≡ true) (is-valid : valid s ≡ true)
     (phased : phase (s .journal) ≡ 1) where
   j : List ℕ
   j = s .journal
@@ -50,16 +50,16 @@ module _ (s : State) (lengths : Rattle.state.specs.Valid.lengthsOk (s .journal)
   g : List ℕ
   g = s .adjacency
 
-  facts : StateFacts (s .journal) (s .adjacency)
-  facts = valid-facts (s .journal) (s .adjacency) lengths sound
+  facts : StateFacts s
+  facts = valid-facts s lengths is-valid
 
-  laid : Laid (s .journal) (s .adjacency)
+  laid : Laid s
   laid = facts .laid phased
 
-  simple : Simple (vertexCount (s .journal)) (edge (s .adjacency))
+  simple : Simple (vertexCount s) (edge (s .adjacency))
   simple = laid .partial .simple
 
-  open-pair : (v w : ℕ) → D.OpenPair (tableOf (s .journal)) s v w → Open (vertexCount (s .journal)) (classAt (s .journal)) (jdmOf (s .journal)) (edge (s .adjacency)) v w
+  open-pair : (v w : ℕ) → D.OpenPair (tableOf (s .journal)) s v w → Open (vertexCount s) (classAt s) (jdmOf (s .journal)) (edge (s .adjacency)) v w
   open-pair v w o =
       record {
         first = o .first;
@@ -81,39 +81,39 @@ module _ (s : State) (lengths : Rattle.state.specs.Valid.lengthsOk (s .journal)
             omega (
               arith,
               o .short,
-              necessary-always (vertexCount (s .journal)) mostClasses (classAt (s .journal)) (edge (s .adjacency)) simple (laid .target .classed) .symmetric
-                  (classAt (s .journal) v) (classAt (s .journal) w),
-              jdm-table (s .journal) (facts .journal-ok) .symmetric (classAt (s .journal) v) (classAt (s .journal) w),
+              necessary-always (vertexCount s) mostClasses (classAt s) (edge (s .adjacency)) simple (laid .target .classed) .symmetric
+                  (classAt s v) (classAt s w),
+              jdm-table (s .journal) (facts .journal-ok) .symmetric (classAt s v) (classAt s w),
             );
       }
 
   joins : (v w : ℕ) → D.OpenPair (tableOf (s .journal)) s v w → D.CanBeJoined (tableOf (s .journal)) s v w
-  joins v w o = go (facts-added (s .journal) (s .adjacency) v w f) (add-works (s .journal) (s .adjacency) v w f)
+  joins v w o = go (facts-added s v w f) (add-works s v w f)
     where
-      f : AddFacts (s .journal) (s .adjacency) v w
-      f = record { lengths = lengths; sound = sound; phased = phased; pair = open-pair v w o }
+      f : AddFacts s v w
+      f = record { lengths = lengths; is-valid = is-valid; phased = phased; pair = open-pair v w o }
 
-      to : addAnswer (s .journal) (s .adjacency) v w ≡ Added (joinSwitches (vertexCount (s .journal)) (classAt (s .journal)) (s .adjacency) v w)
-          → addAdjacency (addAnswer (s .journal) (s .adjacency) v w) (s .journal) (s .adjacency) v w
-          ≡ joinBytes (vertexCount (s .journal)) (classAt (s .journal)) (s .adjacency) v w
-      to e = ap (λ (a : AddAnswer). addAdjacency a (s .journal) (s .adjacency) v w) e
+      to : addAnswer s v w ≡ Added (joinSwitches (vertexCount s) (classAt s) (s .adjacency) v w)
+          → addAdjacency (addAnswer s v w) s v w
+          ≡ joinBytes (vertexCount s) (classAt s) (s .adjacency) v w
+      to e = ap (λ (a : AddAnswer). addAdjacency a s v w) e
 
-      go : addAnswer (s .journal) (s .adjacency) v w ≡ Added (joinSwitches (vertexCount (s .journal)) (classAt (s .journal)) (s .adjacency) v w)
-          → AddWorks (s .journal) (s .adjacency) v w (joinBytes (vertexCount (s .journal)) (classAt (s .journal)) (s .adjacency) v w)
+      go : addAnswer s v w ≡ Added (joinSwitches (vertexCount s) (classAt s) (s .adjacency) v w)
+          → AddWorks s v w (joinBytes (vertexCount s) (classAt s) (s .adjacency) v w)
           → D.CanBeJoined (tableOf (s .journal)) s v w
       go e x =
           record {
-            switches = joinSwitches (vertexCount (s .journal)) (classAt (s .journal)) (s .adjacency) v w;
+            switches = joinSwitches (vertexCount s) (classAt s) (s .adjacency) v w;
             answer = e;
-            sound = subst (λ (h : List ℕ). valid (s .journal) h ≡ true) (sym (to e)) (x .sound);
+            is-valid = subst (λ (h : List ℕ). valid (s .journal) h ≡ true) (sym (to e)) (x .is-valid);
             linked = subst (λ (h : List ℕ). edge h v w ≡ 1) (sym (to e)) (x .linked);
-            one-more = subst (λ (h : List ℕ). edgeTotal (s .journal) h ≡ edgeTotal (s .journal) (s .adjacency) + 1) (sym (to e)) (x .one-more);
+            one-more = subst (λ (h : List ℕ). edgeTotal (s .journal) h ≡ edgeTotal s + 1) (sym (to e)) (x .one-more);
           }
 
   -- a short cell has an open pair; no cell past the degrees is short
   some-pair : (k l : ℕ) → Short (tableOf (s .journal)) s k l → (v w : ℕ) × D.OpenPair (tableOf (s .journal)) s v w
   some-pair k l h =
-      let o = short-has-open-pair (vertexCount (s .journal)) mostClasses (classAt (s .journal)) classDegree (jdmOf (s .journal)) (edge (s .adjacency)) (laid .target)
+      let o = short-has-open-pair (vertexCount s) mostClasses (classAt s) classDegree (jdmOf (s .journal)) (edge (s .adjacency)) (laid .target)
       (laid .partial) k l (below k l h) (below l k (mirrored k l h)) h in (
         o .0,
         o .1,
@@ -138,29 +138,29 @@ module _ (s : State) (lengths : Rattle.state.specs.Valid.lengthsOk (s .journal)
           omega (
             arith,
             h,
-            necessary-always (vertexCount (s .journal)) mostClasses (classAt (s .journal)) (edge (s .adjacency)) simple (laid .target .classed) .symmetric k l,
+            necessary-always (vertexCount s) mostClasses (classAt s) (edge (s .adjacency)) simple (laid .target .classed) .symmetric k l,
             jdm-table (s .journal) (facts .journal-ok) .symmetric k l,
           )
 
   -- Completing. The tally t has the journal's table and the matrix's edges, and so the edges missing.
-  module _ (t : Tally) (same : tableOf (s .journal) ≡ t .table) (counted : edgeTotal (s .journal) (s .adjacency) ≡ t .edges) (f : Choice) (out : List ℕ) where
-    checked : CompleteFacts (s .journal) (s .adjacency)
-    checked = record { lengths = lengths; sound = sound; phased = phased }
+  module _ (t : Tally) (same : tableOf (s .journal) ≡ t .table) (counted : edgeTotal s ≡ t .edges) (f : Choice) (out : List ℕ) where
+    checked : CompleteFacts s
+    checked = record { lengths = lengths; is-valid = is-valid; phased = phased }
 
     abbrev r : Ran
-    r = outcome f (s .journal) (s .adjacency)
+    r = outcome f s
 
-    same-missing : missingEdges t ≡ missing (s .journal) (s .adjacency)
-    same-missing = rw (← counted) (ap (λ (u : DegreeTable). wanted (u .cells) - edgeTotal (s .journal) (s .adjacency)) (sym same))
+    same-missing : missingEdges t ≡ missing s
+    same-missing = rw (← counted) (ap (λ (u : DegreeTable). wanted (u .cells) - edgeTotal s) (sym same))
 
     completes : D.HasRoom t out → D.Completes t s f out
     completes room =
         subst (λ (u : DegreeTable). D.Completes (record { blocks = t .blocks; table = u; laid = t .laid; edges = t .edges }) s f out) same
-        (own (outcome-works f (s .journal) (s .adjacency) checked)
-        (outcome-answer (s .journal) (s .adjacency) f checked (length out) (omega (arith, same-missing, room))))
+        (own (outcome-works f s checked)
+        (outcome-answer s f checked (length out) (omega (arith, same-missing, room))))
       where
-        own : CompleteWorks (s .journal) (s .adjacency) r
-            → ranAnswer r (s .journal) (s .adjacency) (length out) ≡ Completed (r .joins) (r .switches) (joinRecordSize * r .joins)
+        own : CompleteWorks s r
+            → ranAnswer r s (length out) ≡ Completed (r .joins) (r .switches) (joinRecordSize * r .joins)
             → D.Completes (record { blocks = t .blocks; table = tableOf (s .journal); laid = t .laid; edges = t .edges }) s f out
         own x a =
             record {
@@ -169,14 +169,14 @@ module _ (s : State) (lengths : Rattle.state.specs.Valid.lengthsOk (s .journal)
               answer = a;
               missing = omega (arith, x .all, x .more, counted);
               more =
-                  subst (λ (s′ : State). edgeTotal (s .journal) (s′ .adjacency) ≡ edgeTotal (s .journal) (s .adjacency) + r .joins)
+                  subst (λ (s′ : State). edgeTotal (s .journal) (s′ .adjacency) ≡ edgeTotal s + r .joins)
                   (sym (after-finish s f out (r .joins) (r .switches) (joinRecordSize * r .joins) a)) (x .more);
               has-table = finish-has s f out (r .joins) (r .switches) (joinRecordSize * r .joins) checked a;
             }
 
     refuses : (D.HasRoom t out → ⊥) → D.RefusedShort s f out
     refuses no-room =
-        let e = short-refused (s .journal) (s .adjacency) r (length out) checked (omega (arith, same-missing, no-room)) in
+        let e = short-refused s r (length out) checked (omega (arith, same-missing, no-room)) in
         record {
           answer = e;
           unchanged = ap (λ (a : CompleteAnswer). record { journal = s .journal; adjacency = ranAfter a r (s .adjacency) }) e;
@@ -199,7 +199,7 @@ demand-3 calls = (not-laid, laid-out)
         record {
           honest =
               subst (λ (u : DegreeTable). D.RefusedForWantOfAGraph (afterAll cleared calls) ↔ (Realized (u .cells) → ⊥)) (r .table)
-              (lay-out-honest (afterAll cleared calls .journal) (afterAll cleared calls .adjacency) (r .lengths) (r .sound) (phase-0 _ _ r e));
+              (lay-out-honest (afterAll cleared calls .journal) (afterAll cleared calls .adjacency) (r .lengths) (r .is-valid) (phase-0 _ _ r e));
         }
 
     laid-out : tallyAll cleared noTally calls .laid ≡ true → D.Laid (tallyAll cleared noTally calls) (afterAll cleared calls)
@@ -208,17 +208,17 @@ demand-3 calls = (not-laid, laid-out)
           joinable = λ v w o.
               let p = subst (λ (u : DegreeTable). D.OpenPair u (afterAll cleared calls) v w) (sym (r .table)) o in (
                 subst (λ (u : DegreeTable). D.CanBeJoined u (afterAll cleared calls) v w) (r .table)
-                    (joins (afterAll cleared calls) (r .lengths) (r .sound) (phase-1 _ _ r e) v w p),
+                    (joins (afterAll cleared calls) (r .lengths) (r .is-valid) (phase-1 _ _ r e) v w p),
                 subst (λ (u : DegreeTable). D.CanBeJoined u (afterAll cleared calls) w v) (r .table)
-                    (joins (afterAll cleared calls) (r .lengths) (r .sound) (phase-1 _ _ r e) w v
-                    (turn (afterAll cleared calls) (r .lengths) (r .sound) (phase-1 _ _ r e) v w p)),
+                    (joins (afterAll cleared calls) (r .lengths) (r .is-valid) (phase-1 _ _ r e) w v
+                    (turn (afterAll cleared calls) (r .lengths) (r .is-valid) (phase-1 _ _ r e) v w p)),
               );
           pair = λ k l h.
-              let q = some-pair (afterAll cleared calls) (r .lengths) (r .sound) (phase-1 _ _ r e) k l
+              let q = some-pair (afterAll cleared calls) (r .lengths) (r .is-valid) (phase-1 _ _ r e) k l
               (subst (λ (u : DegreeTable). Short u (afterAll cleared calls) k l) (sym (r .table)) h) in
               (q .0, q .1, subst (λ (u : DegreeTable). D.OpenPair u (afterAll cleared calls) (q .0) (q .1)) (r .table) (q .2));
-          completes = completes (afterAll cleared calls) (r .lengths) (r .sound) (phase-1 _ _ r e) (tallyAll cleared noTally calls) (r .table)
+          completes = completes (afterAll cleared calls) (r .lengths) (r .is-valid) (phase-1 _ _ r e) (tallyAll cleared noTally calls) (r .table)
               (laid-counted _ _ r e);
-          refuses = refuses (afterAll cleared calls) (r .lengths) (r .sound) (phase-1 _ _ r e) (tallyAll cleared noTally calls) (r .table)
+          refuses = refuses (afterAll cleared calls) (r .lengths) (r .is-valid) (phase-1 _ _ r e) (tallyAll cleared noTally calls) (r .table)
               (laid-counted _ _ r e);
         }

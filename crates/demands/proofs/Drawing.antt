@@ -41,7 +41,7 @@ module _ (j : List ℕ) where
   on g = record { journal = j; adjacency = g }
 
   facts : (g : List ℕ) → ValidLaid (on g) → StateFacts j g
-  facts g s = valid-facts j g (s .lengths) (s .sound)
+  facts g s = valid-facts j g (s .lengths) (s .is-valid)
 
   pub laid : (g : List ℕ) → ValidLaid (on g) → Laid j g
   laid g s = facts g s .laid (s .phased)
@@ -52,7 +52,7 @@ module _ (j : List ℕ) where
     remove-facts =
         record {
           lengths = s .lengths;
-          sound = s .sound;
+          is-valid = s .is-valid;
           phased = s .phased;
           first = e .first;
           second = e .second;
@@ -67,7 +67,7 @@ module _ (j : List ℕ) where
     after-remove = ap (λ (a : RemoveAnswer). on (removeAdjacency a g (p .0) (p .1))) remove-answer
 
     remove-valid : ValidLaid (on (setEdge g (p .0) (p .1) 0))
-    remove-valid = let x = remove-works j g (p .0) (p .1) remove-facts in record { lengths = x .lengths; sound = x .sound; phased = s .phased }
+    remove-valid = let x = remove-works j g (p .0) (p .1) remove-facts in record { lengths = x .lengths; is-valid = x .is-valid; phased = s .phased }
 
     remove-edge : AddsEdge (vertexCount j) (edge (setEdge g (p .0) (p .1) 0)) (p .0) (p .1) (edge g)
     remove-edge =
@@ -113,7 +113,7 @@ module _ (j : List ℕ) where
       pair = next-open (vertexCount j) (classAt j) classDegree (jdmOf j) H (drawing .simple) (drawing .degrees) at-table (edge g) simple p ps together o
 
       add-facts : AddFacts j g (p .0) (p .1)
-      add-facts = record { lengths = s .lengths; sound = s .sound; phased = s .phased; pair = pair }
+      add-facts = record { lengths = s .lengths; is-valid = s .is-valid; phased = s .phased; pair = pair }
 
       no-switch : joinSwitches (vertexCount j) (classAt j) g (p .0) (p .1) ≡ None
       no-switch =
@@ -135,7 +135,7 @@ module _ (j : List ℕ) where
       add-valid : ValidLaid (on (setEdge g (p .0) (p .1) 1))
       add-valid =
           let x = add-works j g (p .0) (p .1) add-facts in
-          subst (λ (h : List ℕ). ValidLaid (on h)) alone (record { lengths = x .lengths; sound = x .sound; phased = s .phased })
+          subst (λ (h : List ℕ). ValidLaid (on h)) alone (record { lengths = x .lengths; is-valid = x .is-valid; phased = s .phased })
 
       add-edge : AddsEdge (vertexCount j) (edge g) (p .0) (p .1) (edge (setEdge g (p .0) (p .1) 1))
       add-edge =
@@ -175,7 +175,7 @@ module _ (j : List ℕ) where
           (λ v w l m. matrix-edges (vertexCount j) H (laid g s .vertices-le) v w l m ∙ sym (whole v w l m))
 
       complete-facts : CompleteFacts j g
-      complete-facts = record { lengths = s .lengths; sound = s .sound; phased = s .phased }
+      complete-facts = record { lengths = s .lengths; is-valid = s .is-valid; phased = s .phased }
 
       full : (k l : ℕ) → leastClass ≤ k → k < mostClasses → k ≤ l → l < mostClasses → jdmOf j k l ≤ cellAt j g k l
       full k l k1 kC kl lC = omega (arith, jdm-cong (vertexCount j) (classAt j) (edge g) H whole k l, at-table k l)

@@ -26,13 +26,13 @@ use Rattle.demands.specs.EmptyBlocks.{TakesEmpty, EmptyBlocks}
 use Rattle.demands.proofs.Chains.{OfTake, later-numbers}
 use Rattle.demands.proofs.Kept.{reads-back}
 
-module _ (s : State) (lengths : lengthsOk (s .journal) (s .adjacency) ≡ true) (sound : valid (s .journal) (s .adjacency) ≡ true)
+module _ (s : State) (lengths : lengthsOk s ≡ true) (is-valid : valid s ≡ true)
     (taking : phase (s .journal) ≡ 0) (room : blocks (s .journal) < mostBlocks) where
-  facts : TakenFacts (s .journal) (s .adjacency) (blocks (s .journal)) []
+  facts : TakenFacts s (blocks (s .journal)) []
   facts =
       record {
         lengths = lengths;
-        sound = sound;
+        is-valid = is-valid;
         good = empty-well-formed;
         next = refl;
         taking = taking;
@@ -41,11 +41,11 @@ module _ (s : State) (lengths : lengthsOk (s .journal) (s .adjacency) ≡ true) 
 
   takes-empty : TakesEmpty s
   takes-empty =
-      let a = facts-taken (s .journal) (s .adjacency) (blocks (s .journal)) [] facts in
+      let a = facts-taken s (blocks (s .journal)) [] facts in
       record {
         answer = a;
-        counted = rw (a, stored-empty (s .journal) (valid-journal (s .journal) (s .adjacency) sound) room);
-        adds-nothing = taken-table (s .journal) (s .adjacency) (blocks (s .journal)) [] _ a ∙ empty-adds (tableOf (s .journal));
+        counted = rw (a, stored-empty (s .journal) (valid-journal s is-valid) room);
+        adds-nothing = taken-table s (blocks (s .journal)) [] _ a ∙ empty-adds (tableOf (s .journal));
       }
 
 -- no check behind 4 gives that answer
@@ -79,7 +79,7 @@ empty-blocks =
           };
       differs = λ calls number b a l. reads-back .accepted-held calls number b a .differs [] empty-well-formed (λ e. absurd (omega (arith, ap length e)));
       other-lengths = λ s l v number b.
-          let passed = state-go (s .journal) (s .adjacency) l v in
+          let passed = state-go s l v in
           let other = other-length (length b) in
           (λ e. other .0 (four-length (s .journal) number b (rw passed at e)), λ h. rw (passed, other .1 h));
       tallied = λ t e l. ap (λ (c : Bool). cond c (withBlock t []) t) (counted t e l) ∙ ap (withTable t) (empty-adds (t .table));

@@ -83,20 +83,20 @@ module _ (j g : List ℕ) where
 -- the state that a finish which was not refused leaves
 module _ (s : State) (f : Choice) where
   abbrev pub finishedState : State
-  finishedState = record { journal = s .journal; adjacency = outcome f (s .journal) (s .adjacency) .adjacency }
+  finishedState = record { journal = s .journal; adjacency = outcome f s .adjacency }
 
-  pub outcome-has : CompleteFacts (s .journal) (s .adjacency) → HasTable (tableOf (s .journal)) finishedState
+  pub outcome-has : CompleteFacts s → HasTable (tableOf (s .journal)) finishedState
   outcome-has facts =
-      let x = outcome-works f (s .journal) (s .adjacency) facts in
+      let x = outcome-works f s facts in
       record { simple = x .simple; exact = x .table; exact-isolated = x .no-edge }
 
   pub after-finish : (out : List ℕ) (joins switches n : ℕ)
-      → ranAnswer (outcome f (s .journal) (s .adjacency)) (s .journal) (s .adjacency) (length out) ≡ Completed joins switches n
+      → choiceAnswer f s (length out) ≡ Completed joins switches n
       → after s (complete f out) ≡ finishedState
   after-finish out joins switches n e =
-      ap (λ (a : CompleteAnswer). record { journal = s .journal; adjacency = ranAfter a (outcome f (s .journal) (s .adjacency)) (s .adjacency) }) e
+      ap (λ (a : CompleteAnswer). record { journal = s .journal; adjacency = ranAfter a (outcome f s) (s .adjacency) }) e
 
-  pub finish-has : (out : List ℕ) (joins switches n : ℕ) → CompleteFacts (s .journal) (s .adjacency)
-      → ranAnswer (outcome f (s .journal) (s .adjacency)) (s .journal) (s .adjacency) (length out) ≡ Completed joins switches n
+  pub finish-has : (out : List ℕ) (joins switches n : ℕ) → CompleteFacts s
+      → choiceAnswer f s (length out) ≡ Completed joins switches n
       → HasTable (tableOf (s .journal)) (after s (complete f out))
   finish-has out joins switches n facts e = subst (HasTable (tableOf (s .journal))) (sym (after-finish out joins switches n e)) (outcome-has facts)

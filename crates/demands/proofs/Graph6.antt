@@ -188,8 +188,8 @@ graph6 =
       survey-as-refused = λ e total m k r nineteen h.
           same-refusal (listVerdict e total) (surveyListed e total k) (writeListed e total m) r
           (λ q. other-than-19 (20 ∷ 18 ∷ []) refl r (subst (OfWritten (20 ∷ 18 ∷ []) (length (surveyRecords e total)) k) q (survey-rest (20 ∷ 18 ∷ []) refl refl e total k)) nineteen) h;
-      laid = λ j g lengths sound phased.
-          let l = valid-facts j g lengths sound .laid phased in
+      laid = λ j g lengths is-valid phased.
+          let l = valid-facts j g lengths is-valid .laid phased in
           let n = vertexCount j in
           let e = text-cong n (edge g) (graphOf (listBytes n g)) (same j g l) in (
             e,

@@ -51,6 +51,6 @@ module _ (j g : List ℕ) (facts : StateFacts j g) (laid : Laid j g) (v : ℕ) (
       }
 
 pub isolated-alone : IsolatedAlone
-isolated-alone j g lengths sound phased v h =
-    let facts = valid-facts j g lengths sound in
+isolated-alone j g lengths is-valid phased v h =
+    let facts = valid-facts j g lengths is-valid in
     (isolated-first j v h, alone j g facts (facts .laid phased) v h)

@@ -42,34 +42,34 @@ AcceptedFrom s calls number =
 
 module _ (s : State) (t : Tally) (r : Reach s t) where
   -- a block that is accepted is there afterwards
-  accepted-has : (number : ℕ) (b : List ℕ) → accepted (takeAnswer (s .journal) (s .adjacency) number b) ≡ true → Has (after s (take number b)) number b
-  accepted-has number b = go (takeAnswer (s .journal) (s .adjacency) number b) refl
+  accepted-has : (number : ℕ) (b : List ℕ) → accepted (takeAnswer s number b) ≡ true → Has (after s (take number b)) number b
+  accepted-has number b = go (takeAnswer s number b) refl
     where
-      go : (a : TakeAnswer) → takeAnswer (s .journal) (s .adjacency) number b ≡ a → accepted a ≡ true
+      go : (a : TakeAnswer) → takeAnswer s number b ≡ a → accepted a ≡ true
           → Has (record { journal = takeJournal a (s .journal) b; adjacency = s .adjacency }) number b
       go (Taken m) e h =
-          let f = taken-facts (s .journal) (s .adjacency) number b m e in
-          record { low = stored-low (s .journal) (s .adjacency) number b f; same = stored-same (s .journal) (s .adjacency) number b f }
-      go Held e h = let f = held-facts (s .journal) (s .adjacency) number b e in record { low = f .low; same = f .same }
+          let f = taken-facts s number b m e in
+          record { low = stored-low s number b f; same = stored-same s number b f }
+      go Held e h = let f = held-facts s number b e in record { low = f .low; same = f .same }
       go (Refused q) e h = absurd (true≢false (sym h))
 
   -- a block that is there stays
   has-call : (c : Call) (number : ℕ) (b : List ℕ) → Has s number b → Has (after s c) number b
-  has-call (take n x) number b h = go (takeAnswer (s .journal) (s .adjacency) n x) refl
+  has-call (take n x) number b h = go (takeAnswer s n x) refl
     where
-      go : (a : TakeAnswer) → takeAnswer (s .journal) (s .adjacency) n x ≡ a
+      go : (a : TakeAnswer) → takeAnswer s n x ≡ a
           → Has (record { journal = takeJournal a (s .journal) x; adjacency = s .adjacency }) number b
       go (Taken m) e =
-          let f = taken-facts (s .journal) (s .adjacency) n x m e in
-          let size = lengths-journal (s .journal) (s .adjacency) (f .lengths) in
-          let ok = valid-journal (s .journal) (s .adjacency) (f .sound) in
+          let f = taken-facts s n x m e in
+          let size = lengths-journal s (f .lengths) in
+          let ok = valid-journal s (f .is-valid) in
           record {
             low = omega (arith, h .low, blocks-stored (s .journal) x size ok (f .room) (f .good));
             same = blockAt-stored (s .journal) x size ok (f .room) (f .good) number (h .low) ∙ h .same;
           }
       go Held e = h
       go (Refused q) e = h
-  has-call layOut number b h = go (layOutAnswer (s .journal) (s .adjacency))
+  has-call layOut number b h = go (layOutAnswer s)
     where
       go : (a : LayOutAnswer) → Has (record { journal = layOutJournal a (s .journal); adjacency = s .adjacency }) number b
       go (LayOut.LaidOut n) = record { low = rw (blocks-laid (s .journal)) (h .low); same = blockAt-laid (s .journal) number ∙ h .same }
@@ -87,23 +87,23 @@ module _ (s : State) (t : Tally) (r : Reach s t) where
   -- a block that is there was there before the call, or was accepted by it
   came-call : (c : Call) (cs : List Call) (number : ℕ) → number < blocks (after s c .journal)
       → (number < blocks (s .journal)) ⊎ AcceptedFrom s (c ∷ cs) number
-  came-call (take n x) cs number l = go (takeAnswer (s .journal) (s .adjacency) n x) refl l
+  came-call (take n x) cs number l = go (takeAnswer s n x) refl l
     where
-      go : (a : TakeAnswer) → takeAnswer (s .journal) (s .adjacency) n x ≡ a → number < blocks (takeJournal a (s .journal) x)
+      go : (a : TakeAnswer) → takeAnswer s n x ≡ a → number < blocks (takeJournal a (s .journal) x)
           → (number < blocks (s .journal)) ⊎ AcceptedFrom s (take n x ∷ cs) number
       go (Taken m) e l = old (decLt number (blocks (s .journal)))
         where
           old : Dec (number < blocks (s .journal)) → (number < blocks (s .journal)) ⊎ AcceptedFrom s (take n x ∷ cs) number
           old (yes p) = inl p
           old (no p) =
-              let f = taken-facts (s .journal) (s .adjacency) n x m e in
-              let size = lengths-journal (s .journal) (s .adjacency) (f .lengths) in
-              let ok = valid-journal (s .journal) (s .adjacency) (f .sound) in
+              let f = taken-facts s n x m e in
+              let size = lengths-journal s (f .lengths) in
+              let ok = valid-journal s (f .is-valid) in
               let q : n ≡ number = omega (arith, f .next, l, p, blocks-stored (s .journal) x size ok (f .room) (f .good)) in
               inr (subst (λ (i : ℕ). AcceptedFrom s (take n x ∷ cs) i) q (x, [], cs, refl, ap accepted e))
       go Held e l = inl l
       go (Refused q) e l = inl l
-  came-call layOut cs number l = go (layOutAnswer (s .journal) (s .adjacency)) l
+  came-call layOut cs number l = go (layOutAnswer s) l
     where
       go : (a : LayOutAnswer) → number < blocks (layOutJournal a (s .journal)) → (number < blocks (s .journal)) ⊎ AcceptedFrom s (layOut ∷ cs) number
       go (LayOut.LaidOut n) l = inl (rw (blocks-laid (s .journal)) at l)
@@ -161,11 +161,11 @@ reads-back =
         let r = reach calls in
         let j = afterAll cleared calls .journal in
         let g = afterAll cleared calls .adjacency in
-        let q = read-back j g number (record { lengths = r .lengths; sound = r .sound; low = h .low }) in
+        let q = read-back j g number (record { lengths = r .lengths; is-valid = r .is-valid; low = h .low }) in
         record {
           low = h .low;
           sized = q .0 ∙ ap (λ (x : List ℕ). Length (length x)) (h .same);
           same = q .1 ∙ h .same;
-          resent = facts-held j g number b (record { lengths = r .lengths; sound = r .sound; low = h .low; same = h .same });
-          differs = λ b′ w other. take-differs j g number b′ (r .lengths) (r .sound) w (h .low) (λ e. other (sym (h .same) ∙ e));
+          resent = facts-held j g number b (record { lengths = r .lengths; is-valid = r .is-valid; low = h .low; same = h .same });
+          differs = λ b′ w other. take-differs j g number b′ (r .lengths) (r .is-valid) w (h .low) (λ e. other (sym (h .same) ∙ e));
         }

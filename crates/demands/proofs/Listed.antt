@@ -55,7 +55,7 @@ module _ (j g : List ℕ) (laid : Laid j g) where
       (λ v z l. le-ltb mostDegree (degree (vertexCount j) (graphOf (listBytes (vertexCount j) g)) v) (low v l))
 
 pub list-surveyed : ListSurveyed
-list-surveyed j g lengths sound phased = (
+list-surveyed j g lengths is-valid phased = (
   records j g laid,
   λ m h.
       rw (
@@ -67,4 +67,4 @@ list-surveyed j g lengths sound phased = (
 )
   where
     laid : Laid j g
-    laid = valid-facts j g lengths sound .laid phased
+    laid = valid-facts j g lengths is-valid .laid phased

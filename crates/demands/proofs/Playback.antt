@@ -60,7 +60,7 @@ module _ (n : ℕ) (cls : ℕ → ℕ) (T : ℕ → ℕ → ℕ) {S : Type 0} (c
 
 completing-plays : (f : Choice) (j g out : List ℕ) → lengthsOk j g ≡ true → valid j g ≡ true → phase j ≡ 1 → 8 * missing j g ≤ length out
     → CompletingPlays f j g out
-completing-plays f j g out lengths sound phased room =
+completing-plays f j g out lengths is-valid phased room =
     record {
       joins = r .joins;
       switches = r .switches;
@@ -76,7 +76,7 @@ completing-plays f j g out lengths sound phased room =
     }
   where
     checked : CompleteFacts j g
-    checked = record { lengths = lengths; sound = sound; phased = phased }
+    checked = record { lengths = lengths; is-valid = is-valid; phased = phased }
 
     r : Ran
     r = outcome f j g
@@ -112,7 +112,7 @@ adding-plays j g v w s e =
     f = added-facts j g v w s e .0
 
     facts : StateFacts j g
-    facts = valid-facts j g (f .lengths) (f .sound)
+    facts = valid-facts j g (f .lengths) (f .is-valid)
 
     laid : Laid j g
     laid = facts .laid (f .phased)

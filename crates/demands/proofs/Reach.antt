@@ -56,17 +56,17 @@ Counted false laid tallied = tallied ≡ 0
 Counted true laid tallied = laid ≡ tallied
 
 pub record Reach (s : State) (t : Tally) : Type 0 where
-  pub lengths : lengthsOk (s .journal) (s .adjacency) ≡ true
-  pub sound : valid (s .journal) (s .adjacency) ≡ true
+  pub lengths : lengthsOk s ≡ true
+  pub is-valid : valid s ≡ true
   pub table : tableOf (s .journal) ≡ t .table
   pub numbered : blocks (s .journal) ≡ t .blocks
   pub phased : phase (s .journal) ≡ phaseOf (t .laid)
-  pub counted : Counted (t .laid) (edgeTotal (s .journal) (s .adjacency)) (t .edges)
+  pub counted : Counted (t .laid) (edgeTotal s) (t .edges)
 
 pub reach-cleared : Reach cleared noTally
 reach-cleared =
     let c = cleared-state in
-    record { lengths = c .lengths; sound = c .sound; table = c .no-table; numbered = c .no-blocks; phased = c .taking; counted = refl }
+    record { lengths = c .lengths; is-valid = c .is-valid; table = c .no-table; numbered = c .no-blocks; phased = c .taking; counted = refl }
 
 -- what a join, a lift or a finish that was not refused needs: a laid state
 pub laid-tally : (s : State) (t : Tally) → Reach s t → phase (s .journal) ≡ 1 → t .laid ≡ true
@@ -76,8 +76,8 @@ laid-tally s t r e = go (t .laid) refl
     go true p = p
     go false p = absurd (omega (arith, r .phased, ap phaseOf p, e))
 
-pub laid-counted : (s : State) (t : Tally) → Reach s t → t .laid ≡ true → edgeTotal (s .journal) (s .adjacency) ≡ t .edges
-laid-counted s t r e = subst (λ (b : Bool). Counted b (edgeTotal (s .journal) (s .adjacency)) (t .edges)) e (r .counted)
+pub laid-counted : (s : State) (t : Tally) → Reach s t → t .laid ≡ true → edgeTotal s ≡ t .edges
+laid-counted s t r e = subst (λ (b : Bool). Counted b (edgeTotal s) (t .edges)) e (r .counted)
 
 pub phase-0 : (s : State) (t : Tally) → Reach s t → t .laid ≡ false → phase (s .journal) ≡ 0
 phase-0 s t r e = r .phased ∙ ap phaseOf e
@@ -88,10 +88,10 @@ phase-1 s t r e = r .phased ∙ ap phaseOf e
 -- the tally's edges moved on a laid state
 with-edges : (s : State) (g′ : List ℕ) (t : Tally) (m : ℕ) → Reach s t → t .laid ≡ true → lengthsOk (s .journal) g′ ≡ true → valid (s .journal) g′ ≡ true
     → edgeTotal (s .journal) g′ ≡ m → Reach (record { journal = s .journal; adjacency = g′ }) (withEdges t m)
-with-edges s g′ t m r e lengths sound count =
+with-edges s g′ t m r e lengths is-valid count =
     record {
       lengths = lengths;
-      sound = sound;
+      is-valid = is-valid;
       table = r .table;
       numbered = r .numbered;
       phased = r .phased;
@@ -109,22 +109,22 @@ module _ (s : State) (t : Tally) (r : Reach s t) where
       go false = refl
 
   after-take : (number : ℕ) (b : List ℕ) → Reach (after s (take number b)) (tally t (told s (take number b)))
-  after-take number b = go (takeAnswer (s .journal) (s .adjacency) number b) refl (counts t number b) refl
+  after-take number b = go (takeAnswer s number b) refl (counts t number b) refl
     where
-      tested : isTaken (takeAnswer (s .journal) (s .adjacency) number b) ≡ counts t number b
-      tested = take-taken (s .journal) (s .adjacency) number b (r .lengths) (r .sound) .0 ∙ same-next number b
+      tested : isTaken (takeAnswer s number b) ≡ counts t number b
+      tested = take-taken s number b (r .lengths) (r .is-valid) .0 ∙ same-next number b
 
-      go : (a : TakeAnswer) → takeAnswer (s .journal) (s .adjacency) number b ≡ a → (c : Bool) → counts t number b ≡ c
+      go : (a : TakeAnswer) → takeAnswer s number b ≡ a → (c : Bool) → counts t number b ≡ c
           → Reach (record { journal = takeJournal a (s .journal) b; adjacency = s .adjacency }) (cond c (withBlock t b) t)
-      go (Taken m) e true h = new (taken-facts (s .journal) (s .adjacency) number b m e)
+      go (Taken m) e true h = new (taken-facts s number b m e)
         where
-          new : TakenFacts (s .journal) (s .adjacency) number b → Reach (record { journal = stored (s .journal) b; adjacency = s .adjacency }) (withBlock t b)
+          new : TakenFacts s number b → Reach (record { journal = stored (s .journal) b; adjacency = s .adjacency }) (withBlock t b)
           new f =
-              let size = lengths-journal (s .journal) (s .adjacency) (f .lengths) in
-              let ok = valid-journal (s .journal) (s .adjacency) (f .sound) in
+              let size = lengths-journal s (f .lengths) in
+              let ok = valid-journal s (f .is-valid) in
               record {
-                lengths = rw e at (take-lengths (s .journal) (s .adjacency) number b (r .lengths));
-                sound = rw e at (take-valid (s .journal) (s .adjacency) number b (r .sound));
+                lengths = rw e at (take-lengths s number b (r .lengths));
+                is-valid = rw e at (take-valid s number b (r .is-valid));
                 table =
                     table-stored (s .journal) b size ok (f .room) (f .good)
                     ∙ ap (λ (u : DegreeTable). plus u b) (r .table);
@@ -135,7 +135,7 @@ module _ (s : State) (t : Tally) (r : Reach s t) where
             where
               not-laid : (l : Bool) → t .laid ≡ l → Counted l (edgeTotal (stored (s .journal) b) (s .adjacency)) (t .edges)
               not-laid true p = absurd (omega (arith, r .phased, ap phaseOf p, f .taking))
-              not-laid false p = subst (λ (l : Bool). Counted l (edgeTotal (s .journal) (s .adjacency)) (t .edges)) p (r .counted)
+              not-laid false p = subst (λ (l : Bool). Counted l (edgeTotal s) (t .edges)) p (r .counted)
       go (Taken m) e false h = absurd (true≢false (ap isTaken (sym e) ∙ tested ∙ h))
       go Held e true h = absurd (true≢false (sym (ap isTaken (sym e) ∙ tested ∙ h)))
       go Held e false h = r
@@ -154,21 +154,21 @@ module _ (s : State) (t : Tally) (r : Reach s t) where
       go false = refl
 
   after-layOut : Reach (after s layOut) (tally t (told s layOut))
-  after-layOut = go (layOutAnswer (s .journal) (s .adjacency)) refl (laysOut t) refl
+  after-layOut = go (layOutAnswer s) refl (laysOut t) refl
     where
-      tested : isLaidOut (layOutAnswer (s .journal) (s .adjacency)) ≡ laysOut t
-      tested = lay-out-laid-out (s .journal) (s .adjacency) (r .lengths) (r .sound) .0 ∙ same-lays
+      tested : isLaidOut (layOutAnswer s) ≡ laysOut t
+      tested = lay-out-laid-out s (r .lengths) (r .is-valid) .0 ∙ same-lays
 
-      go : (a : LayOutAnswer) → layOutAnswer (s .journal) (s .adjacency) ≡ a → (c : Bool) → laysOut t ≡ c
+      go : (a : LayOutAnswer) → layOutAnswer s ≡ a → (c : Bool) → laysOut t ≡ c
           → Reach (record { journal = layOutJournal a (s .journal); adjacency = s .adjacency }) (cond c (nowLaid t) t)
-      go (LaidOut n) e true h = new (lay-out-facts (s .journal) (s .adjacency) n e)
+      go (LaidOut n) e true h = new (lay-out-facts s n e)
         where
-          new : LaidOutFacts (s .journal) (s .adjacency) → Reach (record { journal = laid (s .journal); adjacency = s .adjacency }) (nowLaid t)
+          new : LaidOutFacts s → Reach (record { journal = laid (s .journal); adjacency = s .adjacency }) (nowLaid t)
           new f =
-              let facts = valid-facts (s .journal) (s .adjacency) (r .lengths) (r .sound) in
+              let facts = valid-facts s (r .lengths) (r .is-valid) in
               record {
-                lengths = lay-out-lengths (s .journal) (s .adjacency) (LaidOut n) (r .lengths);
-                sound = rw e at (lay-out-valid (s .journal) (s .adjacency) (r .lengths) (r .sound));
+                lengths = lay-out-lengths s (LaidOut n) (r .lengths);
+                is-valid = rw e at (lay-out-valid s (r .lengths) (r .is-valid));
                 table = table-laid (s .journal) ∙ r .table;
                 numbered = blocks-laid (s .journal) ∙ r .numbered;
                 phased = phase-laid (s .journal) (facts .journal-length);
@@ -177,50 +177,50 @@ module _ (s : State) (t : Tally) (r : Reach s t) where
             where
               none : (l : Bool) → t .laid ≡ l → t .edges ≡ 0
               none true p = absurd (omega (arith, r .phased, ap phaseOf p, f .taking))
-              none false p = subst (λ (l : Bool). Counted l (edgeTotal (s .journal) (s .adjacency)) (t .edges)) p (r .counted)
+              none false p = subst (λ (l : Bool). Counted l (edgeTotal s) (t .edges)) p (r .counted)
       go (LaidOut n) e false h = absurd (true≢false (ap isLaidOut (sym e) ∙ tested ∙ h))
       go (LayRefused q) e true h = absurd (true≢false (sym (ap isLaidOut (sym e) ∙ tested ∙ h)))
       go (LayRefused q) e false h = r
 
   after-add : (v w : ℕ) → Reach (after s (add v w)) (tally t (told s (add v w)))
-  after-add v w = go (addAnswer (s .journal) (s .adjacency) v w) refl
+  after-add v w = go (addAnswer s v w) refl
     where
-      go : (a : AddAnswer) → addAnswer (s .journal) (s .adjacency) v w ≡ a
-          → Reach (record { journal = s .journal; adjacency = addAdjacency a (s .journal) (s .adjacency) v w }) (tally t (toldAdd a))
+      go : (a : AddAnswer) → addAnswer s v w ≡ a
+          → Reach (record { journal = s .journal; adjacency = addAdjacency a s v w }) (tally t (toldAdd a))
       go (Add.Added m) e =
-          let f = added-facts (s .journal) (s .adjacency) v w m e .0 in
-          let x = add-works (s .journal) (s .adjacency) v w f in
+          let f = added-facts s v w m e .0 in
+          let x = add-works s v w f in
           let l = laid-tally s t r (f .phased) in
-          with-edges s (addAdjacency (Add.Added m) (s .journal) (s .adjacency) v w) t (t .edges + 1) r l (x .lengths) (x .sound)
+          with-edges s (addAdjacency (Add.Added m) s v w) t (t .edges + 1) r l (x .lengths) (x .is-valid)
           (x .one-more ∙ ap (λ (m : ℕ). m + 1) (laid-counted s t r l))
       go (Add.Refused q) e = r
 
   after-remove : (v w : ℕ) → Reach (after s (remove v w)) (tally t (told s (remove v w)))
-  after-remove v w = go (removeAnswer (s .journal) (s .adjacency) v w) refl
+  after-remove v w = go (removeAnswer s v w) refl
     where
-      go : (a : RemoveAnswer) → removeAnswer (s .journal) (s .adjacency) v w ≡ a
+      go : (a : RemoveAnswer) → removeAnswer s v w ≡ a
           → Reach (record { journal = s .journal; adjacency = removeAdjacency a (s .adjacency) v w }) (tally t (toldRemove a))
       go Remove.Removed e =
-          let f = removed-facts (s .journal) (s .adjacency) v w e in
-          let x = remove-works (s .journal) (s .adjacency) v w f in
+          let f = removed-facts s v w e in
+          let x = remove-works s v w f in
           let l = laid-tally s t r (f .phased) in
-          with-edges s (removeAdjacency Remove.Removed (s .adjacency) v w) t (t .edges - 1) r l (x .lengths) (x .sound)
+          with-edges s (removeAdjacency Remove.Removed (s .adjacency) v w) t (t .edges - 1) r l (x .lengths) (x .is-valid)
           (omega (arith, x .one-less, laid-counted s t r l))
       go (Remove.Refused q) e = r
 
   after-complete : (f : Choice) (out : List ℕ) → Reach (after s (complete f out)) (tally t (told s (complete f out)))
-  after-complete f out = go (ranAnswer r₀ (s .journal) (s .adjacency) (length out)) refl
+  after-complete f out = go (ranAnswer r₀ s (length out)) refl
     where
       r₀ : Ran
-      r₀ = outcome f (s .journal) (s .adjacency)
+      r₀ = outcome f s
 
-      go : (a : CompleteAnswer) → ranAnswer r₀ (s .journal) (s .adjacency) (length out) ≡ a
+      go : (a : CompleteAnswer) → ranAnswer r₀ s (length out) ≡ a
           → Reach (record { journal = s .journal; adjacency = ranAfter a r₀ (s .adjacency) }) (tally t (toldComplete a))
       go (Complete.Completed joins switches n) e =
-          let c = completed-facts (s .journal) (s .adjacency) r₀ (length out) joins switches n e in
-          let x = outcome-works f (s .journal) (s .adjacency) (c .facts) in
+          let c = completed-facts s r₀ (length out) joins switches n e in
+          let x = outcome-works f s (c .facts) in
           let l = laid-tally s t r (c .facts .phased) in
-          with-edges s (r₀ .adjacency) t (t .edges + joins) r l (x .lengths) (x .sound)
+          with-edges s (r₀ .adjacency) t (t .edges + joins) r l (x .lengths) (x .is-valid)
           (omega (arith, x .more, c .joins-are, laid-counted s t r l))
       go (Complete.Refused q) e = r
 

@@ -28,63 +28,63 @@ use Rattle.demands.specs.Playback.{play}
 use Rattle.demands.proofs.Finishes.{outcome-answer, full-outcome, full-answer, finish-has}
 use Rattle.demands.proofs.Playback.{playback}
 
-shuffles : (s : State) (x : ℕ) (out : List ℕ) → lengthsOk (s .journal) (s .adjacency) ≡ true → valid (s .journal) (s .adjacency) ≡ true
-    → phase (s .journal) ≡ 1 → 8 * missing (s .journal) (s .adjacency) ≤ length out → Shuffles s x out
-shuffles s x out lengths sound phased room =
+shuffles : (s : State) (x : ℕ) (out : List ℕ) → lengthsOk s ≡ true → valid s ≡ true
+    → phase (s .journal) ≡ 1 → 8 * missing s ≤ length out → Shuffles s x out
+shuffles s x out lengths is-valid phased room =
     record {
       joins = r .joins;
       switches = r .switches;
       answer =
-          ap (withX (shuffled (s .journal) (s .adjacency) x .x)) answered
-          ∙ ap (Completed (r .joins) (r .switches) (8 * r .joins)) (shuffled-last (s .journal) (s .adjacency) x);
+          ap (withX (shuffled s x .x)) answered
+          ∙ ap (Completed (r .joins) (r .switches) (8 * r .joins)) (shuffled-last s x);
       made = made;
       has-table = finish-has s (Picked x) out (r .joins) (r .switches) (8 * r .joins) checked answered;
       played =
-          let p = playback .completing (Picked x) (s .journal) (s .adjacency) out lengths sound phased room in
+          let p = playback .completing (Picked x) s out lengths is-valid phased room in
           let e : p .joins ≡ r .joins = omega (arith, p .made, made) in
-          ap (λ (m : ℕ). play (take (8 * m) (shuffleOutput (s .journal) (s .adjacency) x out)) (s .adjacency)) (sym e) ∙ p .played;
+          ap (λ (m : ℕ). play (take (8 * m) (shuffleOutput s x out)) (s .adjacency)) (sym e) ∙ p .played;
     }
   where
-    checked : CompleteFacts (s .journal) (s .adjacency)
-    checked = record { lengths = lengths; sound = sound; phased = phased }
+    checked : CompleteFacts s
+    checked = record { lengths = lengths; is-valid = is-valid; phased = phased }
 
     r : Ran
-    r = shuffled (s .journal) (s .adjacency) x .ran
+    r = shuffled s x .ran
 
-    made : shuffled (s .journal) (s .adjacency) x .ran .joins ≡ missing (s .journal) (s .adjacency)
-    made = outcome-works (Picked x) (s .journal) (s .adjacency) checked .made
+    made : shuffled s x .ran .joins ≡ missing s
+    made = outcome-works (Picked x) s checked .made
 
-    answered : ranAnswer r (s .journal) (s .adjacency) (length out) ≡ Complete.Completed (r .joins) (r .switches) (8 * r .joins)
-    answered = outcome-answer (s .journal) (s .adjacency) (Picked x) checked (length out) room
+    answered : ranAnswer r s (length out) ≡ Complete.Completed (r .joins) (r .switches) (8 * r .joins)
+    answered = outcome-answer s (Picked x) checked (length out) room
 
-left-alone : (s : State) (x : ℕ) (out : List ℕ) → lengthsOk (s .journal) (s .adjacency) ≡ true → valid (s .journal) (s .adjacency) ≡ true
+left-alone : (s : State) (x : ℕ) (out : List ℕ) → lengthsOk s ≡ true → valid s ≡ true
     → phase (s .journal) ≡ 1 → ((k l : ℕ) → Short (tableOf (s .journal)) s k l → ⊥) → LeftAlone s x out
-left-alone s x out lengths sound phased none =
+left-alone s x out lengths is-valid phased none =
     record {
       answer =
-          ap (withX (shuffled (s .journal) (s .adjacency) x .x)) answered
-          ∙ ap (Completed 0 0 0) (shuffled-last (s .journal) (s .adjacency) x ∙ ap (λ (m : ℕ). stepsX m x) (ap (λ (r : Ran). r .joins) ended) ∙ foldTo-none (λ i. nextX) x);
+          ap (withX (shuffled s x .x)) answered
+          ∙ ap (Completed 0 0 0) (shuffled-last s x ∙ ap (λ (m : ℕ). stepsX m x) (ap (λ (r : Ran). r .joins) ended) ∙ foldTo-none (λ i. nextX) x);
       same-matrix = ap₂ (λ (a : CompleteAnswer) (r : Ran). ranAfter a r (s .adjacency)) answered ended;
       same-output = ap₂ (λ (a : CompleteAnswer) (r : Ran). ranOutput a r out) answered ended;
     }
   where
-    checked : CompleteFacts (s .journal) (s .adjacency)
-    checked = record { lengths = lengths; sound = sound; phased = phased }
+    checked : CompleteFacts s
+    checked = record { lengths = lengths; is-valid = is-valid; phased = phased }
 
-    full : (k l : ℕ) → leastClass ≤ k → k < mostClasses → k ≤ l → l < mostClasses → jdmOf (s .journal) k l ≤ cellAt (s .journal) (s .adjacency) k l
+    full : (k l : ℕ) → leastClass ≤ k → k < mostClasses → k ≤ l → l < mostClasses → jdmOf (s .journal) k l ≤ cellAt s k l
     full k l a b c d = omega (arith, none k l)
 
-    ended : shuffled (s .journal) (s .adjacency) x .ran ≡ fresh (s .adjacency)
-    ended = full-outcome (s .journal) (s .adjacency) (Picked x) checked full
+    ended : shuffled s x .ran ≡ fresh (s .adjacency)
+    ended = full-outcome s (Picked x) checked full
 
-    answered : ranAnswer (shuffled (s .journal) (s .adjacency) x .ran) (s .journal) (s .adjacency) (length out) ≡ Complete.Completed 0 0 0
-    answered = full-answer (s .journal) (s .adjacency) (Picked x) checked full (length out)
+    answered : ranAnswer (shuffled s x .ran) s (length out) ≡ Complete.Completed 0 0 0
+    answered = full-answer s (Picked x) checked full (length out)
 
 pub shuffled-finishing : ShuffledFinishing
 shuffled-finishing =
     record {
       shuffles = shuffles;
       complete-already = left-alone;
-      refused = λ s x out q e. with-x-refused (shuffled (s .journal) (s .adjacency) x .x) _ q e;
+      refused = λ s x out q e. with-x-refused (shuffled s x .x) _ q e;
       same-matrix = λ s x out. refl;
     }

@@ -61,7 +61,7 @@ module _ (calls : List Call) where
   pub room-enough : tallyAll cleared noTally calls .laid ≡ true → (f : Choice) (out : List ℕ)
       → length out ≡ joinRecordSize * missingEdges (tallyAll cleared noTally calls) → (r : Refusal)
       → let s = afterAll cleared calls in
-      ranAnswer (outcome f (s .journal) (s .adjacency)) (s .journal) (s .adjacency) (length out) ≡ Refused r → ⊥
+      choiceAnswer f s (length out) ≡ Refused r → ⊥
   room-enough l f out h r e =
       let c = demand-3 calls .1 l .completes f out (omega arith) in
       refused-not-completed (c .joins) (c .switches) (joinRecordSize * c .joins) r (sym e ∙ c .answer)
@@ -74,7 +74,7 @@ module _ (calls : List Call) where
   -- once completed, exactly as many vertices have no edge as the blocks taken or held add up to
   pub isolated-exact : (f : Choice) (out : List ℕ) (joins switches n : ℕ)
       → let s = afterAll cleared calls in
-      ranAnswer (outcome f (s .journal) (s .adjacency)) (s .journal) (s .adjacency) (length out) ≡ Completed joins switches n
+      choiceAnswer f s (length out) ≡ Completed joins switches n
       → isolated (vertices (answeredSum (calls ++ complete f out ∷ []))) (edge (after s (complete f out) .adjacency))
       ≡ answered blockIsolated [] cleared (calls ++ complete f out ∷ [])
   isolated-exact f out joins switches n e = demand-2 .completed calls [] f out joins switches n e refl .exact-isolated
@@ -110,7 +110,7 @@ resent-once t number b h = rw h (ap (λ (c : Bool). cond c (withBlock (withBlock
 -- of each pair of a list that is all added alone, the answer has no triples
 added-at : (before : List Pair) (p : Pair) (rest : List Pair) (s : State) → AllAdded s (before ++ p ∷ rest)
     → addAnswer (afterAll s (adds before) .journal) (afterAll s (adds before) .adjacency) (p .0) (p .1) ≡ Added None
-added-at [] p rest s a = alone (addAnswer (s .journal) (s .adjacency) (p .0) (p .1)) (a .0)
+added-at [] p rest s a = alone (addAnswer s (p .0) (p .1)) (a .0)
   where
     alone : (x : AddAnswer) → AddedAlone x → x ≡ Added None
     alone (Added switches) e = ap Added e
@@ -119,7 +119,7 @@ added-at (x ∷ before) p rest s a = added-at before p rest (after s (add (x .0)
 
 -- While a drawing is laid onto the empty matrix, no edge that lies is ever moved: each call sets the bytes of its own edge and no others.
 pub nothing-moves : (s : State) → ValidLaid s → s .adjacency ≡ emptyMatrix → (H : Graph) → Replica (tableOf (s .journal)) H
-    → (before : List Pair) (p : Pair) (rest : List Pair) → Order (vertexCount (s .journal)) H (before ++ p ∷ rest)
+    → (before : List Pair) (p : Pair) (rest : List Pair) → Order (vertexCount s) H (before ++ p ∷ rest)
     → after (afterAll s (adds before)) (add (p .0) (p .1)) .adjacency ≡ setEdge (afterAll s (adds before) .adjacency) (p .0) (p .1) 1
 nothing-moves s v e H d before p rest o =
     let x = afterAll s (adds before) in

@@ -34,7 +34,7 @@ use Rattle.demands.proofs.Drawing.{laid, drawn, redrawn, emptied}
 
 -- what completing ends in
 some : (s : State) (f : Choice) (out : List ℕ) (joins switches m : ℕ)
-    → ranAnswer (outcome f (s .journal) (s .adjacency)) (s .journal) (s .adjacency) (length out) ≡ Completed joins switches m
+    → choiceAnswer f s (length out) ≡ Completed joins switches m
     → Replica (tableOf (s .journal)) (edge (after s (complete f out) .adjacency))
 some s f out joins switches m e =
     let j = s .journal in
@@ -48,31 +48,31 @@ module _ (s : State) (v : ValidLaid s) (H : Graph) (drawing : Replica (tableOf (
   abbrev E : Graph
   E = edge (s .adjacency)
 
-  from-empty : s .adjacency ≡ emptyMatrix → (ps : List Pair) → Order (vertexCount (s .journal)) H ps → Drawn s H ps
+  from-empty : s .adjacency ≡ emptyMatrix → (ps : List Pair) → Order (vertexCount s) H ps → Drawn s H ps
   from-empty e ps o =
       drawn (s .journal) H drawing ps (s .adjacency) v
       (λ x y l m. omega (arith, ap (λ (g : List ℕ). edge g x y) e, empty-edge x y, o .once x y l m)) (o .no-other)
 
   -- the edges of A removed and those of B added
   redraw : (A B : Graph) → ((x y : ℕ) → A x y ≤ E x y) → ((x y : ℕ) → E x y + B x y ≡ H x y + A x y) → (qs ps : List Pair)
-      → Order (vertexCount (s .journal)) A qs → Order (vertexCount (s .journal)) B ps → Redrawn s H qs ps
+      → Order (vertexCount s) A qs → Order (vertexCount s) B ps → Redrawn s H qs ps
   redraw A B h e qs ps o q =
       redrawn (s .journal) H drawing qs ps (s .adjacency) v (λ x y l m. omega (arith, o .once x y l m, h x y)) (o .no-other)
       (λ x y l m. omega (arith, o .once x y l m, q .once x y l m, e x y)) (q .no-other)
 
-  from-anywhere : (qs ps : List Pair) → Order (vertexCount (s .journal)) (edge (s .adjacency)) qs → Order (vertexCount (s .journal)) H ps → Redrawn s H qs ps
+  from-anywhere : (qs ps : List Pair) → Order (vertexCount s) (edge (s .adjacency)) qs → Order (vertexCount s) H ps → Redrawn s H qs ps
   from-anywhere = redraw E H (λ x y. omega arith) (λ x y. omega arith)
 
-  differences : (qs ps : List Pair) → Order (vertexCount (s .journal)) (lacking H (edge (s .adjacency))) qs
-      → Order (vertexCount (s .journal)) (lacking (edge (s .adjacency)) H) ps → Redrawn s H qs ps
+  differences : (qs ps : List Pair) → Order (vertexCount s) (lacking H (edge (s .adjacency))) qs
+      → Order (vertexCount s) (lacking (edge (s .adjacency)) H) ps → Redrawn s H qs ps
   differences = redraw (lacking H E) (lacking E H) (λ x y. omega arith) (λ x y. omega arith)
 
-  reached : let n = vertexCount (s .journal) in
+  reached : let n = vertexCount s in
       Order n (edge (s .adjacency)) (ascending n (edge (s .adjacency))) × Order n H (ascending n H)
       × Redrawn s H (ascending n (edge (s .adjacency))) (ascending n H)
   reached =
-      let n = vertexCount (s .journal) in
-      let l = laid (s .journal) (s .adjacency) v in
+      let n = vertexCount s in
+      let l = laid s v in
       let a = ascending-order n (edge (s .adjacency)) (l .vertices-le) (l .partial .simple) in
       let b = ascending-order n H (l .vertices-le) (drawing .simple) in
       (a, b, from-anywhere (ascending n (edge (s .adjacency))) (ascending n H) a b)
@@ -104,13 +104,13 @@ module _ (calls : List Call) (e : tallyAll cleared noTally calls .laid ≡ true)
   r : Reach (afterAll cleared calls) (tallyAll cleared noTally calls)
   r = reach calls
 
-  sound : ValidLaid (afterAll cleared calls)
-  sound = record { lengths = r .lengths; sound = r .sound; phased = phase-1 _ _ r e }
+  is-valid : ValidLaid (afterAll cleared calls)
+  is-valid = record { lengths = r .lengths; is-valid = r .is-valid; phased = phase-1 _ _ r e }
 
   again : Redrawn (afterAll cleared calls) H qs ps
   again =
       let t = sym (r .table) in
-      from-anywhere s sound H (subst (λ (t : DegreeTable). Replica t H) t drawing) qs ps
+      from-anywhere s is-valid H (subst (λ (t : DegreeTable). Replica t H) t drawing) qs ps
       (subst (λ (t : DegreeTable). Order (vertices t) (edge (s .adjacency)) qs) t o) (subst (λ (t : DegreeTable). Order (vertices t) H ps) t q)
 
   whole : afterAll cleared (calls ++ (removes qs ++ adds ps)) ≡ afterAll (afterAll s (removes qs)) (adds ps)
@@ -122,7 +122,7 @@ module _ (calls : List Call) (e : tallyAll cleared noTally calls .laid ≡ true)
   still-laid : tallyAll cleared noTally (calls ++ (removes qs ++ adds ps)) .laid ≡ true
   still-laid =
       laid-tally _ _ (reach (calls ++ (removes qs ++ adds ps)))
-      (ap (λ (x : State). phase (x .journal)) (after-append calls (removes qs ++ adds ps) cleared ∙ again .exactly) ∙ sound .phased)
+      (ap (λ (x : State). phase (x .journal)) (after-append calls (removes qs ++ adds ps) cleared ∙ again .exactly) ∙ is-valid .phased)
 
   tallied : (missingEdges (tallyAll cleared noTally (calls ++ (removes qs ++ adds ps))) ≡ 0) × NothingToComplete (afterAll cleared (calls ++ (removes qs ++ adds ps)))
   tallied = (none-missing (calls ++ (removes qs ++ adds ps)) still-laid none-left, none-left)

@@ -7,7 +7,8 @@ use Prim.Native.Nat.{ℕ}
 use Rattle.answer.specs.declared.TakeAnswer.{TakeAnswer}
 use Rattle.answer.specs.declared.TakeAnswer.the-variants.{Taken, Held, Refused}
 use Rattle.take_block.specs.Take.{takeAnswer}
-use Rattle.demands.specs.Calls.{Call, take, cleared, afterAll}
+use Rattle.state.specs.State.{cleared}
+use Rattle.demands.specs.Calls.{Call, changes, take, afterAll}
 
 -- the block was taken, or held already
 abbrev pub accepted : TakeAnswer → Bool
@@ -19,5 +20,5 @@ accepted (Refused r) = false
 pub record AcceptedIn (calls : List Call) (number : ℕ) (b : List ℕ) : Type 0 where
   pub before : List Call
   pub rest : List Call
-  pub offered : calls ≡ before ++ take number b ∷ rest
-  pub answer : accepted (takeAnswer (afterAll cleared before .journal) (afterAll cleared before .adjacency) number b) ≡ true
+  pub offered : calls ≡ before ++ changes (take number b) ∷ rest
+  pub answer : accepted (takeAnswer (afterAll cleared before) number b) ≡ true

@@ -2,75 +2,50 @@
 -- Assumes nothing.
 use mathlib.Core.List.{List, [], _∷_}
 use Prim.Native.Nat.{ℕ}
-use lib.ListN.{length, replicate}
+use lib.ListN.{length}
 use Rattle.answer.specs.declared.Choice.{Choice}
-use Rattle.journal.specs.Journal.{journalSize}
-use Rattle.adjacency.specs.Adjacency.{adjacencySize}
-use Rattle.take_block.specs.Take.{takeAnswer, takeJournal}
-use Rattle.lay_out.specs.LayOut.{layOutAnswer, layOutJournal}
-use Rattle.add_edge.specs.Add.{addAnswer, addAdjacency}
-use Rattle.remove_edge.specs.Remove.{removeAnswer, removeAdjacency}
-use Rattle.complete.specs.Complete.{ranAnswer, ranAfter}
-use Rattle.complete_shuffled.specs.Outcome.{outcome}
+use Rattle.state.specs.State.{State}
+use Rattle.take_block.specs.Take.{takeAfter}
+use Rattle.lay_out.specs.LayOut.{layOutAfter}
+use Rattle.add_edge.specs.Add.{addAfter}
+use Rattle.remove_edge.specs.Remove.{removeAfter}
+use Rattle.complete_shuffled.specs.Outcome.{choiceAfter}
 
--- the calls that demand 3 lists: those that may change the state, with any arguments, and the reading ones between them; a survey, and
--- writing or reading graph6, which are lent no state, may stand there too. Completing is by either finish. A list of bytes is a block, or an output as it is lent, with room or without.
+-- The calls that may change the state, with any arguments. Completing is by either choice of pairs. A list of bytes is a block, or an output as it is
+-- lent, with room or without.
+pub data Change : Type 0 where
+  take : ℕ → List ℕ → Change
+  layOut : Change
+  add : ℕ → ℕ → Change
+  remove : ℕ → ℕ → Change
+  complete : Choice → List ℕ → Change
+
+-- The calls that read: the state, or, as a survey and both of graph6, only what they are given.
+pub data Reading : Type 0 where
+  readBack : ℕ → Reading
+  list : List ℕ → Reading
+  figures : Reading
+  survey : List ℕ → ℕ → List ℕ → Reading
+  writeGraph6 : List ℕ → ℕ → List ℕ → Reading
+  readGraph6 : List ℕ → List ℕ → Reading
+
+-- the calls that demand 3 lists, and the reading ones between them
 pub data Call : Type 0 where
-  take : ℕ → List ℕ → Call
-  layOut : Call
-  add : ℕ → ℕ → Call
-  remove : ℕ → ℕ → Call
-  complete : Choice → List ℕ → Call
-  readBack : ℕ → Call
-  list : List ℕ → Call
-  figures : Call
-  survey : List ℕ → ℕ → List ℕ → Call
-  writeGraph6 : List ℕ → ℕ → List ℕ → Call
-  readGraph6 : List ℕ → List ℕ → Call
+  changes : Change → Call
+  reads : Reading → Call
 
-pub record State : Type 0 where
-  pub journal : List ℕ
-  pub adjacency : List ℕ
+-- the state after a call that may change it
+abbrev pub changed : State → Change → State
+changed s (take number b) = takeAfter s number b
+changed s layOut = layOutAfter s
+changed s (add v w) = addAfter s v w
+changed s (remove v w) = removeAfter s v w
+changed s (complete f out) = choiceAfter f s (length out)
 
--- the empty matrix
-abbrev pub emptyMatrix : List ℕ
-emptyMatrix = replicate adjacencySize 0
-
--- just cleared
-abbrev pub cleared : State
-cleared = record { journal = replicate journalSize 0; adjacency = emptyMatrix }
-
--- the state after one call
+-- the state after any call: one that reads leaves it
 abbrev pub after : State → Call → State
-after s (take number b) =
-    record {
-      journal = takeJournal (takeAnswer (s .journal) (s .adjacency) number b) (s .journal) b;
-      adjacency = s .adjacency;
-    }
-after s layOut =
-    record { journal = layOutJournal (layOutAnswer (s .journal) (s .adjacency)) (s .journal); adjacency = s .adjacency }
-after s (add v w) =
-    record {
-      journal = s .journal;
-      adjacency = addAdjacency (addAnswer (s .journal) (s .adjacency) v w) (s .journal) (s .adjacency) v w;
-    }
-after s (remove v w) =
-    record {
-      journal = s .journal;
-      adjacency = removeAdjacency (removeAnswer (s .journal) (s .adjacency) v w) (s .adjacency) v w;
-    }
-after s (complete f out) =
-    let r = outcome f (s .journal) (s .adjacency) in
-    record {
-      journal = s .journal;
-      adjacency = ranAfter (ranAnswer r (s .journal) (s .adjacency) (length out)) r (s .adjacency);
-    }
-after s (readBack number) = s
-after s (list out) = s
-after s figures = s
-after s (survey e total out) = s
-after s (writeGraph6 e total out) = s
-after s (readGraph6 text out) = s
+after s (changes c) = changed s c
+after s (reads q) = s
 
 -- the state after a list of calls
 abbrev pub afterAll : State → List Call → State

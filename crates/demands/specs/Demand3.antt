@@ -18,21 +18,21 @@ use Rattle.answer.specs.declared.AddAnswer.the-variants.{Added}
 use Rattle.answer.specs.declared.CompleteAnswer.the-variants.{Completed, Refused}
 use Rattle.answer.specs.declared.Choice.{Choice}
 use Rattle.adjacency.specs.Adjacency.{edge}
+use Rattle.state.specs.State.{State, cleared}
 use Rattle.state.specs.Valid.{valid}
 use Rattle.lay_out.specs.LayOut.{layOutAnswer}
-use Rattle.add_edge.specs.Add.{addAnswer}
+use Rattle.add_edge.specs.Add.{addAnswer, addAfter}
 use Rattle.join_records.specs.Record.{joinRecordSize}
-use Rattle.complete.specs.Complete.{ranAnswer}
-use Rattle.complete_shuffled.specs.Outcome.{outcome}
-use Rattle.demands.specs.Calls.{Call, add, complete, State, cleared, after, afterAll}
+use Rattle.complete_shuffled.specs.Outcome.{choiceAnswer, choiceAfter}
+use Rattle.demands.specs.Calls.{Call, afterAll}
 use Rattle.demands.specs.Matrix.{Short, HasTable}
 use Rattle.demands.specs.Tally.{Tally, noTally, missingEdges, tallyAll}
 
 -- laying out is refused for want of a graph: with 9, 10 or 11
 abbrev pub RefusedForWantOfAGraph : State → Type 0
 RefusedForWantOfAGraph s =
-    (9 ≤ layOutNumbers (layOutAnswer (s .journal) (s .adjacency)) .number)
-    × (layOutNumbers (layOutAnswer (s .journal) (s .adjacency)) .number ≤ 11)
+    (9 ≤ layOutNumbers (layOutAnswer s) .number)
+    × (layOutNumbers (layOutAnswer s) .number ≤ 11)
 
 -- the edges of the matrix on the vertices of the table t
 abbrev pub edgesLaid : DegreeTable → State → ℕ
@@ -49,20 +49,20 @@ pub record OpenPair (t : DegreeTable) (s : State) (v w : ℕ) : Type 0 where
 -- joining v and w is not refused; afterwards the state is valid, the pair is linked, and there is exactly one edge more
 pub record CanBeJoined (t : DegreeTable) (s : State) (v w : ℕ) : Type 0 where
   pub switches : Switches
-  pub answer : addAnswer (s .journal) (s .adjacency) v w ≡ Added switches
-  pub sound : valid (after s (add v w) .journal) (after s (add v w) .adjacency) ≡ true
-  pub linked : edge (after s (add v w) .adjacency) v w ≡ 1
-  pub one-more : edgesLaid t (after s (add v w)) ≡ edgesLaid t s + 1
+  pub answer : addAnswer s v w ≡ Added switches
+  pub is-valid : valid (addAfter s v w) ≡ true
+  pub linked : edge (addAfter s v w .adjacency) v w ≡ 1
+  pub one-more : edgesLaid t (addAfter s v w) ≡ edgesLaid t s + 1
 
 -- Completing into the output is not refused; its joins and the tally's edges together are half the sum of all cells of T; the matrix then holds
 -- exactly that many edges more and, as a simple graph, has T in every cell and as many vertices without an edge as the tally's isolated ones.
 pub record Completes (t : Tally) (s : State) (f : Choice) (out : List ℕ) : Type 0 where
   pub joins : ℕ
   pub switches : ℕ
-  pub answer : ranAnswer (outcome f (s .journal) (s .adjacency)) (s .journal) (s .adjacency) (length out) ≡ Completed joins switches (joinRecordSize * joins)
+  pub answer : choiceAnswer f s (length out) ≡ Completed joins switches (joinRecordSize * joins)
   pub missing : 2 * (t .edges + joins) ≡ sumTo mostClasses (rowSum (t .table .cells))
-  pub more : edgesLaid (t .table) (after s (complete f out)) ≡ edgesLaid (t .table) s + joins
-  pub has-table : HasTable (t .table) (after s (complete f out))
+  pub more : edgesLaid (t .table) (choiceAfter f s (length out)) ≡ edgesLaid (t .table) s + joins
+  pub has-table : HasTable (t .table) (choiceAfter f s (length out))
 
 -- the output has room for a record of each missing edge (document 02, P2: "the mission's finishing is one with that much room")
 abbrev pub HasRoom : Tally → List ℕ → Type 0
@@ -70,8 +70,8 @@ HasRoom t out = joinRecordSize * missingEdges t ≤ length out
 
 -- completing into a shorter output is refused with 18, and nothing changes
 pub record RefusedShort (s : State) (f : Choice) (out : List ℕ) : Type 0 where
-  pub answer : ranAnswer (outcome f (s .journal) (s .adjacency)) (s .journal) (s .adjacency) (length out) ≡ Refused (refusal OutputTooShort 0 0)
-  pub unchanged : after s (complete f out) ≡ s
+  pub answer : choiceAnswer f s (length out) ≡ Refused (refusal OutputTooShort 0 0)
+  pub unchanged : choiceAfter f s (length out) ≡ s
 
 -- not laid: refused with 9, 10 or 11 if and only if no simple graph of any size has T (isolated vertices hinder no graph)
 pub record NotLaid (t : Tally) (s : State) : Type 0 where

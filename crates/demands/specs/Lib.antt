@@ -1,4 +1,5 @@
 pub mod Calls
+pub mod Answers
 pub mod Matrix
 pub mod Tally
 pub mod Accepted

@@ -5,9 +5,9 @@ use Prim.Native.Nat.{ℕ, _<_}
 use Rattle.graph.specs.Graph.{Simple, jdm, ownJdm, isolated, DegreeTable}
 use Rattle.graph.specs.Tests.{vertices, vertexClass}
 use Rattle.adjacency.specs.Adjacency.{edge}
-use Rattle.demands.specs.Calls.{State}
+use Rattle.state.specs.State.{State}
 
--- The edges counted as equation (1) does, but at the degrees laid out, stay below t in the cell (k, l).
+-- The edges counted as equation (1) does, but at the classes laid out, stay below t in the cell (k, l).
 abbrev pub Short : DegreeTable → State → ℕ → ℕ → Type 0
 Short t s k l = jdm (vertices t) (vertexClass t) (edge (s .adjacency)) k l < t .cells k l
 

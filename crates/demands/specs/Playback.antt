@@ -13,13 +13,13 @@ use Rattle.answer.specs.declared.switches.Switches.{Switches}
 use Rattle.answer.specs.declared.AddAnswer.the-variants.{Added}
 use Rattle.answer.specs.declared.CompleteAnswer.the-variants.{Completed}
 use Rattle.answer.specs.declared.Choice.{Choice}
-use Rattle.journal.specs.Journal.{phase}
 use Rattle.adjacency.specs.Adjacency.{edge, setEdge}
-use Rattle.state.specs.Valid.{lengthsOk, valid}
+use Rattle.state.specs.State.{State}
+use Rattle.state.specs.Valid.{ValidLaid}
 use Rattle.state.specs.Laid.{vertexCount}
-use Rattle.add_edge.specs.Add.{addAnswer, addAdjacency}
-use Rattle.complete.specs.Complete.{missing, ranAnswer, ranAfter, ranOutput}
-use Rattle.complete_shuffled.specs.Outcome.{outcome}
+use Rattle.add_edge.specs.Add.{addAnswer, addAfter}
+use Rattle.complete.specs.Complete.{missing}
+use Rattle.complete_shuffled.specs.Outcome.{choiceAnswer, choiceAfter, choiceOutput}
 
 -- a matrix in play, and whether everything so far fitted it: an edge that was removed was there, one that was added was not
 pub record Played : Type 0 where
@@ -48,25 +48,24 @@ play records g = foldTo (length records / 8) (playRecord records) (record { adja
 
 -- Completing a valid laid state into an output with room: it makes the missing joins, and its records, played onto the matrix of before, fit and give
 -- the matrix of after. Each names two vertices, the lower one first.
-pub record CompletingPlays (f : Choice) (j g out : List ℕ) : Type 0 where
+pub record CompletingPlays (f : Choice) (s : State) (out : List ℕ) : Type 0 where
   pub joins : ℕ
   pub switches : ℕ
-  pub answer : ranAnswer (outcome f j g) j g (length out) ≡ Completed joins switches (8 * joins)
-  pub made : joins ≡ missing j g
-  pub played : play (take (8 * joins) (ranOutput (ranAnswer (outcome f j g) j g (length out)) (outcome f j g) out)) g
-      ≡ record { adjacency = ranAfter (ranAnswer (outcome f j g) j g (length out)) (outcome f j g) g; fitted = true }
+  pub answer : choiceAnswer f s (length out) ≡ Completed joins switches (8 * joins)
+  pub made : joins ≡ missing s
+  pub played : play (take (8 * joins) (choiceOutput f s out)) (s .adjacency)
+      ≡ record { adjacency = choiceAfter f s (length out) .adjacency; fitted = true }
   pub rising : (i : ℕ) → i < joins →
-      let r = ranOutput (ranAnswer (outcome f j g) j g (length out)) (outcome f j g) out in
-      (getD r (8 * i) 0 < getD r (8 * i + 1) 0) × (getD r (8 * i + 1) 0 < vertexCount j)
+      let r = choiceOutput f s out in
+      (getD r (8 * i) 0 < getD r (8 * i + 1) 0) × (getD r (8 * i + 1) 0 < vertexCount s)
 
 -- an added edge as a record: its ends, and the triples that its answer hands back
 abbrev pub addedRecord : ℕ → ℕ → Switches → List ℕ
-addedRecord v w s =
-    let n = addNumbers (Added s) in
+addedRecord v w x =
+    let n = addNumbers (Added x) in
     v ∷ w ∷ n .a1 ∷ n .b1 ∷ n .t1 ∷ n .a2 ∷ n .b2 ∷ n .t2 ∷ []
 
 pub record Playback : Type 0 where
-  pub completing : (f : Choice) (j g out : List ℕ) → lengthsOk j g ≡ true → valid j g ≡ true → phase j ≡ 1 → 8 * missing j g ≤ length out →
-      CompletingPlays f j g out
-  pub adding : (j g : List ℕ) (v w : ℕ) (s : Switches) → addAnswer j g v w ≡ Added s →
-      play (addedRecord v w s) g ≡ record { adjacency = addAdjacency (addAnswer j g v w) j g v w; fitted = true }
+  pub completing : (f : Choice) (s : State) (out : List ℕ) → ValidLaid s → 8 * missing s ≤ length out → CompletingPlays f s out
+  pub adding : (s : State) (v w : ℕ) (x : Switches) → addAnswer s v w ≡ Added x →
+      play (addedRecord v w x) (s .adjacency) ≡ record { adjacency = addAfter s v w .adjacency; fitted = true }

@@ -13,17 +13,18 @@ use Rattle.table.specs.Block.{wellFormed}
 use Rattle.journal.specs.Journal.{blocks}
 use Rattle.take_block.specs.Take.{takeAnswer}
 use Rattle.held_block.specs.Held.{lengthAnswer, heldPart}
-use Rattle.demands.specs.Calls.{Call, State, cleared, afterAll}
+use Rattle.state.specs.State.{State, cleared}
+use Rattle.demands.specs.Calls.{Call, afterAll}
 use Rattle.demands.specs.Accepted.{AcceptedIn}
 
 -- under this number the state holds block b: it is one of its blocks; reading it back gives b's length and b's bytes; b sent again is held, and any
 -- other block is 7
 pub record Holds (s : State) (number : ℕ) (b : List ℕ) : Type 0 where
   pub low : number < blocks (s .journal)
-  pub sized : lengthAnswer (s .journal) (s .adjacency) number ≡ Length (length b)
-  pub same : heldPart (lengthAnswer (s .journal) (s .adjacency) number) (s .journal) number ≡ b
-  pub resent : takeAnswer (s .journal) (s .adjacency) number b ≡ Held
-  pub differs : (b′ : List ℕ) → wellFormed b′ ≡ true → (b ≡ b′ → ⊥) → takeAnswer (s .journal) (s .adjacency) number b′ ≡ Refused (refusal BlockDiffers 0 0)
+  pub sized : lengthAnswer s number ≡ Length (length b)
+  pub same : heldPart s number ≡ b
+  pub resent : takeAnswer s number b ≡ Held
+  pub differs : (b′ : List ℕ) → wellFormed b′ ≡ true → (b ≡ b′ → ⊥) → takeAnswer s number b′ ≡ Refused (refusal BlockDiffers 0 0)
 
 pub record ReadsBack : Type 0 where
   -- every block answered as taken or held is held from then on, whatever calls came after it ..

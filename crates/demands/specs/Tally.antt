@@ -19,31 +19,24 @@ use Rattle.layout.specs.Layout.{mostVertices, wanted}
 use Rattle.journal.specs.Journal.{mostBlocks}
 use Rattle.add_edge.specs.Add.{addAnswer}
 use Rattle.remove_edge.specs.Remove.{removeAnswer}
-use Rattle.complete.specs.Complete.{ranAnswer}
-use Rattle.complete_shuffled.specs.Outcome.{outcome}
-use Rattle.demands.specs.Calls.{Call, take, layOut, add, remove, complete, readBack, list, figures, survey, writeGraph6, readGraph6, State, after}
+use Rattle.complete_shuffled.specs.Outcome.{choiceAnswer}
+use Rattle.state.specs.State.{State}
+use Rattle.demands.specs.Calls.{Change, take, layOut, add, remove, complete, Call, changes, reads, changed}
 
--- what the tally is told of a call
+-- what the tally is told of a call; of one that reads, nothing
 pub data Told : Type 0 where
   toldTake : ℕ → List ℕ → Told
   toldLayOut : Told
   toldAdd : AddAnswer → Told
   toldRemove : RemoveAnswer → Told
   toldComplete : CompleteAnswer → Told
-  toldNothing : Told
 
-abbrev pub told : State → Call → Told
+abbrev pub told : State → Change → Told
 told s (take number b) = toldTake number b
 told s layOut = toldLayOut
-told s (add v w) = toldAdd (addAnswer (s .journal) (s .adjacency) v w)
-told s (remove v w) = toldRemove (removeAnswer (s .journal) (s .adjacency) v w)
-told s (complete f out) = toldComplete (ranAnswer (outcome f (s .journal) (s .adjacency)) (s .journal) (s .adjacency) (length out))
-told s (readBack number) = toldNothing
-told s (list out) = toldNothing
-told s figures = toldNothing
-told s (survey e total out) = toldNothing
-told s (writeGraph6 e total out) = toldNothing
-told s (readGraph6 text out) = toldNothing
+told s (add v w) = toldAdd (addAnswer s v w)
+told s (remove v w) = toldRemove (removeAnswer s v w)
+told s (complete f out) = toldComplete (choiceAnswer f s (length out))
 
 -- a block count, a table (T and, beside it, the isolated vertices), laid or not, and an edge count
 pub record Tally : Type 0 where
@@ -84,7 +77,6 @@ tally t (toldRemove Remove.Removed) = withEdges t (t .edges - 1)
 tally t (toldRemove (Remove.Refused r)) = t
 tally t (toldComplete (Complete.Completed joins switches n)) = withEdges t (t .edges + joins)
 tally t (toldComplete (Complete.Refused r)) = t
-tally t toldNothing = t
 
 -- the missing edges: half the sum of all cells of T, less the edge count
 abbrev pub missingEdges : Tally → ℕ
@@ -93,4 +85,5 @@ missingEdges t = wanted (t .table .cells) - t .edges
 -- the tally after a list of calls from the state s
 abbrev pub tallyAll : State → Tally → List Call → Tally
 tallyAll s t [] = t
-tallyAll s t (c ∷ cs) = tallyAll (after s c) (tally t (told s c)) cs
+tallyAll s t (changes c ∷ cs) = tallyAll (changed s c) (tally t (told s c)) cs
+tallyAll s t (reads q ∷ cs) = tallyAll s t cs

@@ -18,16 +18,16 @@ use Rattle.answer.specs.declared.AddAnswer.the-variants as Add
 use Rattle.answer.specs.declared.RemoveAnswer.the-variants.{Removed}
 use Rattle.answer.specs.declared.CompleteAnswer.the-variants.{Completed}
 use Rattle.answer.specs.declared.Choice.{Choice}
-use Rattle.journal.specs.Journal.{phase, tableOf}
+use Rattle.journal.specs.Journal.{tableOf}
 use Rattle.adjacency.specs.Adjacency.{side, adjacencySize, edge}
-use Rattle.state.specs.Valid.{lengthsOk, valid}
+use Rattle.state.specs.State.{State, withMatrix, emptyMatrix, cleared}
+use Rattle.state.specs.Valid.{ValidLaid}
 use Rattle.state.specs.Laid.{vertexCount}
 use Rattle.edge_lists.specs.EdgeList.{listOf}
-use Rattle.add_edge.specs.Add.{addAnswer}
-use Rattle.remove_edge.specs.Remove.{removeAnswer}
-use Rattle.complete.specs.Complete.{ranAnswer}
-use Rattle.complete_shuffled.specs.Outcome.{outcome}
-use Rattle.demands.specs.Calls.{Call, add, remove, complete, State, emptyMatrix, cleared, after, afterAll}
+use Rattle.add_edge.specs.Add.{addAnswer, addAfter}
+use Rattle.remove_edge.specs.Remove.{removeAnswer, removeAfter}
+use Rattle.complete_shuffled.specs.Outcome.{choiceAnswer, choiceAfter}
+use Rattle.demands.specs.Calls.{add, remove, Call, changes, afterAll}
 use Rattle.demands.specs.Tally.{noTally, missingEdges, tallyAll}
 
 -- "every simple graph on the laid boards with the table and the boards' degrees": on the N vertices of the table t, each with the degree laid out
@@ -62,10 +62,10 @@ ascending n H = pairsIn (listOf n H)
 
 -- "joining its links", "lifting all links": one call a pair
 abbrev pub adds : List Pair → List Call
-adds = map (λ p. add (p .0) (p .1))
+adds = map (λ p. changes (add (p .0) (p .1)))
 
 abbrev pub removes : List Pair → List Call
-removes = map (λ p. remove (p .0) (p .1))
+removes = map (λ p. changes (remove (p .0) (p .1)))
 
 -- "is never refused, makes no switch": added, and the answer has no triples
 abbrev pub AddedAlone : AddAnswer → Type 0
@@ -75,45 +75,35 @@ AddedAlone (Add.Refused r) = ⊥
 -- so is every pair, one after the other
 abbrev pub AllAdded : State → List Pair → Type 0
 AllAdded s [] = Unit {0}
-AllAdded s (p ∷ ps) = AddedAlone (addAnswer (s .journal) (s .adjacency) (p .0) (p .1)) × AllAdded (after s (add (p .0) (p .1))) ps
+AllAdded s (p ∷ ps) = AddedAlone (addAnswer s (p .0) (p .1)) × AllAdded (addAfter s (p .0) (p .1)) ps
 
 -- no pair is refused when it is removed, one after the other
 abbrev pub AllRemoved : State → List Pair → Type 0
 AllRemoved s [] = Unit {0}
-AllRemoved s (p ∷ ps) = (removeAnswer (s .journal) (s .adjacency) (p .0) (p .1) ≡ Removed) × AllRemoved (after s (remove (p .0) (p .1))) ps
+AllRemoved s (p ∷ ps) = (removeAnswer s (p .0) (p .1) ≡ Removed) × AllRemoved (removeAfter s (p .0) (p .1)) ps
 
 -- the matrix that is H, byte for byte: byte v × 200 + w is H's for two of the n vertices, and 0 elsewhere
-abbrev pub matrixOf : ℕ → Graph → List ℕ
-matrixOf n H =
+abbrev pub bytesOf : ℕ → Graph → List ℕ
+bytesOf n H =
     let byte : ℕ → ℕ → ℕ = λ v w. cond (ltb v n && ltb w n) (H v w) 0 in
     catTo adjacencySize (λ i. byte (i / side) (i % side) ∷ [])
 
--- a journal with another matrix
-abbrev pub withMatrix : State → List ℕ → State
-withMatrix s g = record { journal = s .journal; adjacency = g }
-
--- a "laid bench": valid, in phase 1
-pub record ValidLaid (s : State) : Type 0 where
-  pub lengths : lengthsOk (s .journal) (s .adjacency) ≡ true
-  pub sound : valid (s .journal) (s .adjacency) ≡ true
-  pub phased : phase (s .journal) ≡ 1
-
 -- completing makes no join and changes nothing
 pub record NothingToComplete (s : State) : Type 0 where
-  pub no-joins : (f : Choice) (out : List ℕ) → ranAnswer (outcome f (s .journal) (s .adjacency)) (s .journal) (s .adjacency) (length out) ≡ Completed 0 0 0
-  pub unchanged : (f : Choice) (out : List ℕ) → after s (complete f out) ≡ s
+  pub no-joins : (f : Choice) (out : List ℕ) → choiceAnswer f s (length out) ≡ Completed 0 0 0
+  pub unchanged : (f : Choice) (out : List ℕ) → choiceAfter f s (length out) ≡ s
 
 -- adding the pairs is never refused, makes no switch and ends in H
 pub record Drawn (s : State) (H : Graph) (ps : List Pair) : Type 0 where
   pub added : AllAdded s ps
-  pub exactly : afterAll s (adds ps) ≡ withMatrix s (matrixOf (vertexCount (s .journal)) H)
+  pub exactly : afterAll s (adds ps) ≡ withMatrix s (bytesOf (vertexCount s) H)
   pub complete : NothingToComplete (afterAll s (adds ps))
 
 -- removing the pairs first, which is never refused either
 pub record Redrawn (s : State) (H : Graph) (qs ps : List Pair) : Type 0 where
   pub removed : AllRemoved s qs
   pub drawn : Drawn (afterAll s (removes qs)) H ps
-  pub exactly : afterAll s (removes qs ++ adds ps) ≡ withMatrix s (matrixOf (vertexCount (s .journal)) H)
+  pub exactly : afterAll s (removes qs ++ adds ps) ≡ withMatrix s (bytesOf (vertexCount s) H)
 
 -- removing the pairs is never refused and ends in the empty matrix of the same journal
 pub record Emptied (s : State) (qs : List Pair) : Type 0 where
@@ -127,25 +117,25 @@ lacking H E v w = E v w - H v w
 pub record EveryReplicaWithinReach : Type 0 where
   -- There always is such a graph: what completing ends in is one.
   pub some : (s : State) (f : Choice) (out : List ℕ) (joins switches m : ℕ) →
-      ranAnswer (outcome f (s .journal) (s .adjacency)) (s .journal) (s .adjacency) (length out) ≡ Completed joins switches m →
-      Replica (tableOf (s .journal)) (edge (after s (complete f out) .adjacency))
+      choiceAnswer f s (length out) ≡ Completed joins switches m →
+      Replica (tableOf (s .journal)) (edge (choiceAfter f s (length out) .adjacency))
   -- An order is as long as the graph has edges.
   pub order-length : (n : ℕ) (H : Graph) → Simple n H → (ps : List Pair) → Order n H ps → length ps ≡ edges n H
   -- 1. from the empty matrix ("an empty grid"), in any order
   pub from-empty : (s : State) → ValidLaid s → s .adjacency ≡ emptyMatrix →
-      (H : Graph) → Replica (tableOf (s .journal)) H → (ps : List Pair) → Order (vertexCount (s .journal)) H ps → Drawn s H ps
+      (H : Graph) → Replica (tableOf (s .journal)) H → (ps : List Pair) → Order (vertexCount s) H ps → Drawn s H ps
   -- 2. to the empty matrix, in any order; so H is reached from every valid laid state ..
-  pub to-empty : (s : State) → ValidLaid s → (qs : List Pair) → Order (vertexCount (s .journal)) (edge (s .adjacency)) qs → Emptied s qs
+  pub to-empty : (s : State) → ValidLaid s → (qs : List Pair) → Order (vertexCount s) (edge (s .adjacency)) qs → Emptied s qs
   pub from-anywhere : (s : State) → ValidLaid s → (H : Graph) → Replica (tableOf (s .journal)) H → (qs ps : List Pair) →
-      Order (vertexCount (s .journal)) (edge (s .adjacency)) qs → Order (vertexCount (s .journal)) H ps → Redrawn s H qs ps
+      Order (vertexCount s) (edge (s .adjacency)) qs → Order (vertexCount s) H ps → Redrawn s H qs ps
   -- .. by these calls: remove the edges as they are listed, then add those of H as they would be
   pub reached : (s : State) → ValidLaid s → (H : Graph) → Replica (tableOf (s .journal)) H →
-      let n = vertexCount (s .journal) in
+      let n = vertexCount s in
       Order n (edge (s .adjacency)) (ascending n (edge (s .adjacency))) × Order n H (ascending n H)
       × Redrawn s H (ascending n (edge (s .adjacency))) (ascending n H)
   -- It is enough to remove what H lacks and to add what the matrix lacks.
   pub differences : (s : State) → ValidLaid s → (H : Graph) → Replica (tableOf (s .journal)) H → (qs ps : List Pair) →
-      Order (vertexCount (s .journal)) (lacking H (edge (s .adjacency))) qs → Order (vertexCount (s .journal)) (lacking (edge (s .adjacency)) H) ps →
+      Order (vertexCount s) (lacking H (edge (s .adjacency))) qs → Order (vertexCount s) (lacking (edge (s .adjacency)) H) ps →
       Redrawn s H qs ps
   -- 3. After every list of calls from a cleared state that is laid out: the tally agrees that nothing is missing then.
   pub tallied : (calls : List Call) →

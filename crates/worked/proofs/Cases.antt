@@ -79,21 +79,21 @@ listRest j g m = unlessStopped (phaseRest 1 j) Write.Refused (listLaid j g m)
 abbrev answerRest : State → Call → List ℕ
 answerRest s (take number b) = six (takeNumbers (takeOnValid (s .journal) number b))
 answerRest s layOut = six (layOutNumbers (layOutRest (s .journal)))
-answerRest s (add v w) = nine (addNumbers (addRest (s .journal) (s .adjacency) v w))
-answerRest s (remove v w) = six (removeNumbers (removeRest (s .journal) (s .adjacency) v w))
+answerRest s (add v w) = nine (addNumbers (addRest s v w))
+answerRest s (remove v w) = six (removeNumbers (removeRest s v w))
 answerRest s (complete Lowest out) =
-    let r = completed (s .journal) (s .adjacency) in
-    let a = finishRest r (s .journal) (s .adjacency) (length out) in
+    let r = completed s in
+    let a = finishRest r s (length out) in
     six (completeNumbers a) ++ ranOutput a r out
 answerRest s (complete (Picked x) out) =
-    let r = shuffled (s .journal) (s .adjacency) x in
-    let a = finishRest (r .ran) (s .journal) (s .adjacency) (length out) in
+    let r = shuffled s x in
+    let a = finishRest (r .ran) s (length out) in
     six (shuffleNumbers (withX (r .x) a)) ++ ranOutput a (r .ran) out
 answerRest s (readBack number) = let a = lengthRest (s .journal) number in six (lengthNumbers a) ++ heldPart a (s .journal) number
 answerRest s (list out) =
-    let a = listRest (s .journal) (s .adjacency) (length out) in
-    six (writtenNumbers a) ++ listOutput a (s .journal) (s .adjacency) out
-answerRest s figures = six (figuresNumbers (Figs.Reported (figuresOf (eqb (phase (s .journal)) 0) (s .journal) (s .adjacency))))
+    let a = listRest s (length out) in
+    six (writtenNumbers a) ++ listOutput a s out
+answerRest s figures = six (figuresNumbers (Figs.Reported (figuresOf (eqb (phase (s .journal)) 0) s)))
 answerRest s (survey e total out) = let a = surveyAnswer e total (length out) in six (writtenNumbers a) ++ surveyOutput a e total out
 answerRest s (writeGraph6 e total out) = let a = writeAnswer e total (length out) in six (writtenNumbers a) ++ writeOutput a e total out
 answerRest s (readGraph6 text out) = let a = readAnswer text (length out) in six (readNumbers a) ++ readOutput a text out
@@ -102,12 +102,12 @@ abbrev afterRest : State → Call → State
 afterRest s (take number b) = record { journal = takeJournal (takeOnValid (s .journal) number b) (s .journal) b; adjacency = s .adjacency }
 afterRest s layOut = record { journal = layOutJournal (layOutRest (s .journal)) (s .journal); adjacency = s .adjacency }
 afterRest s (add v w) =
-    record { journal = s .journal; adjacency = addAdjacency (addRest (s .journal) (s .adjacency) v w) (s .journal) (s .adjacency) v w }
+    record { journal = s .journal; adjacency = addAdjacency (addRest s v w) s v w }
 afterRest s (remove v w) =
-    record { journal = s .journal; adjacency = removeAdjacency (removeRest (s .journal) (s .adjacency) v w) (s .adjacency) v w }
+    record { journal = s .journal; adjacency = removeAdjacency (removeRest s v w) (s .adjacency) v w }
 afterRest s (complete f out) =
-    let r = outcome f (s .journal) (s .adjacency) in
-    record { journal = s .journal; adjacency = ranAfter (finishRest r (s .journal) (s .adjacency) (length out)) r (s .adjacency) }
+    let r = outcome f s in
+    record { journal = s .journal; adjacency = ranAfter (finishRest r s (length out)) r (s .adjacency) }
 afterRest s (readBack number) = s
 afterRest s (list out) = s
 afterRest s figures = s
@@ -117,8 +117,8 @@ afterRest s (readGraph6 text out) = s
 
 -- on a reached state both checks pass
 module _ (s : State) (t : Tally) (r : Reach s t) where
-  checked : stateVerdict (s .journal) (s .adjacency) ≡ Go
-  checked = state-go (s .journal) (s .adjacency) (r .lengths) (r .sound)
+  checked : stateVerdict s ≡ Go
+  checked = state-go s (r .lengths) (r .is-valid)
 
   answer-rest : (c : Call) → answerOf s c ≡ answerRest s c
   answer-rest (take number b) = rw checked
@@ -156,8 +156,8 @@ edges-rest s t r = go (eqb (phase (s .journal)) 0) refl
   where
     go : (b : Bool) → eqb (phase (s .journal)) 0 ≡ b → edgesOf s ≡ cond b [] (edgesOf s)
     go true e =
-        zeros-none (vertexCount (s .journal)) (s .adjacency)
-        (valid-facts (s .journal) (s .adjacency) (r .lengths) (r .sound) .empty (eqb-true (phase (s .journal)) 0 e))
+        zeros-none (vertexCount s) (s .adjacency)
+        (valid-facts s (r .lengths) (r .is-valid) .empty (eqb-true (phase (s .journal)) 0 e))
     go false e = refl
 
 abbrev holdsRest : State → List Step → List ℕ → Bool

@@ -34,22 +34,22 @@ nine n = n .number ∷ n .first ∷ n .second ∷ n .a1 ∷ n .b1 ∷ n .t1 ∷ 
 
 -- what a call hands back: its answer in document 01's numbers, then the bytes of its output, or of the part that it reads back
 abbrev pub answerOf : State → Call → List ℕ
-answerOf s (take number b) = six (takeNumbers (takeAnswer (s .journal) (s .adjacency) number b))
-answerOf s layOut = six (layOutNumbers (layOutAnswer (s .journal) (s .adjacency)))
-answerOf s (add v w) = nine (addNumbers (addAnswer (s .journal) (s .adjacency) v w))
-answerOf s (remove v w) = six (removeNumbers (removeAnswer (s .journal) (s .adjacency) v w))
+answerOf s (take number b) = six (takeNumbers (takeAnswer s number b))
+answerOf s layOut = six (layOutNumbers (layOutAnswer s))
+answerOf s (add v w) = nine (addNumbers (addAnswer s v w))
+answerOf s (remove v w) = six (removeNumbers (removeAnswer s v w))
 answerOf s (complete Lowest out) =
-    let a = completeAnswer (s .journal) (s .adjacency) (length out) in
-    six (completeNumbers a) ++ completeOutput a (s .journal) (s .adjacency) out
+    let a = completeAnswer s (length out) in
+    six (completeNumbers a) ++ completeOutput a s out
 answerOf s (complete (Picked x) out) =
-    six (shuffleNumbers (shuffleAnswer (s .journal) (s .adjacency) x (length out))) ++ shuffleOutput (s .journal) (s .adjacency) x out
+    six (shuffleNumbers (shuffleAnswer s x (length out))) ++ shuffleOutput s x out
 answerOf s (readBack number) =
-    let a = lengthAnswer (s .journal) (s .adjacency) number in
+    let a = lengthAnswer s number in
     six (lengthNumbers a) ++ heldPart a (s .journal) number
 answerOf s (list out) =
-    let a = listAnswer (s .journal) (s .adjacency) (length out) in
-    six (writtenNumbers a) ++ listOutput a (s .journal) (s .adjacency) out
-answerOf s figures = six (figuresNumbers (figuresAnswer (s .journal) (s .adjacency)))
+    let a = listAnswer s (length out) in
+    six (writtenNumbers a) ++ listOutput a s out
+answerOf s figures = six (figuresNumbers (figuresAnswer s))
 answerOf s (survey e total out) = let a = surveyAnswer e total (length out) in six (writtenNumbers a) ++ surveyOutput a e total out
 answerOf s (writeGraph6 e total out) = let a = writeAnswer e total (length out) in six (writtenNumbers a) ++ writeOutput a e total out
 answerOf s (readGraph6 text out) = let a = readAnswer text (length out) in six (readNumbers a) ++ readOutput a text out
@@ -75,7 +75,7 @@ sameList (m ∷ ms) [] = false
 sameList (m ∷ ms) (n ∷ ns) = eqb m n && sameList ms ns
 
 abbrev pub edgesOf : State → List ℕ
-edgesOf s = listBytes (vertexCount (s .journal)) (s .adjacency)
+edgesOf s = listBytes (vertexCount s) (s .adjacency)
 
 -- from the state s every call gets its answer, and these are the edges in the end
 abbrev pub holdsFrom : State → List Step → List ℕ → Bool
