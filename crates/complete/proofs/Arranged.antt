@@ -10,7 +10,7 @@ use lib.Dec.{eqb}
 use lib.ListN.{length, getD}
 use Rattle.finite.specs.Range.{foldTo, δ}
 use Rattle.graph.specs.Graph.{size}
-use Rattle.graph.specs.Tests.{leastClass, mostDegree, mostClasses}
+use Rattle.graph.specs.Tests.{leastClass, mostClasses, classDegree}
 use Rattle.table.specs.Inner.Cells.{matrixOf}
 use Rattle.finite.proofs.Delta.{δ-other}
 use Rattle.finite.proofs.Fold.{foldTo-keeps, foldTo-none}
@@ -104,7 +104,7 @@ module _ {n : ℕ} {cells starts held : List ℕ} {room : ℕ} {s : Ran} (p : Wo
         → Sound n (classFrom starts) (matrixOf cells) room x
     cells-sound k h e = rw e (row-sound n (classFrom starts) (matrixOf cells) room s (p .sound) k i h)
 
-    pub all-sound : i ≤ mostDegree → x ≡ foldTo i (λ i. fillRow n (classFrom starts) (matrixOf cells) (leastClass + i)) s
+    pub all-sound : i ≤ mostClasses - leastClass → x ≡ foldTo i (λ i. fillRow n (classFrom starts) (matrixOf cells) (leastClass + i)) s
         → Sound n (classFrom starts) (matrixOf cells) room x
     all-sound h e = rw e (rows-sound n (classFrom starts) (matrixOf cells) room s (p .sound) i h)
 
@@ -120,7 +120,7 @@ module _ {n : ℕ} {cells starts held : List ℕ} {room : ℕ} {s : Ran} (p : Wo
         omega (
           arith,
           sumTo-term mostClasses (matrixOf cells k) l lC,
-          p .sound .filling .target .rows k kC ∙ ap (λ (m : ℕ). k * m) no-vertices ∙ mul-zero k,
+          p .sound .filling .target .rows k kC ∙ ap (λ (m : ℕ). classDegree k * m) no-vertices ∙ mul-zero (classDegree k),
         )
 
     pub row-empty : s ≡ fillRow n (classFrom starts) (matrixOf cells) k s

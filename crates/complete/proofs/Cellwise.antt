@@ -14,7 +14,7 @@ use Rattle.finite.specs.Range.{foldTo}
 use Rattle.finite.proofs.Lowest.{lowest-only}
 use Rattle.finite.proofs.Fold.{iterate-next}
 use Rattle.graph.specs.Graph.{jdm, edges}
-use Rattle.graph.specs.Tests.{leastClass, mostDegree, mostClasses}
+use Rattle.graph.specs.Tests.{leastClass, mostClasses}
 use Rattle.graph.proofs.Edge.{atEdge-cell}
 use Rattle.graph.proofs.Necessary.{necessary-always}
 use Rattle.graph.specs.Theorems.{allCells}
@@ -251,7 +251,7 @@ module _ (n : ℕ) (cls : ℕ → ℕ) (T : ℕ → ℕ → ℕ) where
         go i j i1 ij jC e ik (yes p) = absurd (omega (arith, e p))
         go i j i1 ij jC e ik (no p) = r .before i j i1 ij jC (λ x. omega arith) (omega arith)
 
-    pub rows-part : (s : Ran) → Filled s leastClass leastClass → (i : ℕ) → i ≤ mostDegree
+    pub rows-part : (s : Ran) → Filled s leastClass leastClass → (i : ℕ) → i ≤ mostClasses - leastClass
         → Filled (foldTo i (λ i. fillRow n cls T (leastClass + i)) s) (leastClass + i) (leastClass + i)
     unfolding foldTo
     rows-part s f zero h = f
@@ -270,8 +270,8 @@ module _ (n : ℕ) (cls : ℕ → ℕ) (T : ℕ → ℕ → ℕ) where
         s : Ran
         s = fillAll n cls T s₀
 
-        r : Filled s (leastClass + mostDegree) (leastClass + mostDegree)
-        r = rows-part s₀ (first-cell f) mostDegree (omega arith)
+        r : Filled s mostClasses mostClasses
+        r = rows-part s₀ (first-cell f) (mostClasses - leastClass) (omega arith)
 
         full : (i j : ℕ) → leastClass ≤ i → i < mostClasses → i ≤ j → j < mostClasses → T i j ≤ jdm n cls (edge (s .adjacency)) i j
         full i j i1 iC ij jC = r .before i j i1 ij jC (λ e. absurd (omega arith)) (omega arith)

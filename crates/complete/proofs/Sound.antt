@@ -11,7 +11,7 @@ use Rattle.answer.specs.declared.switches.Switches.{Switches}
 use Rattle.answer.specs.declared.switches.Switches.the-variants.{None, One, Two}
 use Rattle.graph.specs.Graph.{jdm}
 use Rattle.graph.specs.Target.{Open}
-use Rattle.graph.specs.Tests.{leastClass, mostDegree, mostClasses}
+use Rattle.graph.specs.Tests.{leastClass, mostClasses}
 use Rattle.adjacency.specs.Adjacency.{edge}
 use Rattle.join_records.specs.Record.{joinRecordSize}
 use Rattle.joining.specs.Join.{joinSwitches}
@@ -71,7 +71,8 @@ module _ (n : ℕ) (cls : ℕ → ℕ) (T : ℕ → ℕ → ℕ) (room : ℕ) wh
       foldTo-keeps (λ i x. Sound n cls T room x) (λ i. fillCell n cls T k (k + i)) s i p
       (λ j x ji q. part-sound x q k (k + j) (omega arith) (omega arith) (cellMissing n cls T (x .adjacency) k (k + j)) (omega arith))
 
-  pub rows-sound : (s : Ran) → Sound n cls T room s → (i : ℕ) → i ≤ mostDegree → Sound n cls T room (foldTo i (λ i. fillRow n cls T (leastClass + i)) s)
+  pub rows-sound : (s : Ran) → Sound n cls T room s → (i : ℕ) → i ≤ mostClasses - leastClass
+      → Sound n cls T room (foldTo i (λ i. fillRow n cls T (leastClass + i)) s)
   rows-sound s p i h =
       foldTo-keeps (λ i x. Sound n cls T room x) (λ i. fillRow n cls T (leastClass + i)) s i p
       (λ j x ji q. row-sound x q (leastClass + j) (mostClasses - (leastClass + j)) (omega arith))

@@ -10,7 +10,7 @@ use Rattle.answer.specs.declared.CompleteAnswer.the-variants.{Completed}
 use Rattle.graph.specs.Graph.{Simple, DegreeTable, edges}
 use Rattle.graph.specs.Theorems.{allCells}
 use Rattle.graph.specs.Numbering.{total}
-use Rattle.graph.specs.Tests.{mostClasses, vertices, vertexClass}
+use Rattle.graph.specs.Tests.{mostDegree, mostClasses, vertices, vertexClass}
 use Rattle.table.specs.Inner.Cells.{matrixOf}
 use Rattle.layout.specs.Layout.{mostVertices, wanted}
 use Rattle.layout.specs.Inner.Arrays.{countIn, tableIn, Counts}
@@ -70,7 +70,7 @@ module _ (j g cells counts : List ℕ) (passed : phaseVerdict 1 j g ≡ Go) (ed 
 
   -- the array of degrees: its numbers are few, and it tells how many edges there are
   module _ {n : ℕ} {held : List ℕ} (en : n ≡ vertices t) (eh : held ≡ degreesOf n g) where
-    pub degrees-few : (v : ℕ) → v < n → getD held v 0 ≤ mostClasses
+    pub degrees-few : (v : ℕ) → v < n → getD held v 0 ≤ mostDegree
     degrees-few v l =
         let vn : v < vertices t = omega (arith, en) in
         let is = held-is n (rw en vertices-few) g eh v l in

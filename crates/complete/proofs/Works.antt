@@ -54,10 +54,10 @@ module _ (n : ℕ) (cls : ℕ → ℕ) (T : ℕ → ℕ → ℕ) where
         sizes (target .classed),
       )
     where
-      le : (k : ℕ) → k < mostClasses → k ≤ mostDegree
+      le : (k : ℕ) → k < mostClasses → classDegree k ≤ mostDegree
       le k p = omega arith
 
-  -- a cell of degree 0 holds nothing
+  -- a cell of class 0 holds nothing
   none-of-0 : Target n mostClasses cls classDegree T → (l : ℕ) → l < mostClasses → T 0 l ≡ 0
   none-of-0 target l lC =
       omega (arith, sumTo-term mostClasses (T 0) l lC, target .rows 0 (omega arith), zero-mul (size n cls 0))

@@ -14,7 +14,7 @@ pub struct Span {
     pub to: usize,
 }
 
-// Cell (k, l): the vertices of degree k, and those of degree l.
+// Cell (k, l): the vertices of class k, and those of class l.
 pub struct Cell {
     pub k: usize,
     pub l: usize,

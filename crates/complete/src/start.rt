@@ -13,7 +13,7 @@ use state::sum_table;
 use table::cells::CELLS;
 use table::class::MAX_CLASSES;
 
-// How many vertices each degree has, and how many there are; the degrees that they have so far; and the edges that are missing.
+// How many vertices each class has, and how many there are; the degrees that they have so far; and the edges that are missing.
 pub struct Start {
     pub counts: [usize; MAX_CLASSES],
     pub n: usize,

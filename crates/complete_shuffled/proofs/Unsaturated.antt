@@ -9,7 +9,7 @@ use lib.Dec.{ltb}
 use lib.ListN.{length, getD, set, length-set}
 use lib.Seq.{getD-set-same, getD-set-other}
 use Rattle.finite.proofs.Lowest.{lowest-le, lowest-ge}
-use Rattle.graph.specs.Tests.{mostClasses}
+use Rattle.graph.specs.Tests.{mostClasses, classDegree}
 use Rattle.adjacency.specs.Adjacency.{side}
 use Rattle.classes.specs.Inner.Block.{classFrom}
 use Rattle.classes.proofs.Blocks.{starts-length, start-most}
@@ -39,10 +39,10 @@ module _ {n : ℕ} {starts g low : List ℕ} (arranged : Arranged n starts) (u :
   -- the search in class k, by the degrees in `held`
   module _ {held : List ℕ} (eh : held ≡ degreesOf n g) (k : ℕ) (kd : k < mostClasses) where
     not-before : getD low k 0 ≤ lowFrom held starts low k
-    not-before = lowest-ge (getD low k 0) (getD starts (k + 1) 0) (λ i. ltb (getD held i 0) k) (u .to k kd)
+    not-before = lowest-ge (getD low k 0) (getD starts (k + 1) 0) (λ i. ltb (getD held i 0) (classDegree k)) (u .to k kd)
 
     not-behind : lowFrom held starts low k ≤ getD starts (k + 1) 0
-    not-behind = lowest-le (getD low k 0) (getD starts (k + 1) 0) (λ i. ltb (getD held i 0) k) (u .to k kd)
+    not-behind = lowest-le (getD low k 0) (getD starts (k + 1) 0) (λ i. ltb (getD held i 0) (classDegree k)) (u .to k kd)
 
     passed : Saturated n (classFrom starts) g k (lowFrom held starts low k)
     passed =

@@ -1,6 +1,6 @@
 -- Which pair completing by shuffled choice joins next (document 02, P7). The open pairs are those v < w that are not linked and have their cell
 -- short, over all cells together, ascending by v and then w.
--- n vertices of degrees cls, the table T, the matrix g. Assumes nothing.
+-- n vertices of classes cls, the table T, the matrix g. Assumes nothing.
 use mathlib.Core.Bool.{Bool, _&&_}
 use mathlib.Core.List.{List}
 use Prim.Native.Nat.{ℕ, _+_, _*_, _/_, _%_}

@@ -14,7 +14,7 @@ use Rattle.finite.proofs.Delta.{δ-self, δ-other}
 use Rattle.finite.proofs.Sum.{sumTo-cong}
 use Rattle.finite.proofs.Fold.{fillTo-at, fillTo-behind, fillTo-length}
 use Rattle.graph.specs.Graph.{Simple, AddsEdge, degree, edges}
-use Rattle.graph.specs.Tests.{mostClasses}
+use Rattle.graph.specs.Tests.{mostDegree}
 use Rattle.graph.proofs.Update.{handshake, degree-adds}
 use Rattle.layout.specs.Layout.{mostVertices}
 use Rattle.adjacency.specs.Adjacency.{edge}
@@ -89,8 +89,8 @@ module _ {n : ℕ} (few : n ≤ mostVertices) (g : List ℕ) {held : List ℕ} (
   kept-at some = rw (is some) (omega (arith, held-length n few g), held-at n few g x xn)
 
   -- they have few edges
-  pub few-edges : degree n (edge g) x < mostClasses → degree n (edge g) y < mostClasses
-      → 0 < length held → (length held ≡ mostVertices) × (getD held x 0 < mostClasses) × (getD held y 0 < mostClasses)
+  pub few-edges : degree n (edge g) x ≤ mostDegree → degree n (edge g) y ≤ mostDegree
+      → 0 < length held → (length held ≡ mostVertices) × (getD held x 0 ≤ mostDegree) × (getD held y 0 ≤ mostDegree)
   few-edges fx fy some =
       rw (is some) (held-length n few g, omega (arith, held-at n few g x xn), omega (arith, held-at n few g y yn))
 

@@ -3,13 +3,13 @@
 use mathlib.Core.Path.{_≡_, refl, sym, _∙_}
 use mathlib.Core.Bool.{Bool, true, false, cond}
 use mathlib.Core.List.{List}
-use Prim.Native.Nat.{ℕ, _+_, _<_}
+use Prim.Native.Nat.{ℕ, _+_, _≤_, _<_}
 use native.Mathlib.Omega.{arith}
 use borrow.Author.Tests.{ltb-false, le-ltb}
 use Rattle.finite.proofs.Delta.{δ-other}
 use Rattle.graph.specs.Graph.{degree, AddsEdge}
 use Rattle.graph.specs.Switch.{unsaturated}
-use Rattle.graph.specs.Tests.{mostClasses, classDegree}
+use Rattle.graph.specs.Tests.{mostDegree, mostClasses, classDegree}
 use Rattle.graph.specs.Theorems.{Choices}
 use Rattle.graph.proofs.Switch.{switch-works}
 use Rattle.graph.proofs.Join.{Ready}
@@ -105,7 +105,7 @@ module _ {n : ℕ} {cls : ℕ → ℕ} {g : List ℕ} {a o : ℕ} (j : Joinable 
   unlinked = without-edge (j .few) g is (j .pair .first) (chosen j full .t-vertex) (setEdge g a (t j) 0) (λ e. chosen j full .t-not-a (sym e)) removes
 
   -- without a – t every vertex has as many edges as before at most
-  fewer : (v : ℕ) → v < n → degree n (edge (setEdge g a (t j) 0)) v < mostClasses
+  fewer : (v : ℕ) → v < n → degree n (edge (setEdge g a (t j) 0)) v ≤ mostDegree
   fewer v l =
       omega (
         arith,
@@ -132,7 +132,7 @@ module _ {n : ℕ} {cls : ℕ → ℕ} {g : List ℕ} {a o : ℕ} (j : Joinable 
 
 -- what adding the edge a – o asks for, and what it leaves
 module _ {n : ℕ} {cls : ℕ → ℕ} {g held : List ℕ} {a o : ℕ} (j : Joinable n cls g a o) (is : DegreesKept n held g) where
-  pub linkable : degree n (edge g) a < cls a → degree n (edge g) o < cls o → Linkable g held a o
+  pub linkable : degree n (edge g) a < classDegree (cls a) → degree n (edge g) o < classDegree (cls o) → Linkable g held a o
   linkable room-a room-o = (
     j .sized,
     omega (arith, j .few, j .pair .first),
@@ -181,10 +181,10 @@ placed-next {n} {starts} {g} v w j p =
       after = p .after;
       before = p .before;
       saturated = λ i l e d.
-          le-ltb (degree n (edge g′) i) (cls i)
+          le-ltb (degree n (edge g′) i) (classDegree (cls i))
           (omega (
             arith,
-            ltb-false (degree n (edge g) i) (cls i) (p .saturated i l e d),
+            ltb-false (degree n (edge g) i) (classDegree (cls i)) (p .saturated i l e d),
             relief-degree n mostClasses cls classDegree (j .table) (j .target) (edge g) (v .at) (w .at) (j .partial) (j .pair) (edge g′)
                 (relieve-bytes n cls (j .table) g (v .at) (w .at) (j .sized) (j .few) (j .target) (j .partial) (j .pair)) i
                 (omega (arith, p .before, start-most (p .numbered) (w .class + 1) (omega (arith, p .class, j .target .classed (w .at) (j .pair .second))))),
@@ -203,8 +203,8 @@ module _ {n : ℕ} {cls : ℕ → ℕ} {g : List ℕ} {v w : ℕ} (j : Joinable 
   pub joinable-last : Joinable n cls (relieveBytes n cls (relieveBytes n cls g v w) w v) v w
   joinable-last = joinable-next (joinable-next j)
 
-  pub room-v : degree n (edge (relieveBytes n cls (relieveBytes n cls g v w) w v)) v < cls v
+  pub room-v : degree n (edge (relieveBytes n cls (relieveBytes n cls g v w) w v)) v < classDegree (cls v)
   room-v = ready (joinable-next j) .o-able (ready j .room)
 
-  pub room-w : degree n (edge (relieveBytes n cls (relieveBytes n cls g v w) w v)) w < cls w
+  pub room-w : degree n (edge (relieveBytes n cls (relieveBytes n cls g v w) w v)) w < classDegree (cls w)
   room-w = ready (joinable-next j) .room

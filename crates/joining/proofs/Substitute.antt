@@ -84,24 +84,25 @@ module _ {n : ℕ} {starts g : List ℕ} {a : End} {o : ℕ} (j : Joinable n (cl
 
   -- `held`: the edges of each vertex, as the code has them
   module _ (held : ℕ → ℕ) (counts : (i : ℕ) → i < n → held i ≡ degree n (edge g) i) where
-    inside : (i : ℕ) → a .low ≤ i → i < to → canStandIn held (a .class) o i ≡ canSubstitute n cls classDegree (edge g) (a .at) o i
+    inside : (i : ℕ) → a .low ≤ i → i < to → canStandIn held (classDegree (a .class)) o i ≡ canSubstitute n cls classDegree (edge g) (a .at) o i
     inside i f t =
         let e = class-inside (p .numbered) (a .class) i class-below (omega (arith, p .after)) t in
         rw (eq-eqb (cls i) (cls (a .at)) (e ∙ p .class), e, counts i (omega (arith, end-within)))
 
-    pub substitute-in : orElse to o (lowest (a .low) to (canStandIn held (a .class) o)) ≡ substituteAt n cls g (a .at) o
+    pub substitute-in : orElse to o (lowest (a .low) to (canStandIn held (classDegree (a .class)) o)) ≡ substituteAt n cls g (a .at) o
     substitute-in =
-        ap (orElse to o) (lowest-cong (a .low) to (canStandIn held (a .class) o) (canSubstitute n cls classDegree (edge g) (a .at) o) inside)
+        ap (orElse to o) (lowest-cong (a .low) to (canStandIn held (classDegree (a .class)) o) (canSubstitute n cls classDegree (edge g) (a .at) o) inside)
         ∙ else-cut (a .low) to n o (canSubstitute n cls classDegree (edge g) (a .at) o) (p .before) end-within behind
         ∙ ap (orElse n o)
-        (sym (lowest-skip 0 (a .low) n (canSubstitute n cls classDegree (edge g) (a .at) o) zero-le (omega (arith, p .before, end-within)) (λ i z l. before i l)))
+        (sym (lowest-skip 0 (a .low) n (canSubstitute n cls classDegree (edge g) (a .at) o) zero-le (omega (arith, p .before, end-within))
+        (λ i z l. before i l)))
 
     -- whether a is saturated
-    saturated-in : ltb (held (a .at)) (a .class) ≡ unsaturated n cls classDegree (edge g) (a .at)
+    saturated-in : ltb (held (a .at)) (classDegree (a .class)) ≡ unsaturated n cls classDegree (edge g) (a .at)
     saturated-in = rw (counts (a .at) (j .pair .first), p .class)
 
-    pub room-in : held (a .at) < a .class → unsaturated n cls classDegree (edge g) (a .at) ≡ true
-    room-in l = sym saturated-in ∙ lt-ltb (held (a .at)) (a .class) l
+    pub room-in : held (a .at) < classDegree (a .class) → unsaturated n cls classDegree (edge g) (a .at) ≡ true
+    room-in l = sym saturated-in ∙ lt-ltb (held (a .at)) (classDegree (a .class)) l
 
-    pub full-in : a .class ≤ held (a .at) → unsaturated n cls classDegree (edge g) (a .at) ≡ false
-    full-in l = sym saturated-in ∙ le-ltb (held (a .at)) (a .class) l
+    pub full-in : classDegree (a .class) ≤ held (a .at) → unsaturated n cls classDegree (edge g) (a .at) ≡ false
+    full-in l = sym saturated-in ∙ le-ltb (held (a .at)) (classDegree (a .class)) l

@@ -1,5 +1,5 @@
 -- Joining two vertices (document 01, "Joining, lifting, finishing") on the bytes of the adjacency matrix g, with n vertices
--- of degrees cls: if v is saturated, switch v; then if w is saturated, switch w; then link v and w.
+-- of classes cls: if v is saturated, switch v; then if w is saturated, switch w; then link v and w.
 -- Assumes nothing.
 use mathlib.Core.Bool.{Bool, true, false, cond}
 use mathlib.Core.List.{List}

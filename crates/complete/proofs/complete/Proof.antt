@@ -1,4 +1,4 @@
--- `completion::complete` meets its contract.
+-- `complete::complete` meets its contract.
 -- Assumes nothing.
 use mathlib.Core.Path.{refl, sym, _∙_}
 use borrow.Author.Needs.{needs}

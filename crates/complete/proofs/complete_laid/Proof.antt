@@ -1,4 +1,4 @@
--- `completion::complete_laid` meets its contract.
+-- `complete::complete_laid` meets its contract.
 -- Assumes nothing.
 use mathlib.Core.Path.{refl, ap}
 use native.Mathlib.Omega.{arith}

@@ -10,7 +10,7 @@ use lib.ListN.{length}
 use Rattle.finite.specs.Range.{foldTo}
 use Rattle.graph.specs.Graph.{jdm}
 use Rattle.graph.specs.Target.{Target, Partial}
-use Rattle.graph.specs.Tests.{leastClass, mostDegree, mostClasses, classDegree}
+use Rattle.graph.specs.Tests.{leastClass, mostClasses, classDegree}
 use Rattle.layout.specs.Layout.{mostVertices}
 use Rattle.adjacency.specs.Adjacency.{adjacencySize, edge}
 use Rattle.complete.specs.Choice.{openV, openW}

@@ -1,4 +1,4 @@
--- `shuffling::complete_shuffled` meets its contract.
+-- `complete_shuffled::complete_shuffled` meets its contract.
 -- Assumes nothing.
 use mathlib.Core.Path.{refl, sym, _∙_}
 use borrow.Author.Needs.{needs}

@@ -1,4 +1,4 @@
--- `shuffling::shuffle_laid` meets its contract.
+-- `complete_shuffled::shuffle_laid` meets its contract.
 -- Assumes nothing.
 use mathlib.Core.Path.{refl, ap}
 use native.Mathlib.Omega.{arith}

@@ -10,7 +10,7 @@ use lib.ListN.{length, getD, set}
 use Rattle.finite.specs.Range.{bit, lowest}
 use Rattle.answer.specs.declared.switches.Switches.{Switches}
 use Rattle.graph.specs.Graph.{Simple, jdm, edges}
-use Rattle.graph.specs.Tests.{mostClasses}
+use Rattle.graph.specs.Tests.{mostClasses, classDegree}
 use Rattle.table.specs.Inner.Cells.{cellsSize, matrixOf}
 use Rattle.layout.specs.Layout.{wanted}
 use Rattle.adjacency.specs.Adjacency.{adjacencySize, side, edge}
@@ -103,7 +103,7 @@ pub record Shuffling (n : ℕ) (cells starts classes g have full counts sums low
 
 -- the search for an unsaturated vertex of class k goes on from where it was
 abbrev pub lowFrom : List ℕ → List ℕ → List ℕ → ℕ → ℕ
-lowFrom held starts low k = lowest (getD low k 0) (getD starts (k + 1) 0) (λ i. ltb (getD held i 0) k)
+lowFrom held starts low k = lowest (getD low k 0) (getD starts (k + 1) 0) (λ i. ltb (getD held i 0) (classDegree k))
 
 -- m edges are missing, no more than a layout can have
 abbrev pub Lacks : ℕ → List ℕ → List ℕ → ℕ → Type 0

@@ -6,12 +6,12 @@ use native.Mathlib.Omega.{arith}
 use lib.ListN.{getD}
 use Rattle.finite.specs.Range.{sumTo}
 use Rattle.finite.proofs.Sum.{sumTo-none, sumTo-more}
-use Rattle.graph.specs.Tests.{mostClasses}
+use Rattle.graph.specs.Tests.{mostDegree}
 use Rattle.joining.proofs.edges_held.Statement.{statement}
 use Rattle.joining.proofs.edges_held.Tie as tie
 
 abbrev Inv-loop : tie.InvT-loop
-Inv-loop held n sum₀ v₀ sum v = (v ≤ n) × (sum ≡ sumTo v (λ i. getD held i 0)) × (sum ≤ v * mostClasses)
+Inv-loop held n sum₀ v₀ sum v = (v ≤ n) × (sum ≡ sumTo v (λ i. getD held i 0)) × (sum ≤ v * mostDegree)
 
 abbrev μ-loop : tie.MeasureT-loop
 μ-loop held n sum₀ v₀ sum v = n - v

@@ -11,7 +11,7 @@ use Rattle.finite.specs.Inner.Fill.{fillTo}
 use Rattle.graph.specs.Graph.{degree}
 use Rattle.graph.specs.Target.{Target, Partial, Open}
 use Rattle.graph.specs.Switch.{unsaturated}
-use Rattle.graph.specs.Tests.{mostClasses, classDegree}
+use Rattle.graph.specs.Tests.{mostDegree, mostClasses, classDegree}
 use Rattle.layout.specs.Layout.{mostVertices}
 use Rattle.adjacency.specs.Adjacency.{adjacencySize, side, edge}
 use Rattle.answer.specs.declared.switches.Switch.{Switch}
@@ -51,7 +51,7 @@ Unlinkable g held v w =
 abbrev pub Linkable : List ℕ → List ℕ → ℕ → ℕ → Type 0
 Linkable g held v w =
     (length g ≡ adjacencySize) × (v < side) × (w < side) × (v ≢ w)
-    × (0 < length held → (length held ≡ side) × (getD held v 0 < mostClasses) × (getD held w 0 < mostClasses))
+    × (0 < length held → (length held ≡ side) × (getD held v 0 ≤ mostDegree) × (getD held w 0 ≤ mostDegree))
 
 -- v and w may be joined: g is a partial graph of some table, and the pair is open
 pub record Joinable (n : ℕ) (cls : ℕ → ℕ) (g : List ℕ) (v w : ℕ) : Type 0 where

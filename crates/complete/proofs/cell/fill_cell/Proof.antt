@@ -1,4 +1,4 @@
--- `completion::cell::fill_cell` meets its contract: after i turns i joins are made, and the cursor has passed only what is done.
+-- `complete::cell::fill_cell` meets its contract: after i turns i joins are made, and the cursor has passed only what is done.
 -- Assumes nothing.
 use mathlib.Core.Path.{_≡_, sym}
 use Prim.Native.Nat.{_≤_, _-_}

@@ -1,4 +1,4 @@
--- `completion::cell::fill_step` meets its contract.
+-- `complete::cell::fill_step` meets its contract.
 -- Assumes nothing.
 use mathlib.Core.Path.{refl}
 use native.Mathlib.Omega.{arith}
@@ -14,31 +14,35 @@ fill-step-spec =
     (λ c κs.
     let f = c .before .before .before in
     (f .pre .0 .sound .filling .sized, step-searchable (f .pre .0)))  -- open-pair-requires
+    (λ c κs. tt)  -- class-degree-requires
     (λ c κs.
-    let f = c .before .before .before .before .before in
+    let f = c .before .before .before .before .before .before in
     omega (arith, f .pre .0 .ranged .rows .within, f .pre .0 .sound .filling .few))  -- advance-requires
+    (λ c κs. tt)  -- class-degree-requires-2
     (λ c κs.
-    let f = c .before .before .before .before .before .before .before in
+    let f = c .before .before .before .before .before .before .before .before .before in
     omega (arith, f .pre .0 .ranged .columns .within, f .pre .0 .sound .filling .few))  -- advance-requires-2
     (λ c κs.
     let y = c .before .before in
-    let x = y .before .before in
-    let o = x .before .before in
+    let x = y .before .before .before in
+    let o = x .before .before .before in
     let f = o .before .before .before .before in
-    let e = o .open-pair .ensures in (
+    let e = o .open-pair .ensures in
+    let ex = rw (x .before .class-degree .ensures) at (x .advance .ensures) in
+    let ey = rw (y .before .class-degree2 .ensures) at (y .advance2 .ensures) in (
       step-joinable (f .pre .0) _ _ (e .0) (e .1),
       f .pre .0 .degrees-held,
-      row-placed (f .pre .0) (f .pre .1) _ _ (e .0) (e .1) _ _ (x .advance .ensures) (y .advance2 .ensures),
-      column-placed (f .pre .0) (f .pre .1) _ _ (e .0) (e .1) _ _ (x .advance .ensures) (y .advance2 .ensures),
+      row-placed (f .pre .0) (f .pre .1) _ _ (e .0) (e .1) _ _ ex ey,
+      column-placed (f .pre .0) (f .pre .1) _ _ (e .0) (e .1) _ _ ex ey,
     ))  -- join-requires
     (λ c κs.
     let j = c .before .before .before in
-    let o = j .before .before .before .before .before .before .before in
+    let o = j .before .before .before .before .before .before .before .before .before in
     let f = o .before .before .before .before in
     let joinable = step-joinable (f .pre .0) _ _ (o .open-pair .ensures .0) (o .open-pair .ensures .1) in
     join-recordable (f .args .output .now) (f .pre .0 .sound) (step-room (f .pre .0)) joinable (j .join .ensures .0 .0))  -- record-join-requires
     (λ c.
-    let o = c .before .before .before .before .before .before .before .before .before .before .before .before .before .before in
+    let o = c .before .before .before .before .before .before .before .before .before .before .before .before .before .before .before .before in
     let f = o .before .before .before .before in
     let joinable = step-joinable (f .pre .0) _ _ (o .open-pair .ensures .0) (o .open-pair .ensures .1) in
     omega (arith, joinable .pair .second, f .pre .0 .sound .filling .few))  -- add-least
@@ -49,16 +53,17 @@ fill-step-spec =
     let w = c .before .before .before .before in
     let j = w .before .before .before .before in
     let y = j .before .before .before in
-    let x = y .before .before in
-    let o = x .before .before in
+    let x = y .before .before .before in
+    let o = x .before .before .before in
     let f = o .before .before .before .before in
     let e = o .open-pair .ensures in
+    let ex = rw (x .before .class-degree .ensures) at (x .advance .ensures) in
+    let ey = rw (y .before .class-degree2 .ensures) at (y .advance2 .ensures) in
     let wrote = w .record-join .ensures in
     rw (wrote .0 .0) (
       (
         step-ran (f .pre .0) _ _ (e .0) (e .1) (j .join .ensures .0 .0) _ _ _ refl refl (wrote .1) (j .join .ensures .1 .0),
-        step-resumes (f .pre .0) _ _ (e .0) (e .1) _ _ (x .advance .ensures) (y .advance2 .ensures) _ _ _
-            (j .join .ensures .1 .0) (j .join .ensures .0 .1) (c .least .ensures),
+        step-resumes (f .pre .0) _ _ (e .0) (e .1) _ _ ex ey _ _ _ (j .join .ensures .1 .0) (j .join .ensures .0 .1) (c .least .ensures),
       ),
       (rw (wrote .0 .0) at (wrote .0 .1), rw (j .join .ensures .1 .0) (j .join .ensures .1 .1)),
     )))  -- returns

@@ -1,4 +1,4 @@
--- `completion::cell::record_join` meets its contract.
+-- `complete::cell::record_join` meets its contract.
 -- Assumes nothing.
 use mathlib.Core.Path.{refl}
 use native.Mathlib.Omega.{arith}

@@ -1,4 +1,4 @@
--- `completion::fill::complete_cell` meets its contract.
+-- `complete::fill::complete_cell` meets its contract.
 -- Assumes nothing.
 use native.Mathlib.Omega.{arith}
 use borrow.Author.Needs.{needs}

@@ -1,4 +1,4 @@
--- `completion::fill::complete_row` meets its contract: after i turns the first i cells of the row are filled.
+-- `complete::fill::complete_row` meets its contract: after i turns the first i cells of the row are filled.
 -- Assumes nothing.
 use mathlib.Core.Path.{_≡_, sym}
 use Prim.Native.Nat.{_+_, _≤_, _-_}

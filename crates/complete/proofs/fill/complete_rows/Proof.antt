@@ -1,11 +1,11 @@
--- `completion::fill::complete_rows` meets its contract: after i turns the first i rows are filled.
+-- `complete::fill::complete_rows` meets its contract: after i turns the first i rows are filled.
 -- Assumes nothing.
 use mathlib.Core.Path.{_≡_, sym}
 use Prim.Native.Nat.{_+_, _≤_, _-_}
 use native.Mathlib.Omega.{arith}
 use Rattle.finite.specs.Range.{foldTo}
 use Rattle.finite.proofs.Fold.{foldTo-none, foldTo-after}
-use Rattle.graph.specs.Tests.{leastClass, mostDegree}
+use Rattle.graph.specs.Tests.{leastClass, mostClasses}
 use Rattle.table.specs.Inner.Cells.{matrixOf}
 use Rattle.classes.specs.Inner.Block.{classFrom}
 use Rattle.joining.specs.Inner.Work.{degreesOf}
@@ -18,13 +18,13 @@ use Rattle.complete.proofs.fill.complete_rows.Tie as tie
 
 abbrev Inv-loop : tie.InvT-loop
 Inv-loop adjacency₀ output₀ held₀ cells starts n sum₀ i₀ adjacency output held sum i =
-    (i ≤ mostDegree)
+    (i ≤ mostClasses - leastClass)
     × (ran adjacency output sum ≡ foldTo i (λ i. fillRow n (classFrom starts) (matrixOf cells) (leastClass + i)) (ran adjacency₀ output₀ sum₀))
     × (held ≡ degreesOf n adjacency)
     × WroteRecords (sum₀ .joins) (sum .joins) output₀ output
 
 abbrev μ-loop : tie.MeasureT-loop
-μ-loop adjacency₀ output₀ held₀ cells starts n sum₀ i₀ adjacency output held sum i = mostDegree - i
+μ-loop adjacency₀ output₀ held₀ cells starts n sum₀ i₀ adjacency output held sum i = mostClasses - leastClass - i
 
 pub complete-rows-spec : {M : Type 1} → statement M
 complete-rows-spec =
@@ -58,5 +58,5 @@ complete-rows-spec =
     (λ c. c .before .loop .inv .3 .sized)  -- same-length-2
     (λ c.
     let l = c .before in
-    let e : l .loop .i ≡ mostDegree = omega (arith, l .loop .inv .0) in
+    let e : l .loop .i ≡ mostClasses - leastClass = omega (arith, l .loop .inv .0) in
     (rw e at (l .loop .inv .1), l .loop .inv .3)))  -- returns

@@ -1,4 +1,4 @@
--- `completion::fill::missing` meets its contract.
+-- `complete::fill::missing` meets its contract.
 -- Assumes nothing.
 use mathlib.Core.Path.{sym, _∙_}
 use native.Mathlib.Omega.{arith}

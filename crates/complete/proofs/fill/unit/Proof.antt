@@ -1,4 +1,4 @@
--- `completion::fill::unit` meets its contract.
+-- `complete::fill::unit` meets its contract.
 -- Assumes nothing.
 use mathlib.Core.Path.{refl}
 use native.Mathlib.Omega.{arith}

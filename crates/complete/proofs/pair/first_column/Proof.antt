@@ -1,4 +1,4 @@
--- `completion::pair::first_column` meets its contract.
+-- `complete::pair::first_column` meets its contract.
 -- Assumes nothing.
 use native.Mathlib.Omega.{arith}
 use borrow.Author.Tests.{eq-eqb, ne-eqb}

@@ -1,4 +1,4 @@
--- `completion::pair::open_pair` meets its contract: what is left to search has the answer of the whole.
+-- `complete::pair::open_pair` meets its contract: what is left to search has the answer of the whole.
 -- Assumes nothing.
 use mathlib.Core.Path.{_≡_, refl, sym, _∙_}
 use Prim.Native.Nat.{_-_}

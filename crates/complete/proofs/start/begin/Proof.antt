@@ -1,4 +1,4 @@
--- `completion::start::begin` meets its contract.
+-- `complete::start::begin` meets its contract.
 -- Assumes nothing.
 use native.Mathlib.Omega.{arith}
 use Rattle.state.proofs.Checks.{phase-facts}

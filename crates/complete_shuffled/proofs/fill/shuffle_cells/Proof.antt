@@ -1,4 +1,4 @@
--- `shuffling::fill::shuffle_cells` meets its contract: after i turns i joins are made, and what is left of the run goes on from there.
+-- `complete_shuffled::fill::shuffle_cells` meets its contract: after i turns i joins are made, and what is left of the run goes on from there.
 -- Assumes nothing.
 use mathlib.Core.Path.{_≡_, refl, sym, ap, _∙_}
 use Prim.Native.Nat.{_+_, _-_, _≤_}

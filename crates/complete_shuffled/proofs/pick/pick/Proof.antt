@@ -1,4 +1,4 @@
--- `shuffling::pick::pick` meets its contract.
+-- `complete_shuffled::pick::pick` meets its contract.
 -- Assumes nothing.
 use mathlib.Core.Path.{ap, ap₂, _∙_}
 use Prim.Native.Nat.{ℕ, _/_, _%_}

@@ -1,4 +1,4 @@
--- `shuffling::step::join_pair` meets its contract.
+-- `complete_shuffled::step::join_pair` meets its contract.
 -- Assumes nothing.
 use mathlib.Core.Path.{refl}
 use borrow.Author.Needs.{needs}

@@ -1,4 +1,4 @@
--- `shuffling::step::low_of` meets its contract.
+-- `complete_shuffled::step::low_of` meets its contract.
 -- Assumes nothing.
 use mathlib.Core.Path.{ap}
 use Prim.Native.Nat.{ℕ}
@@ -15,9 +15,12 @@ low-of-spec =
     (λ c. search needs)  -- add-advance
     (λ c. search needs)  -- mul-advance-2
     (λ c. search needs)  -- element-copy-out-advance-2
-    (λ c κs. c .before .before .pre .1)  -- advance-requires
+    (λ c κs. tt)  -- class-degree-requires
+    (λ c κs. c .before .before .before .pre .1)  -- advance-requires
     (λ c. search needs)  -- mul-low
     (λ c. search needs)  -- element-write-low
     (λ c.
-    let a = c .before .before .before .args in
-    (c .advance .ensures, ap (λ (v : ℕ). set (a .low .now) (a .k) v) (c .advance .ensures))))  -- returns
+    let d = c .before in
+    let a = d .before .before .before .args in
+    let found = rw (d .class-degree .ensures) at (c .advance .ensures) in
+    (found, ap (λ (v : ℕ). set (a .low .now) (a .k) v) found)))  -- returns

@@ -1,4 +1,4 @@
--- `shuffling::step::shuffle_step` meets its contract.
+-- `complete_shuffled::step::shuffle_step` meets its contract.
 -- Assumes nothing.
 use native.Mathlib.Omega.{arith}
 use borrow.Author.Needs.{needs}

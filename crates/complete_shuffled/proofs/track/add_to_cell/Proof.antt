@@ -1,4 +1,4 @@
--- `shuffling::track::add_to_cell` meets its contract.
+-- `complete_shuffled::track::add_to_cell` meets its contract.
 -- Assumes nothing.
 use mathlib.Core.Path.{refl}
 use native.Mathlib.Omega.{arith}

@@ -1,4 +1,4 @@
--- `shuffling::track::count_cell` meets its contract: a cell that the table has nothing in has nothing, and no other has more than the table.
+-- `complete_shuffled::track::count_cell` meets its contract: a cell that the table has nothing in has nothing, and no other has more than the table.
 -- Assumes nothing.
 use mathlib.Core.Path.{sym, _∙_}
 use mathlib.Core.Logic.{⊎-elim}

@@ -1,4 +1,4 @@
--- `shuffling::track::count_cells` meets its contract: before row k all cells of the rows before it are counted.
+-- `complete_shuffled::track::count_cells` meets its contract: before row k all cells of the rows before it are counted.
 -- Assumes nothing.
 use mathlib.Core.Path.{_≡_, sym, _∙_}
 use Prim.Native.Nat.{_-_, _≤_}

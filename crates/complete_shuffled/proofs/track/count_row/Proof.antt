@@ -1,4 +1,4 @@
--- `shuffling::track::count_row` meets its contract: before cell (k, l) all cells before it are counted.
+-- `complete_shuffled::track::count_row` meets its contract: before cell (k, l) all cells before it are counted.
 -- Assumes nothing.
 use mathlib.Core.Path.{_≡_, sym, _∙_}
 use Prim.Native.Nat.{_+_, _-_, _≤_}

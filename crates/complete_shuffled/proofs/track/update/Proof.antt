@@ -1,4 +1,4 @@
--- `shuffling::track::update` meets its contract: the flags and counts that the branches leave are the two cases of the definitions.
+-- `complete_shuffled::track::update` meets its contract: the flags and counts that the branches leave are the two cases of the definitions.
 -- Assumes nothing.
 use mathlib.Core.Path.{sym, ap, _∙_}
 use mathlib.Core.Logic.{⊎-elim}

@@ -7,4 +7,5 @@ pub can-stand-in-spec : {M : Type 1} → statement M
 can-stand-in-spec =
     tie.close (tie.spec
     (λ c κs. c .before .before .pre)  -- degree-at-requires
-    (λ c. rw (c .degree-at .ensures)))  -- returns
+    (λ c κs. tt)  -- class-degree-requires
+    (λ c. rw (c .before .degree-at .ensures, c .class-degree .ensures)))  -- returns

@@ -4,6 +4,7 @@ use mathlib.Core.Path.{_≡_, refl, sym, _∙_}
 use Prim.Native.Nat.{_≤_, _-_}
 use native.Mathlib.Omega.{arith}
 use Rattle.graph.specs.Graph.{degree}
+use Rattle.graph.specs.Tests.{classDegree}
 use Rattle.adjacency.specs.Adjacency.{edge}
 use Rattle.finite.specs.Range.{lowest}
 use Rattle.finite.proofs.Lowest.{lowest-next}
@@ -14,7 +15,8 @@ use Rattle.joining.proofs.switch.choose_substitute.Tie as tie
 
 abbrev Inv-loop : tie.InvT-loop
 Inv-loop adjacency held starts n other class to b₀ b =
-    (b ≤ to) × (lowest b₀ to (canStandIn (degree n (edge adjacency)) class other) ≡ lowest b to (canStandIn (degree n (edge adjacency)) class other))
+    let p = canStandIn (degree n (edge adjacency)) (classDegree class) other in
+    (b ≤ to) × (lowest b₀ to p ≡ lowest b to p)
 
 abbrev μ-loop : tie.MeasureT-loop
 μ-loop adjacency held starts n other class to b₀ b = to - b
