@@ -19,7 +19,7 @@ use Rattle.slices.proofs.Zero.{getD-zeros}
 use Rattle.adjacency.specs.Adjacency.{side, adjacencySize, edge}
 use Rattle.adjacency.proofs.Facts.{ZeroOutside}
 use Rattle.demands.specs.Calls.{emptyMatrix}
-use Rattle.demands.specs.WithinReach.{matrixOf}
+use Rattle.demands.specs.WithinReach.{bytesOf}
 
 -- equal between the vertices, and 0 elsewhere
 pub same-bytes : (n : ℕ) (g h : List ℕ) → length g ≡ adjacencySize → length h ≡ adjacencySize → ZeroOutside n g → ZeroOutside n h
@@ -43,22 +43,22 @@ module _ (n : ℕ) (H : Graph) where
   byte : ℕ → ℕ → ℕ
   byte v w = cond (ltb v n && ltb w n) (H v w) 0
 
-  pub matrix-length : length (matrixOf n H) ≡ adjacencySize
+  pub matrix-length : length (bytesOf n H) ≡ adjacencySize
   unfolding byte
   matrix-length = singles-length (λ i. byte (i / side) (i % side)) adjacencySize
 
-  matrix-at : (v w : ℕ) → v < side → w < side → edge (matrixOf n H) v w ≡ byte v w
+  matrix-at : (v w : ℕ) → v < side → w < side → edge (bytesOf n H) v w ≡ byte v w
   unfolding byte
   matrix-at v w vs ws =
       let a : (v * side + w) / side ≡ v = omega arith in
       let b : (v * side + w) % side ≡ w = omega arith in
       rw (singles-at (λ i. byte (i / side) (i % side)) adjacencySize (v * side + w) (omega arith), a, b)
 
-  pub matrix-outside : ZeroOutside n (matrixOf n H)
+  pub matrix-outside : ZeroOutside n (bytesOf n H)
   unfolding byte
   matrix-outside v w vs ws o = matrix-at v w vs ws ∙ ⊎-elim (λ h. rw (le-ltb v n h)) (λ h. rw (le-ltb w n h, and-false (ltb v n))) o
 
-  pub matrix-edges : n ≤ side → SameOn n H (edge (matrixOf n H))
+  pub matrix-edges : n ≤ side → SameOn n H (edge (bytesOf n H))
   unfolding byte
   matrix-edges few v w l m = matrix-at v w (omega arith) (omega arith) ∙ rw (lt-ltb v n l, lt-ltb w n m)
 

@@ -1,13 +1,13 @@
 -- Which numbers each entry's checks can give, test by test: what demand 1 says of refusals.
 -- Assumes nothing.
 use mathlib.Core.Path.{_≡_, refl}
-use mathlib.Core.Bool.{Bool, true, false, cond, or-true}
+use mathlib.Core.Bool.{Bool, true, false, not, cond, or-true}
 use mathlib.Core.List.{List, [], _∷_}
 use Prim.Native.Nat.{ℕ, _+_, _%_, _≤_}
 use lib.Dec.{leb, ltb, eqb}
 use lib.ListN.{length}
 use Rattle.answer.specs.Refusals.{refusal, stop, unless, unlessStopped}
-use Rattle.answer.specs.Numbers.{numberOf}
+use Rattle.answer.specs.Numbers.{numberOf, oneOf}
 use Rattle.answer.specs.declared.Cause.the-variants.{WrongLength, InvalidState, WrongPhase, BlockLength, BadRecord, BlockNumber, BlockDiffers, JournalFull, OddDiagonal, RowNotDivisible, CellTooLarge, TooManyVertices, NoSuchVertex, SameVertex, EdgePresent, CellNotShort, EdgeAbsent, OutputTooShort, BadEdgeList, DegreeTooHigh, Graph6Text, Graph6Size}
 use Rattle.answer.specs.declared.Refusal.{Refusal}
 use Rattle.answer.specs.declared.Verdict.{Verdict}
@@ -38,11 +38,12 @@ use Rattle.graph.specs.Tests.{mostClasses, firstOdd, firstUneven, firstOverfull
 use Rattle.layout.specs.Layout.{mostVertices, layoutVerdict}
 use Rattle.table.specs.Block.{records, firstBad}
 use Rattle.journal.specs.Journal.{mostBlocks, phase, blocks, sameBlock}
-use Rattle.state.specs.Checks.{stateVerdict, phaseVerdict}
+use Rattle.state.specs.State.{State}
+use Rattle.state.specs.Checks.{stateVerdict, phaseVerdict, pairVerdict}
 use Rattle.state.specs.Valid.{lengthsOk, valid}
 use Rattle.edge_lists.specs.EdgeList.{listed, firstBadEdge, listVerdict}
 use Rattle.take_block.specs.Take.{takeNumbered}
-use Rattle.demands.specs.Demand1.{oneOf, Numbered}
+use Rattle.demands.specs.Demand1.{Numbered}
 
 -- What is claimed of an answer: a refusal's number is one of these; of a written length, that it is n and fits m bytes.
 abbrev pub OfVerdict : List ℕ → Verdict → Type 0
@@ -97,17 +98,17 @@ behind Of ns Go refused rest f h x = x
 behind Of ns (Stop r) refused rest f h x = f r h
 
 -- the checks 1 and 2, and 3
-pub state-numbers : (j g ns : List ℕ) → OfVerdict (1 ∷ 2 ∷ ns) (stateVerdict j g)
-state-numbers j g ns = go (lengthsOk j g) (valid j g)
+pub state-numbers : (s : State) (ns : List ℕ) → OfVerdict (1 ∷ 2 ∷ ns) (stateVerdict s)
+state-numbers s ns = go (lengthsOk s) (valid s)
   where
     go : (a b : Bool) → OfVerdict (1 ∷ 2 ∷ ns) (unless a (stop WrongLength) (unless b (stop InvalidState) Go))
     go false b = refl
     go true false = refl
     go true true = tt
 
-pub phase-numbers : (p : ℕ) (j g ns : List ℕ) → OfVerdict (1 ∷ 2 ∷ 3 ∷ ns) (phaseVerdict p j g)
-phase-numbers p j g ns =
-    behind OfVerdict (1 ∷ 2 ∷ 3 ∷ ns) (stateVerdict j g) Stop _ (λ r h. h) (state-numbers j g (3 ∷ ns)) (go (eqb (phase j) p))
+pub phase-numbers : (p : ℕ) (s : State) (ns : List ℕ) → OfVerdict (1 ∷ 2 ∷ 3 ∷ ns) (phaseVerdict p s)
+phase-numbers p s ns =
+    behind OfVerdict (1 ∷ 2 ∷ 3 ∷ ns) (stateVerdict s) Stop _ (λ r h. h) (state-numbers s (3 ∷ ns)) (go (eqb (phase (s .journal)) p))
   where
     go : (c : Bool) → OfVerdict (1 ∷ 2 ∷ 3 ∷ ns) (unless c (stop WrongPhase) Go)
     go false = refl
@@ -176,33 +177,33 @@ layout-numbers t =
     verdict-chain (eqb (firstOdd T) mostClasses) (eqb (firstUneven T) mostClasses) (eqb (firstOverfull T) mostClasses) (leb (vertices t) mostVertices)
     (firstOdd T) (firstUneven T) (firstOverfull T) (firstOverfullIn T (firstOverfull T))
 
-pub add-chain : (d e f g h : Bool) (k l : ℕ) (s : Switches)
+-- the checks 13 and 14, behind 1 to 3
+pub pair-numbers : (n v w : ℕ) (ns : List ℕ) → OfVerdict (1 ∷ 2 ∷ 3 ∷ 13 ∷ 14 ∷ ns) (pairVerdict n v w)
+pair-numbers n v w ns = go (ltb v n) (ltb w n) (not (eqb v w))
+  where
+    go : (a b c : Bool)
+        → OfVerdict (1 ∷ 2 ∷ 3 ∷ 13 ∷ 14 ∷ ns)
+        (unlessStopped (unless a (stop NoSuchVertex) Go) Stop
+        (unlessStopped (unless b (stop NoSuchVertex) Go) Stop
+        (unless c (stop SameVertex) Go)))
+    go false b c = refl
+    go true false c = refl
+    go true true false = refl
+    go true true true = tt
+
+pub add-chain : (g h : Bool) (k l : ℕ) (s : Switches)
     → OfAdd (1 ∷ 2 ∷ 3 ∷ 13 ∷ 14 ∷ 15 ∷ 16 ∷ [])
-    (unless d (Add.Refused (refusal NoSuchVertex 0 0))
-    (unless e (Add.Refused (refusal NoSuchVertex 0 0))
-    (unless f (Add.Refused (refusal SameVertex 0 0))
     (unless g (Add.Refused (refusal EdgePresent 0 0))
     (unless h (Add.Refused (refusal CellNotShort k l))
-    (Add.Added s))))))
-add-chain false e f g h k l s = refl
-add-chain true false f g h k l s = refl
-add-chain true true false g h k l s = refl
-add-chain true true true false h k l s = refl
-add-chain true true true true false k l s = refl
-add-chain true true true true true k l s = tt
+    (Add.Added s)))
+add-chain false h k l s = refl
+add-chain true false k l s = refl
+add-chain true true k l s = tt
 
-pub remove-chain : (d e f g : Bool)
-    → OfRemove (1 ∷ 2 ∷ 3 ∷ 13 ∷ 14 ∷ 17 ∷ [])
-    (unless d (Remove.Refused (refusal NoSuchVertex 0 0))
-    (unless e (Remove.Refused (refusal NoSuchVertex 0 0))
-    (unless f (Remove.Refused (refusal SameVertex 0 0))
-    (unless g (Remove.Refused (refusal EdgeAbsent 0 0))
-    Remove.Removed))))
-remove-chain false e f g = refl
-remove-chain true false f g = refl
-remove-chain true true false g = refl
-remove-chain true true true false = refl
-remove-chain true true true true = tt
+pub remove-chain : (g : Bool)
+    → OfRemove (1 ∷ 2 ∷ 3 ∷ 13 ∷ 14 ∷ 17 ∷ []) (unless g (Remove.Refused (refusal EdgeAbsent 0 0)) Remove.Removed)
+remove-chain false = refl
+remove-chain true = tt
 
 pub complete-chain : (d : Bool) (i s n : ℕ)
     → OfComplete (1 ∷ 2 ∷ 3 ∷ 18 ∷ []) (unless d (Complete.Refused (refusal OutputTooShort 0 0)) (Complete.Completed i s n))

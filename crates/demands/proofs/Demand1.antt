@@ -1,7 +1,7 @@
 -- Demand 1 (specs/Demand1.antt): refusals carry the numbers of their entry and change nothing; outputs change only where they are written.
 -- Assumes nothing.
 use mathlib.Core.Path.{_≡_, refl, sym, ap, subst}
-use mathlib.Core.Bool.{true, not}
+use mathlib.Core.Bool.{true}
 use mathlib.Core.List.{List, [], _∷_}
 use Prim.Native.Nat.{ℕ, _*_, _≤_, min, max}
 use native.Mathlib.Omega.{arith}
@@ -10,6 +10,7 @@ use lib.ListN.{length}
 use lib.Seq.{sets, length-sets}
 use Rattle.slices.proofs.Part.{drop-sets}
 use borrow.Author.Tests.{leb-true}
+use Rattle.answer.specs.Numbers.{oneOf}
 use Rattle.answer.specs.declared.Refusal.{Refusal}
 use Rattle.answer.specs.declared.ClearAnswer.{ClearAnswer}
 use Rattle.answer.specs.declared.TakeAnswer.{TakeAnswer}
@@ -35,31 +36,32 @@ use Rattle.table.specs.Block.{blockLength}
 use Rattle.layout.specs.Layout.{layoutVerdict}
 use Rattle.journal.specs.Journal.{blocks, slotLength, tableOf}
 use Rattle.adjacency.specs.Adjacency.{edge}
-use Rattle.state.specs.Checks.{stateVerdict, phaseVerdict}
+use Rattle.state.specs.State.{State}
+use Rattle.state.specs.Checks.{stateVerdict, phaseVerdict, pairVerdict}
 use Rattle.state.specs.Valid.{lengthsOk}
 use Rattle.state.specs.Laid.{vertexCount, classAt, isShort}
 use Rattle.joining.specs.Join.{joinSwitches}
-use Rattle.clear.specs.Clear.{clearBytes}
-use Rattle.take_block.specs.Take.{takeOnValid, takeJournal}
-use Rattle.held_block.specs.Held.{heldPart}
-use Rattle.lay_out.specs.LayOut.{layOutJournal}
-use Rattle.add_edge.specs.Add.{addLaid, addAdjacency}
-use Rattle.remove_edge.specs.Remove.{removeLaid, removeAdjacency}
-use Rattle.edge_list.specs.List.{listBytes, listLaid, listAnswer, listOutput}
+use Rattle.clear.specs.Clear.{afterClear}
+use Rattle.take_block.specs.Take.{takeOnValid, afterTake}
+use Rattle.held_block.specs.Held.{partHeld}
+use Rattle.lay_out.specs.LayOut.{afterLayOut}
+use Rattle.add_edge.specs.Add.{addPair, afterAdd}
+use Rattle.remove_edge.specs.Remove.{afterRemove}
+use Rattle.edge_list.specs.List.{listBytes, listLaid, listAnswer, outputListed}
 use Rattle.edge_lists.specs.EdgeList.{listVerdict}
 use Rattle.jdm_of_edges.specs.Survey.{firstAbove, surveyRecords, surveyListed, surveyAnswer, surveyOutput}
 use Rattle.graph6.specs.Format.{sizeOf, tooLarge, wellFormed}
 use Rattle.graph6_write.specs.Write.{writeText, writeListed, writeAnswer, writeOutput}
 use Rattle.graph6_read.specs.Read.{readList, readAnswer, readOutput}
 use Rattle.join_records.specs.Record.{joinRecordSize}
-use Rattle.complete.specs.Complete.{Ran, completed, missing, ranLaid, ranAnswer, ranAfter, ranOutput}
+use Rattle.complete.specs.Complete.{Ran, completed, missing, ranLaid, ranAnswer, afterRan, ranAfter, outputRan, ranOutput}
 use Rattle.complete.proofs.Entry.{completed-facts}
 use Rattle.complete_shuffled.specs.Shuffle.{shuffled}
 use Rattle.complete_shuffled.proofs.Answers.{with-x-refused, with-x-completed}
-use Rattle.complete_shuffled.specs.Outcome.{outcome}
+use Rattle.complete_shuffled.specs.Outcome.{outcome, choiceAnswer, choiceOutput}
 use Rattle.complete_shuffled.proofs.Works.{outcome-works}
-use Rattle.demands.specs.Demand1.{oneOf, Numbered, SamePast, Demand1}
-use Rattle.demands.proofs.Chains.{OfClear, OfTake, OfLength, OfLayOut, OfFigures, OfAdd, OfRemove, OfComplete, OfWritten, OfRead, behind, state-numbers, phase-numbers, layout-numbers, clear-chain, takeLater, later-numbers, take-chain, length-chain, add-chain, remove-chain, complete-chain, fits-chain, list-numbers, survey-chain, read-chain}
+use Rattle.demands.specs.Demand1.{Numbered, SamePast, Demand1}
+use Rattle.demands.proofs.Chains.{OfClear, OfTake, OfLength, OfLayOut, OfFigures, OfAdd, OfRemove, OfComplete, OfWritten, OfRead, behind, state-numbers, phase-numbers, layout-numbers, clear-chain, takeLater, later-numbers, take-chain, length-chain, pair-numbers, add-chain, remove-chain, complete-chain, fits-chain, list-numbers, survey-chain, read-chain}
 
 -- what was written stands at the start, and nothing behind it changes
 past : (out bytes : List ℕ) (n : ℕ) → n ≡ length bytes → length bytes ≤ length out → SamePast n out (sets out 0 bytes)
@@ -68,11 +70,11 @@ past out bytes n e h = (
   rw e (drop-sets out bytes h),
 )
 
-edges-numbers : (j g : List ℕ) (m : ℕ) → OfWritten (1 ∷ 2 ∷ 3 ∷ 18 ∷ []) (length (listBytes (vertexCount j) g)) m (listAnswer j g m)
-edges-numbers j g m =
-    let n = length (listBytes (vertexCount j) g) in
-    behind (λ ns. OfWritten ns n m) (1 ∷ 2 ∷ 3 ∷ 18 ∷ []) (phaseVerdict 1 j g) Write.Refused (listLaid j g m) (λ r h. h)
-    (phase-numbers 1 j g (18 ∷ [])) (fits-chain (1 ∷ 2 ∷ 3 ∷ 18 ∷ []) refl (leb n m) n m (leb-true n m))
+edges-numbers : (s : State) (m : ℕ) → OfWritten (1 ∷ 2 ∷ 3 ∷ 18 ∷ []) (length (listBytes (vertexCount s) (s .adjacency))) m (listAnswer s m)
+edges-numbers s m =
+    let n = length (listBytes (vertexCount s) (s .adjacency)) in
+    behind (λ ns. OfWritten ns n m) (1 ∷ 2 ∷ 3 ∷ 18 ∷ []) (phaseVerdict 1 s) Write.Refused (listLaid s m) (λ r h. h)
+    (phase-numbers 1 s (18 ∷ [])) (fits-chain (1 ∷ 2 ∷ 3 ∷ 18 ∷ []) refl (leb n m) n m (leb-true n m))
 
 -- behind the checks 19, and with them
 pub survey-rest : (ns : List ℕ) → oneOf 20 ns ≡ true → oneOf 18 ns ≡ true → (e : List ℕ) (total m : ℕ)
@@ -102,81 +104,83 @@ read-numbers t m =
     let n = length (readList t) in
     read-chain (not (tooLarge t)) (wellFormed t) (leb n m) n (sizeOf t) m (leb-true n m)
 
--- a finish, whichever pairs it joins
-finish-refused : (j g : List ℕ) (r : Ran) (out : List ℕ) (q : Refusal) → ranAnswer r j g (length out) ≡ Complete.Refused q
-    → Numbered q (1 ∷ 2 ∷ 3 ∷ 18 ∷ []) × (ranAfter (ranAnswer r j g (length out)) r g ≡ g)
-    × (ranOutput (ranAnswer r j g (length out)) r out ≡ out)
-finish-refused j g r out q e = (
+-- completing, whichever pairs it joins
+complete-refused : (s : State) (r : Ran) (out : List ℕ) (q : Refusal) → ranAnswer r s (length out) ≡ Complete.Refused q
+    → Numbered q (1 ∷ 2 ∷ 3 ∷ 18 ∷ []) × (ranAfter r s (length out) ≡ s) × (ranOutput r s out ≡ out)
+complete-refused s r out q e = (
   subst (OfComplete (1 ∷ 2 ∷ 3 ∷ 18 ∷ [])) e
-      (behind OfComplete _ (phaseVerdict 1 j g) Complete.Refused (ranLaid r j g (length out)) (λ r h. h) (phase-numbers 1 j g _)
-      (complete-chain (leb (joinRecordSize * missing j g) (length out)) (r .joins) (r .switches) (length (r .records)))),
-  ap (λ (a : CompleteAnswer). ranAfter a r g) e,
-  ap (λ (a : CompleteAnswer). ranOutput a r out) e,
+      (behind OfComplete _ (phaseVerdict 1 s) Complete.Refused (ranLaid r s (length out)) (λ r h. h) (phase-numbers 1 s _)
+      (complete-chain (leb (joinRecordSize * missing s) (length out)) (r .joins) (r .switches) (length (r .records)))),
+  ap (λ (a : CompleteAnswer). afterRan a r s) e,
+  ap (λ (a : CompleteAnswer). outputRan a r out) e,
 )
 
-finish-written : (f : Choice) (j g out : List ℕ) (joins switches n : ℕ)
-    → ranAnswer (outcome f j g) j g (length out) ≡ Complete.Completed joins switches n
-    → (n ≡ joinRecordSize * joins) × SamePast n out (ranOutput (ranAnswer (outcome f j g) j g (length out)) (outcome f j g) out)
-finish-written f j g out joins switches n e =
-    let r = outcome f j g in
-    let c = completed-facts j g r (length out) joins switches n e in
-    let x = outcome-works f j g (c .facts) in (
+complete-written : (f : Choice) (s : State) (out : List ℕ) (joins switches n : ℕ)
+    → choiceAnswer f s (length out) ≡ Complete.Completed joins switches n
+    → (n ≡ joinRecordSize * joins) × SamePast n out (choiceOutput f s out)
+complete-written f s out joins switches n e =
+    let r = outcome f s in
+    let c = completed-facts s r (length out) joins switches n e in
+    let x = outcome-works f s (c .facts) in (
       omega (arith, c .length-is, c .joins-are, x .written),
-      subst (SamePast n out) (sym (ap (λ (a : CompleteAnswer). ranOutput a r out) e))
+      subst (SamePast n out) (sym (ap (λ (a : CompleteAnswer). outputRan a r out) e))
           (past out (r .records) n (c .length-is) (omega (arith, c .room, x .made, x .written))),
     )
 
 pub demand-1 : Demand1
 demand-1 =
     record {
-      clear = λ j g r e. (
-        subst (OfClear (1 ∷ [])) e (clear-chain (lengthsOk j g)),
-        ap (λ (a : ClearAnswer). clearBytes a j) e,
-        ap (λ (a : ClearAnswer). clearBytes a g) e,
+      clear = λ s r e. (
+        subst (OfClear (1 ∷ [])) e (clear-chain (lengthsOk s)),
+        ap (λ (a : ClearAnswer). afterClear a s) e,
       );
-      take = λ j g b number r e. (
+      take = λ s number b r e. (
         subst (OfTake (1 ∷ 2 ∷ 4 ∷ 5 ∷ 6 ∷ 7 ∷ 3 ∷ 8 ∷ [])) e
-            (behind OfTake _ (stateVerdict j g) Take.Refused (takeOnValid j number b) (λ r h. h) (state-numbers j g _)
-            (take-chain (blockLength (length b)) (takeLater j number b) (later-numbers j number b))),
-        ap (λ (a : TakeAnswer). takeJournal a j b) e,
+            (behind OfTake _ (stateVerdict s) Take.Refused (takeOnValid (s .journal) number b) (λ r h. h) (state-numbers s _)
+            (take-chain (blockLength (length b)) (takeLater (s .journal) number b) (later-numbers (s .journal) number b))),
+        ap (λ (a : TakeAnswer). afterTake a s b) e,
       );
-      held = λ j g number r e. (
+      held = λ s number r e. (
         subst (OfLength (1 ∷ 2 ∷ 6 ∷ [])) e
-            (behind OfLength _ (stateVerdict j g) Len.Refused _ (λ r h. h) (state-numbers j g _)
-            (length-chain (ltb number (blocks j)) (slotLength j number))),
-        ap (λ (a : LengthAnswer). heldPart a j number) e,
+            (behind OfLength _ (stateVerdict s) Len.Refused _ (λ r h. h) (state-numbers s _)
+            (length-chain (ltb number (blocks (s .journal))) (slotLength (s .journal) number))),
+        ap (λ (a : LengthAnswer). partHeld a (s .journal) number) e,
       );
-      lay-out = λ j g r e. (
+      lay-out = λ s r e. (
         subst (OfLayOut (1 ∷ 2 ∷ 3 ∷ 9 ∷ 10 ∷ 11 ∷ 12 ∷ [])) e
-            (behind OfLayOut _ (phaseVerdict 0 j g) LayOut.Refused _ (λ r h. h) (phase-numbers 0 j g _)
-            (behind OfLayOut _ (layoutVerdict (tableOf j)) LayOut.Refused (LayOut.LaidOut (vertices (tableOf j))) (λ r h. h) (layout-numbers (tableOf j)) tt)),
-        ap (λ (a : LayOutAnswer). layOutJournal a j) e,
+            (behind OfLayOut _ (phaseVerdict 0 s) LayOut.Refused _ (λ r h. h) (phase-numbers 0 s _)
+            (behind OfLayOut _ (layoutVerdict (tableOf (s .journal))) LayOut.Refused (LayOut.LaidOut (vertices (tableOf (s .journal)))) (λ r h. h)
+            (layout-numbers (tableOf (s .journal))) tt)),
+        ap (λ (a : LayOutAnswer). afterLayOut a s) e,
       );
-      add = λ j g v w r e. (
+      add = λ s v w r e. (
         subst (OfAdd (1 ∷ 2 ∷ 3 ∷ 13 ∷ 14 ∷ 15 ∷ 16 ∷ [])) e
-            (behind OfAdd _ (phaseVerdict 1 j g) Add.Refused (addLaid j g v w) (λ r h. h) (phase-numbers 1 j g _)
-            (add-chain (ltb v (vertexCount j)) (ltb w (vertexCount j)) (not (eqb v w)) (eqb (edge g v w) 0) (isShort j g (classAt j v) (classAt j w))
-            (min (classAt j v) (classAt j w)) (max (classAt j v) (classAt j w)) (joinSwitches (vertexCount j) (classAt j) g v w))),
-        ap (λ (a : AddAnswer). addAdjacency a j g v w) e,
+            (behind OfAdd _ (phaseVerdict 1 s) Add.Refused _ (λ r h. h) (phase-numbers 1 s _)
+            (behind OfAdd _ (pairVerdict (vertexCount s) v w) Add.Refused (addPair s v w) (λ r h. h) (pair-numbers (vertexCount s) v w _)
+            (add-chain (eqb (edge (s .adjacency) v w) 0) (isShort s (classAt s v) (classAt s w))
+            (min (classAt s v) (classAt s w)) (max (classAt s v) (classAt s w)) (joinSwitches (vertexCount s) (classAt s) (s .adjacency) v w)))),
+        ap (λ (a : AddAnswer). afterAdd a s v w) e,
       );
-      remove = λ j g v w r e. (
+      remove = λ s v w r e. (
         subst (OfRemove (1 ∷ 2 ∷ 3 ∷ 13 ∷ 14 ∷ 17 ∷ [])) e
-            (behind OfRemove _ (phaseVerdict 1 j g) Remove.Refused (removeLaid j g v w) (λ r h. h) (phase-numbers 1 j g _)
-            (remove-chain (ltb v (vertexCount j)) (ltb w (vertexCount j)) (not (eqb v w)) (eqb (edge g v w) 1))),
-        ap (λ (a : RemoveAnswer). removeAdjacency a g v w) e,
+            (behind OfRemove _ (phaseVerdict 1 s) Remove.Refused _ (λ r h. h) (phase-numbers 1 s _)
+            (behind OfRemove _ (pairVerdict (vertexCount s) v w) Remove.Refused _ (λ r h. h) (pair-numbers (vertexCount s) v w _)
+            (remove-chain (eqb (edge (s .adjacency) v w) 1)))),
+        ap (λ (a : RemoveAnswer). afterRemove a s v w) e,
       );
-      complete = λ j g. finish-refused j g (completed j g);
-      complete-written = λ j g. finish-written Lowest j g;
-      shuffle = λ j g out x q e. finish-refused j g (shuffled j g x .ran) out q (with-x-refused (shuffled j g x .x) _ q e);
-      shuffle-written = λ j g out x joins switches n y e.
-          finish-written (Picked x) j g out joins switches n (with-x-completed (shuffled j g x .x) _ joins switches n y e .0);
-      list = λ j g out r e. (
-        subst (OfWritten (1 ∷ 2 ∷ 3 ∷ 18 ∷ []) (length (listBytes (vertexCount j) g)) (length out)) e (edges-numbers j g (length out)),
-        ap (λ (a : WrittenAnswer). listOutput a j g out) e,
+      complete = λ s. complete-refused s (completed s);
+      complete-written = λ s. complete-written Lowest s;
+      shuffle = λ s x out q e. complete-refused s (shuffled s x .ran) out q (with-x-refused (shuffled s x .x) _ q e);
+      shuffle-written = λ s x out joins switches n y e.
+          complete-written (Picked x) s out joins switches n (with-x-completed (shuffled s x .x) _ joins switches n y e .0);
+      list = λ s out r e. (
+        subst (OfWritten (1 ∷ 2 ∷ 3 ∷ 18 ∷ []) (length (listBytes (vertexCount s) (s .adjacency))) (length out)) e (edges-numbers s (length out)),
+        ap (λ (a : WrittenAnswer). outputListed a s out) e,
       );
-      list-written = λ j g out n e.
-          let h = subst (OfWritten (1 ∷ 2 ∷ 3 ∷ 18 ∷ []) (length (listBytes (vertexCount j) g)) (length out)) e (edges-numbers j g (length out)) in
-          subst (SamePast n out) (sym (ap (λ (a : WrittenAnswer). listOutput a j g out) e)) (past out (listBytes (vertexCount j) g) n (h .0) (h .1));
+      list-written = λ s out n e.
+          let h = subst (OfWritten (1 ∷ 2 ∷ 3 ∷ 18 ∷ []) (length (listBytes (vertexCount s) (s .adjacency))) (length out)) e (edges-numbers s (length out)) in
+          subst (SamePast n out) (sym (ap (λ (a : WrittenAnswer). outputListed a s out) e))
+          (past out (listBytes (vertexCount s) (s .adjacency)) n (h .0) (h .1));
       survey = λ e total out r p. (
         subst (OfWritten (19 ∷ 20 ∷ 18 ∷ []) (length (surveyRecords e total)) (length out)) p (survey-numbers e total (length out)),
         ap (λ (a : WrittenAnswer). surveyOutput a e total out) p,
@@ -198,6 +202,6 @@ demand-1 =
       graph6-read-out = λ t out n total p.
           let h = subst (OfRead (22 ∷ 21 ∷ 18 ∷ []) (length (readList t)) (length out)) p (read-numbers t (length out)) in
           subst (SamePast n out) (sym (ap (λ (a : ReadAnswer). readOutput a t out) p)) (past out (readList t) n (h .0) (h .1));
-      figures = λ j g r e.
-          subst (OfFigures (1 ∷ 2 ∷ [])) e (behind OfFigures _ (stateVerdict j g) Figs.Refused _ (λ r h. h) (state-numbers j g _) tt);
+      figures = λ s r e.
+          subst (OfFigures (1 ∷ 2 ∷ [])) e (behind OfFigures _ (stateVerdict s) Figs.Refused _ (λ r h. h) (state-numbers s _) tt);
     }

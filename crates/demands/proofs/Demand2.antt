@@ -30,35 +30,36 @@ use Rattle.graph.proofs.Realizability.{has-table, has-isolated}
 use Rattle.journal.specs.Journal.{phase, blocks, jdmOf, tableOf}
 use Rattle.journal.proofs.Table.{jdm-table}
 use Rattle.adjacency.specs.Adjacency.{edge}
-use Rattle.state.specs.Valid.{lengthsOk, valid}
+use Rattle.state.specs.State.{State, cleared}
+use Rattle.state.specs.Valid.{lengthsOk, valid, ValidLaid}
 use Rattle.state.specs.Laid.{vertexCount, classAt}
 use Rattle.state.proofs.Facts.{StateFacts, Laid, valid-facts}
-use Rattle.take_block.specs.Take.{takeAnswer}
+use Rattle.take_block.specs.Take.{takeAnswer, takeAfter}
 use Rattle.take_block.proofs.Take.{isTaken, taken-facts, held-facts, take-taken}
 use Rattle.lay_out.proofs.LayOut.{lay-out-laid-out}
-use Rattle.add_edge.specs.Add.{addAnswer, addAdjacency}
-use Rattle.remove_edge.specs.Remove.{removeAnswer, removeAdjacency}
-use Rattle.complete.specs.Complete.{Ran, ranAnswer, ranAfter}
+use Rattle.add_edge.specs.Add.{addAnswer, afterAdd, addAfter}
+use Rattle.remove_edge.specs.Remove.{removeAnswer, afterRemove, removeAfter}
+use Rattle.complete.specs.Complete.{afterRan}
 use Rattle.complete.proofs.Entry.{completed-facts}
-use Rattle.complete_shuffled.specs.Outcome.{outcome}
+use Rattle.complete_shuffled.specs.Outcome.{outcome, choiceAnswer, choiceAfter}
 use Rattle.complete_shuffled.proofs.Works.{outcome-works}
-use Rattle.demands.specs.Calls.{Call, take, layOut, add, remove, complete, readBack, list, figures, survey, writeGraph6, readGraph6, State, cleared, after, afterAll}
+use Rattle.demands.specs.Calls.{Change, take, layOut, add, remove, complete, Call, changes, reads, changed, afterAll}
 use Rattle.demands.specs.Tally.{Tally, noTally, told, toldAdd, toldRemove, toldComplete, counts, withBlock, laysOut, nowLaid, tally, tallyAll}
 use Rattle.demands.specs.Matrix.{Short, HasTable}
 use Rattle.demands.specs.Accepted.{accepted}
-use Rattle.demands.specs.Demand2.{member, answered, answeredSum, addRefused, removeRefused, quiet, Demand2}
-use Rattle.demands.proofs.Finishes.{outcome-has, after-finish}
+use Rattle.demands.specs.Demand2.{answered, answeredSum, addRefused, removeRefused, quietly, quiet, Demand2}
+use Rattle.demands.proofs.Choices.{outcome-has, after-choice}
 use Rattle.demands.proofs.Reach.{Reach, reach, reach-cleared, after-call, same-next, after-append}
 use Rattle.demands.proofs.Kept.{accepted-once}
 
 -- the numbers that came already are those below m
 abbrev Seen : List ℕ → ℕ → Type 0
-Seen seen m = (i : ℕ) → member i seen ≡ ltb i m
+Seen seen m = (i : ℕ) → oneOf i seen ≡ ltb i m
 
 seen-more : (seen : List ℕ) (m : ℕ) → Seen seen m → Seen (m ∷ seen) (m + 1)
 seen-more seen m h i = go (ℕ-discrete i m) (decLt i m)
   where
-    go : Dec (i ≡ m) → Dec (i < m) → (eqb i m || member i seen) ≡ ltb i (m + 1)
+    go : Dec (i ≡ m) → Dec (i < m) → (eqb i m || oneOf i seen) ≡ ltb i (m + 1)
     go (yes e) d = rw (eq-eqb i m e, lt-ltb i (m + 1) (omega arith))
     go (no e) (yes l) = rw (ne-eqb i m e, h i, lt-ltb i m l, lt-ltb i (m + 1) (omega arith))
     go (no e) (no l) = rw (ne-eqb i m e, h i, le-ltb i m (omega arith), le-ltb i (m + 1) (omega arith))
@@ -95,27 +96,27 @@ module _ (adds : List ℕ → ℕ) (read : DegreeTable → ℕ) (more : (u : Deg
   answered-tally : (calls : List Call) (s : State) (t : Tally) (seen : List ℕ) → Reach s t → Seen seen (t .blocks)
       → read (t .table) + answered adds seen s calls ≡ read (tallyAll s t calls .table)
   answered-tally [] s t seen r h = add-zero (read (t .table))
-  answered-tally (take number b ∷ cs) s t seen r h =
+  answered-tally (changes (take number b) ∷ cs) s t seen r h =
       go (takeAnswer s number b) refl (counts t number b) refl
-      (λ t′ seen′ r′ h′. answered-tally cs (after s (take number b)) t′ seen′ r′ h′)
+      (λ t′ seen′ r′ h′. answered-tally cs (takeAfter s number b) t′ seen′ r′ h′)
     where
       tested : isTaken (takeAnswer s number b) ≡ counts t number b
       tested = take-taken s number b (r .lengths) (r .is-valid) .0 ∙ same-next s t r number b
 
-      reached : (c : Bool) → counts t number b ≡ c → Reach (after s (take number b)) (cond c (withBlock t b) t)
-      reached c e = subst (λ (c : Bool). Reach (after s (take number b)) (cond c (withBlock t b) t)) e (after-call s t r (take number b))
+      reached : (c : Bool) → counts t number b ≡ c → Reach (takeAfter s number b) (cond c (withBlock t b) t)
+      reached c e = subst (λ (c : Bool). Reach (takeAfter s number b) (cond c (withBlock t b) t)) e (after-call s t r (take number b))
 
       go : (a : TakeAnswer) → takeAnswer s number b ≡ a → (c : Bool) → counts t number b ≡ c
-          → ((t′ : Tally) (seen′ : List ℕ) → Reach (after s (take number b)) t′ → Seen seen′ (t′ .blocks)
-          → read (t′ .table) + answered adds seen′ (after s (take number b)) cs ≡ read (tallyAll (after s (take number b)) t′ cs .table))
-          → read (t .table) + cond (accepted a && not (member number seen)) (adds b + answered adds (number ∷ seen) (after s (take number b)) cs)
-          (answered adds seen (after s (take number b)) cs)
-          ≡ read (tallyAll (after s (take number b)) (cond c (withBlock t b) t) cs .table)
+          → ((t′ : Tally) (seen′ : List ℕ) → Reach (takeAfter s number b) t′ → Seen seen′ (t′ .blocks)
+          → read (t′ .table) + answered adds seen′ (takeAfter s number b) cs ≡ read (tallyAll (takeAfter s number b) t′ cs .table))
+          → read (t .table) + cond (accepted a && not (oneOf number seen)) (adds b + answered adds (number ∷ seen) (takeAfter s number b) cs)
+          (answered adds seen (takeAfter s number b) cs)
+          ≡ read (tallyAll (takeAfter s number b) (cond c (withBlock t b) t) cs .table)
       go (Taken m) e true p again =
           let f = taken-facts s number b m e in
           let n : number ≡ t .blocks = f .next ∙ r .numbered in
-          let fresh : member number seen ≡ false = h number ∙ le-ltb number (t .blocks) (omega arith) in
-          let rest = answered adds (number ∷ seen) (after s (take number b)) cs in
+          let fresh : oneOf number seen ≡ false = h number ∙ le-ltb number (t .blocks) (omega arith) in
+          let rest = answered adds (number ∷ seen) (takeAfter s number b) cs in
           rw fresh
           (sym (add-assoc (read (t .table)) (adds b) rest)
           ∙ ap (λ (x : ℕ). x + rest) (sym (more (t .table) b))
@@ -124,35 +125,30 @@ module _ (adds : List ℕ → ℕ) (read : DegreeTable → ℕ) (more : (u : Deg
       go Held e true p again = absurd (true≢false (sym (ap isTaken (sym e) ∙ tested ∙ p)))
       go Held e false p again =
           let f = held-facts s number b e in
-          let known : member number seen ≡ true = h number ∙ lt-ltb number (t .blocks) (omega (arith, f .low, r .numbered)) in
+          let known : oneOf number seen ≡ true = h number ∙ lt-ltb number (t .blocks) (omega (arith, f .low, r .numbered)) in
           rw known (again t seen (reached false p) h)
       go (Refused q) e true p again = absurd (true≢false (sym (ap isTaken (sym e) ∙ tested ∙ p)))
       go (Refused q) e false p again = again t seen (reached false p) h
-  answered-tally (layOut ∷ cs) s t seen r h =
+  answered-tally (changes layOut ∷ cs) s t seen r h =
       let p = lays-still t (laysOut t) in
       through t (tally t (told s layOut)) _ _ (p .0)
-      (answered-tally cs (after s layOut) (tally t (told s layOut)) seen (after-call s t r layOut) (seen-still seen t (tally t (told s layOut)) (p .1) h))
-  answered-tally (add v w ∷ cs) s t seen r h =
+      (answered-tally cs (layOutAfter s) (tally t (told s layOut)) seen (after-call s t r layOut) (seen-still seen t (tally t (told s layOut)) (p .1) h))
+  answered-tally (changes (add v w) ∷ cs) s t seen r h =
       let p = add-still t (addAnswer s v w) in
       through t (tally t (told s (add v w))) _ _ (p .0)
-      (answered-tally cs (after s (add v w)) (tally t (told s (add v w))) seen (after-call s t r (add v w))
+      (answered-tally cs (addAfter s v w) (tally t (told s (add v w))) seen (after-call s t r (add v w))
       (seen-still seen t (tally t (told s (add v w))) (p .1) h))
-  answered-tally (remove v w ∷ cs) s t seen r h =
+  answered-tally (changes (remove v w) ∷ cs) s t seen r h =
       let p = remove-still t (removeAnswer s v w) in
       through t (tally t (told s (remove v w))) _ _ (p .0)
-      (answered-tally cs (after s (remove v w)) (tally t (told s (remove v w))) seen (after-call s t r (remove v w))
+      (answered-tally cs (removeAfter s v w) (tally t (told s (remove v w))) seen (after-call s t r (remove v w))
       (seen-still seen t (tally t (told s (remove v w))) (p .1) h))
-  answered-tally (complete f out ∷ cs) s t seen r h =
+  answered-tally (changes (complete f out) ∷ cs) s t seen r h =
       let p = complete-still t (choiceAnswer f s (length out)) in
       through t (tally t (told s (complete f out))) _ _ (p .0)
-      (answered-tally cs (after s (complete f out)) (tally t (told s (complete f out))) seen (after-call s t r (complete f out))
+      (answered-tally cs (choiceAfter f s (length out)) (tally t (told s (complete f out))) seen (after-call s t r (complete f out))
       (seen-still seen t (tally t (told s (complete f out))) (p .1) h))
-  answered-tally (readBack number ∷ cs) s t seen r h = answered-tally cs s t seen r h
-  answered-tally (list out ∷ cs) s t seen r h = answered-tally cs s t seen r h
-  answered-tally (figures ∷ cs) s t seen r h = answered-tally cs s t seen r h
-  answered-tally (survey e total out ∷ cs) s t seen r h = answered-tally cs s t seen r h
-  answered-tally (writeGraph6 e total out ∷ cs) s t seen r h = answered-tally cs s t seen r h
-  answered-tally (readGraph6 text out ∷ cs) s t seen r h = answered-tally cs s t seen r h
+  answered-tally (reads q ∷ cs) s t seen r h = answered-tally cs s t seen r h
 
   -- those answered since the clear are what the tally has there
   answered-here : read noTable ≡ 0 → (calls : List Call) → answered adds [] cleared calls ≡ read (tallyAll cleared noTally calls .table)
@@ -168,97 +164,82 @@ answered-table calls =
 
 -- a state that completing left, and that nothing has moved since
 record Done (s : State) : Type 0 where
-  lengths : lengthsOk s ≡ true
-  is-valid : valid s ≡ true
-  phased : phase (s .journal) ≡ 1
+  valid-laid : ValidLaid s
   has : HasTable (tableOf (s .journal)) s
 
 done-completed : (s : State) (f : Choice) (out : List ℕ) (joins switches n : ℕ)
     → choiceAnswer f s (length out) ≡ Completed joins switches n
-    → Done (after s (complete f out))
+    → Done (choiceAfter f s (length out))
 done-completed s f out joins switches n e =
     let facts = completed-facts s (outcome f s) (length out) joins switches n e .facts in
     let x = outcome-works f s facts in
-    subst Done (sym (after-finish s f out joins switches n e))
-    (record { lengths = x .lengths; is-valid = x .is-valid; phased = facts .phased; has = outcome-has s f facts })
+    subst Done (sym (after-choice s f out joins switches n e))
+    (record { valid-laid = record { lengths = x .lengths; is-valid = x .is-valid; phased = facts .phased }; has = outcome-has s f facts })
 
 -- completed again, or refused
-done-complete : (s : State) (f : Choice) (out : List ℕ) → Done s → Done (after s (complete f out))
-done-complete s f out d = go (ranAnswer r s (length out)) refl
+done-complete : (s : State) (f : Choice) (out : List ℕ) → Done s → Done (choiceAfter f s (length out))
+done-complete s f out d = go (choiceAnswer f s (length out)) refl
   where
-    r : Ran
-    r = outcome f s
-
-    go : (a : CompleteAnswer) → ranAnswer r s (length out) ≡ a → Done (after s (complete f out))
+    go : (a : CompleteAnswer) → choiceAnswer f s (length out) ≡ a → Done (choiceAfter f s (length out))
     go (Completed joins switches n) e = done-completed s f out joins switches n e
-    go (CompleteRefused q) e =
-        subst (λ (h : List ℕ). Done (record { journal = s .journal; adjacency = h }))
-        (sym (ap (λ (a : CompleteAnswer). ranAfter a r (s .adjacency)) e)) d
+    go (CompleteRefused q) e = subst Done (sym (ap (λ (a : CompleteAnswer). afterRan a (outcome f s) s) e)) d
 
 -- no block is taken and nothing is laid out in phase 1
-done-take : (s : State) → Done s → (number : ℕ) (b : List ℕ) → after s (take number b) ≡ s
+done-take : (s : State) → Done s → (number : ℕ) (b : List ℕ) → takeAfter s number b ≡ s
 done-take s d number b =
-    ap (λ (h : List ℕ). record { journal = h; adjacency = s .adjacency })
-    (take-taken s number b (d .lengths) (d .is-valid) .1 ∙ rw (d .phased, and-false (wellFormed b && eqb number (blocks (s .journal)))))
+    let l = d .valid-laid in
+    take-taken s number b (l .lengths) (l .is-valid) .1 ∙ rw (l .phased, and-false (wellFormed b && eqb number (blocks (s .journal))))
 
-done-layOut : (s : State) → Done s → after s layOut ≡ s
-done-layOut s d =
-    ap (λ (h : List ℕ). record { journal = h; adjacency = s .adjacency })
-    (lay-out-laid-out s (d .lengths) (d .is-valid) .1 ∙ rw (d .phased))
+done-layOut : (s : State) → Done s → layOutAfter s ≡ s
+done-layOut s d = let l = d .valid-laid in lay-out-laid-out s (l .lengths) (l .is-valid) .1 ∙ rw (l .phased)
 
-done-add : (s : State) (v w : ℕ) → addRefused (addAnswer s v w) ≡ true → after s (add v w) ≡ s
+done-add : (s : State) (v w : ℕ) → addRefused (addAnswer s v w) ≡ true → addAfter s v w ≡ s
 done-add s v w e = go (addAnswer s v w) e
   where
-    go : (a : AddAnswer) → addRefused a ≡ true
-        → _≡_ {A = State} (record { journal = s .journal; adjacency = addAdjacency a s v w }) s
+    go : (a : AddAnswer) → addRefused a ≡ true → afterAdd a s v w ≡ s
     go (Add.Added m) h = absurd (true≢false (sym h))
     go (Add.Refused r) h = refl
 
-done-remove : (s : State) (v w : ℕ) → removeRefused (removeAnswer s v w) ≡ true → after s (remove v w) ≡ s
+done-remove : (s : State) (v w : ℕ) → removeRefused (removeAnswer s v w) ≡ true → removeAfter s v w ≡ s
 done-remove s v w e = go (removeAnswer s v w) e
   where
-    go : (a : RemoveAnswer) → removeRefused a ≡ true
-        → _≡_ {A = State} (record { journal = s .journal; adjacency = removeAdjacency a (s .adjacency) v w }) s
+    go : (a : RemoveAnswer) → removeRefused a ≡ true → afterRemove a s v w ≡ s
     go Remove.Removed h = absurd (true≢false (sym h))
     go (Remove.Refused r) h = refl
 
--- calls that add and remove nothing leave it so
+-- a call that adds and removes nothing leaves it so, and so do all of them
+done-call : (c : Change) (s : State) → Done s → quietly s c ≡ true → Done (changed s c)
+done-call (take number b) s d q = subst Done (sym (done-take s d number b)) d
+done-call layOut s d q = subst Done (sym (done-layOut s d)) d
+done-call (add v w) s d q = subst Done (sym (done-add s v w q)) d
+done-call (remove v w) s d q = subst Done (sym (done-remove s v w q)) d
+done-call (complete f out) s d q = done-complete s f out d
+
 done-rest : (rest : List Call) (s : State) → Done s → quiet s rest ≡ true → Done (afterAll s rest)
 done-rest [] s d q = d
-done-rest (take number b ∷ cs) s d q = done-rest cs (after s (take number b)) (subst Done (sym (done-take s d number b)) d) q
-done-rest (layOut ∷ cs) s d q = done-rest cs (after s layOut) (subst Done (sym (done-layOut s d)) d) q
-done-rest (add v w ∷ cs) s d q =
-    let a = and-left (addRefused (addAnswer s v w)) (quiet (after s (add v w)) cs) q in
-    done-rest cs (after s (add v w)) (subst Done (sym (done-add s v w a)) d)
-    (and-right (addRefused (addAnswer s v w)) (quiet (after s (add v w)) cs) q)
-done-rest (remove v w ∷ cs) s d q =
-    let a = and-left (removeRefused (removeAnswer s v w)) (quiet (after s (remove v w)) cs) q in
-    done-rest cs (after s (remove v w)) (subst Done (sym (done-remove s v w a)) d)
-    (and-right (removeRefused (removeAnswer s v w)) (quiet (after s (remove v w)) cs) q)
-done-rest (complete f out ∷ cs) s d q = done-rest cs (after s (complete f out)) (done-complete s f out d) q
-done-rest (readBack number ∷ cs) s d q = done-rest cs s d q
-done-rest (list out ∷ cs) s d q = done-rest cs s d q
-done-rest (figures ∷ cs) s d q = done-rest cs s d q
-done-rest (survey e total out ∷ cs) s d q = done-rest cs s d q
-done-rest (writeGraph6 e total out ∷ cs) s d q = done-rest cs s d q
-done-rest (readGraph6 text out ∷ cs) s d q = done-rest cs s d q
+done-rest (changes c ∷ cs) s d q =
+    done-rest cs (changed s c) (done-call c s d (and-left (quietly s c) (quiet (changed s c) cs) q)) (and-right (quietly s c) (quiet (changed s c) cs) q)
+done-rest (reads x ∷ cs) s d q = done-rest cs s d q
 
 -- completed, and nothing moved since
 completed-has : (before rest : List Call) (f : Choice) (out : List ℕ) (joins switches n : ℕ)
     → let s = afterAll cleared before in
     choiceAnswer f s (length out) ≡ Completed joins switches n
-    → quiet (after s (complete f out)) rest ≡ true
-    → HasTable (answeredSum (before ++ complete f out ∷ rest)) (afterAll (after s (complete f out)) rest)
+    → quiet (choiceAfter f s (length out)) rest ≡ true
+    → HasTable (answeredSum (before ++ changes (complete f out) ∷ rest)) (afterAll (choiceAfter f s (length out)) rest)
 completed-has before rest f out joins switches n e q =
-    subst (λ (u : DegreeTable). HasTable u (afterAll (after (afterAll cleared before) (complete f out)) rest)) (sym same) (d .has)
+    subst (λ (u : DegreeTable). HasTable u (afterAll (choiceAfter f (afterAll cleared before) (length out)) rest)) (sym same) (d .has)
   where
-    d : Done (afterAll (after (afterAll cleared before) (complete f out)) rest)
-    d = done-rest rest (after (afterAll cleared before) (complete f out)) (done-completed (afterAll cleared before) f out joins switches n e) q
+    d : Done (afterAll (choiceAfter f (afterAll cleared before) (length out)) rest)
+    d =
+        done-rest rest (choiceAfter f (afterAll cleared before) (length out))
+        (done-completed (afterAll cleared before) f out joins switches n e) q
 
-    same : answeredSum (before ++ complete f out ∷ rest) ≡ tableOf (afterAll (after (afterAll cleared before) (complete f out)) rest .journal)
+    same : answeredSum (before ++ changes (complete f out) ∷ rest)
+        ≡ tableOf (afterAll (choiceAfter f (afterAll cleared before) (length out)) rest .journal)
     same =
-        answered-table (before ++ complete f out ∷ rest)
-        ∙ ap (λ (s : State). tableOf (s .journal)) (after-append before (complete f out ∷ rest) cleared)
+        answered-table (before ++ changes (complete f out) ∷ rest)
+        ∙ ap (λ (s : State). tableOf (s .journal)) (after-append before (changes (complete f out) ∷ rest) cleared)
 
 -- laid, and no cell short: no cell is above the table on a valid state, so that every cell is the table's
 finished-has : (s : State) (lengths : lengthsOk s ≡ true) (is-valid : valid s ≡ true)

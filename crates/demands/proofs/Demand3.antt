@@ -22,39 +22,33 @@ use Rattle.layout.specs.Layout.{wanted}
 use Rattle.journal.specs.Journal.{phase, jdmOf, tableOf}
 use Rattle.journal.proofs.Table.{jdm-table}
 use Rattle.adjacency.specs.Adjacency.{edge}
-use Rattle.state.specs.Valid.{valid}
+use Rattle.state.specs.State.{State, withMatrix, cleared}
+use Rattle.state.specs.Valid.{valid, ValidLaid}
 use Rattle.state.specs.Laid.{vertexCount, classAt}
 use Rattle.state.proofs.Facts.{edgeTotal, StateFacts, Laid, valid-facts}
 use Rattle.lay_out.proofs.LayOut.{lay-out-honest}
-use Rattle.add_edge.specs.Add.{addAnswer, addAdjacency}
+use Rattle.add_edge.specs.Add.{addAnswer, afterAdd, addAfter}
 use Rattle.add_edge.proofs.Add.{AddFacts, facts-added, AddWorks, add-works}
 use Rattle.joining.specs.Join.{joinBytes, joinSwitches}
 use Rattle.join_records.specs.Record.{joinRecordSize}
-use Rattle.complete.specs.Complete.{Ran, missing, ranAnswer, ranAfter}
-use Rattle.complete.proofs.Entry.{CompleteFacts, short-refused, CompleteWorks}
-use Rattle.complete_shuffled.specs.Outcome.{outcome}
+use Rattle.complete.specs.Complete.{Ran, missing, afterRan}
+use Rattle.complete.proofs.Entry.{short-refused, CompleteWorks}
+use Rattle.complete_shuffled.specs.Outcome.{outcome, choiceAnswer}
 use Rattle.complete_shuffled.proofs.Works.{outcome-works}
-use Rattle.demands.specs.Calls.{State, cleared, afterAll}
+use Rattle.demands.specs.Calls.{Call, afterAll}
 use Rattle.demands.specs.Tally.{Tally, noTally, missingEdges, tallyAll}
 use Rattle.demands.specs.Matrix.{Short}
 use Rattle.demands.specs.Demand3 as D
-use Rattle.demands.proofs.Finishes.{outcome-answer, after-finish, finish-has}
+use Rattle.demands.proofs.Choices.{outcome-answer, after-choice, choice-has}
 use Rattle.demands.proofs.Reach.{Reach, reach, laid-counted, phase-0, phase-1}
 
 -- Everything is first said of the journal's own table, which is the tally's.
-module _ (s : State) (lengths : Rattle.state.specs.Valid.lengthsOk s ≡ true) (is-valid : valid s ≡ true)
-    (phased : phase (s .journal) ≡ 1) where
-  j : List ℕ
-  j = s .journal
-
-  g : List ℕ
-  g = s .adjacency
-
+module _ (s : State) (checked : ValidLaid s) where
   facts : StateFacts s
-  facts = valid-facts s lengths is-valid
+  facts = valid-facts s (checked .lengths) (checked .is-valid)
 
   laid : Laid s
-  laid = facts .laid phased
+  laid = facts .laid (checked .phased)
 
   simple : Simple (vertexCount s) (edge (s .adjacency))
   simple = laid .partial .simple
@@ -91,12 +85,11 @@ module _ (s : State) (lengths : Rattle.state.specs.Valid.lengthsOk s ≡ true) 
   joins v w o = go (facts-added s v w f) (add-works s v w f)
     where
       f : AddFacts s v w
-      f = record { lengths = lengths; is-valid = is-valid; phased = phased; pair = open-pair v w o }
+      f = record { lengths = checked .lengths; is-valid = checked .is-valid; phased = checked .phased; pair = open-pair v w o }
 
       to : addAnswer s v w ≡ Added (joinSwitches (vertexCount s) (classAt s) (s .adjacency) v w)
-          → addAdjacency (addAnswer s v w) s v w
-          ≡ joinBytes (vertexCount s) (classAt s) (s .adjacency) v w
-      to e = ap (λ (a : AddAnswer). addAdjacency a s v w) e
+          → addAfter s v w ≡ withMatrix s (joinBytes (vertexCount s) (classAt s) (s .adjacency) v w)
+      to e = ap (λ (a : AddAnswer). afterAdd a s v w) e
 
       go : addAnswer s v w ≡ Added (joinSwitches (vertexCount s) (classAt s) (s .adjacency) v w)
           → AddWorks s v w (joinBytes (vertexCount s) (classAt s) (s .adjacency) v w)
@@ -105,12 +98,12 @@ module _ (s : State) (lengths : Rattle.state.specs.Valid.lengthsOk s ≡ true) 
           record {
             switches = joinSwitches (vertexCount s) (classAt s) (s .adjacency) v w;
             answer = e;
-            is-valid = subst (λ (h : List ℕ). valid (s .journal) h ≡ true) (sym (to e)) (x .is-valid);
-            linked = subst (λ (h : List ℕ). edge h v w ≡ 1) (sym (to e)) (x .linked);
-            one-more = subst (λ (h : List ℕ). edgeTotal (s .journal) h ≡ edgeTotal s + 1) (sym (to e)) (x .one-more);
+            is-valid = subst (λ (y : State). valid y ≡ true) (sym (to e)) (x .is-valid);
+            linked = subst (λ (y : State). edge (y .adjacency) v w ≡ 1) (sym (to e)) (x .linked);
+            one-more = subst (λ (y : State). D.edgesLaid (tableOf (s .journal)) y ≡ edgeTotal s + 1) (sym (to e)) (x .one-more);
           }
 
-  -- a short cell has an open pair; no cell past the degrees is short
+  -- a short cell has an open pair; no cell past the classes is short
   some-pair : (k l : ℕ) → Short (tableOf (s .journal)) s k l → (v w : ℕ) × D.OpenPair (tableOf (s .journal)) s v w
   some-pair k l h =
       let o = short-has-open-pair (vertexCount s) mostClasses (classAt s) classDegree (jdmOf (s .journal)) (edge (s .adjacency)) (laid .target)
@@ -144,9 +137,6 @@ module _ (s : State) (lengths : Rattle.state.specs.Valid.lengthsOk s ≡ true) 
 
   -- Completing. The tally t has the journal's table and the matrix's edges, and so the edges missing.
   module _ (t : Tally) (same : tableOf (s .journal) ≡ t .table) (counted : edgeTotal s ≡ t .edges) (f : Choice) (out : List ℕ) where
-    checked : CompleteFacts s
-    checked = record { lengths = lengths; is-valid = is-valid; phased = phased }
-
     abbrev r : Ran
     r = outcome f s
 
@@ -160,7 +150,7 @@ module _ (s : State) (lengths : Rattle.state.specs.Valid.lengthsOk s ≡ true) 
         (outcome-answer s f checked (length out) (omega (arith, same-missing, room))))
       where
         own : CompleteWorks s r
-            → ranAnswer r s (length out) ≡ Completed (r .joins) (r .switches) (joinRecordSize * r .joins)
+            → choiceAnswer f s (length out) ≡ Completed (r .joins) (r .switches) (joinRecordSize * r .joins)
             → D.Completes (record { blocks = t .blocks; table = tableOf (s .journal); laid = t .laid; edges = t .edges }) s f out
         own x a =
             record {
@@ -169,9 +159,9 @@ module _ (s : State) (lengths : Rattle.state.specs.Valid.lengthsOk s ≡ true) 
               answer = a;
               missing = omega (arith, x .all, x .more, counted);
               more =
-                  subst (λ (s′ : State). edgeTotal (s .journal) (s′ .adjacency) ≡ edgeTotal s + r .joins)
-                  (sym (after-finish s f out (r .joins) (r .switches) (joinRecordSize * r .joins) a)) (x .more);
-              has-table = finish-has s f out (r .joins) (r .switches) (joinRecordSize * r .joins) checked a;
+                  subst (λ (s′ : State). D.edgesLaid (tableOf (s .journal)) s′ ≡ edgeTotal s + r .joins)
+                  (sym (after-choice s f out (r .joins) (r .switches) (joinRecordSize * r .joins) a)) (x .more);
+              has-table = choice-has s f out (r .joins) (r .switches) (joinRecordSize * r .joins) checked a;
             }
 
     refuses : (D.HasRoom t out → ⊥) → D.RefusedShort s f out
@@ -179,7 +169,7 @@ module _ (s : State) (lengths : Rattle.state.specs.Valid.lengthsOk s ≡ true) 
         let e = short-refused s r (length out) checked (omega (arith, same-missing, no-room)) in
         record {
           answer = e;
-          unchanged = ap (λ (a : CompleteAnswer). record { journal = s .journal; adjacency = ranAfter a r (s .adjacency) }) e;
+          unchanged = ap (λ (a : CompleteAnswer). afterRan a r s) e;
         }
 
 pub demand-3 : D.Demand3
@@ -199,7 +189,7 @@ demand-3 calls = (not-laid, laid-out)
         record {
           honest =
               subst (λ (u : DegreeTable). D.RefusedForWantOfAGraph (afterAll cleared calls) ↔ (Realized (u .cells) → ⊥)) (r .table)
-              (lay-out-honest (afterAll cleared calls .journal) (afterAll cleared calls .adjacency) (r .lengths) (r .is-valid) (phase-0 _ _ r e));
+              (lay-out-honest (afterAll cleared calls) (r .lengths) (r .is-valid) (phase-0 _ _ r e));
         }
 
     laid-out : tallyAll cleared noTally calls .laid ≡ true → D.Laid (tallyAll cleared noTally calls) (afterAll cleared calls)
@@ -208,17 +198,17 @@ demand-3 calls = (not-laid, laid-out)
           joinable = λ v w o.
               let p = subst (λ (u : DegreeTable). D.OpenPair u (afterAll cleared calls) v w) (sym (r .table)) o in (
                 subst (λ (u : DegreeTable). D.CanBeJoined u (afterAll cleared calls) v w) (r .table)
-                    (joins (afterAll cleared calls) (r .lengths) (r .is-valid) (phase-1 _ _ r e) v w p),
+                    (joins (afterAll cleared calls) valid-laid v w p),
                 subst (λ (u : DegreeTable). D.CanBeJoined u (afterAll cleared calls) w v) (r .table)
-                    (joins (afterAll cleared calls) (r .lengths) (r .is-valid) (phase-1 _ _ r e) w v
-                    (turn (afterAll cleared calls) (r .lengths) (r .is-valid) (phase-1 _ _ r e) v w p)),
+                    (joins (afterAll cleared calls) valid-laid w v (turn (afterAll cleared calls) valid-laid v w p)),
               );
           pair = λ k l h.
-              let q = some-pair (afterAll cleared calls) (r .lengths) (r .is-valid) (phase-1 _ _ r e) k l
+              let q = some-pair (afterAll cleared calls) valid-laid k l
               (subst (λ (u : DegreeTable). Short u (afterAll cleared calls) k l) (sym (r .table)) h) in
               (q .0, q .1, subst (λ (u : DegreeTable). D.OpenPair u (afterAll cleared calls) (q .0) (q .1)) (r .table) (q .2));
-          completes = completes (afterAll cleared calls) (r .lengths) (r .is-valid) (phase-1 _ _ r e) (tallyAll cleared noTally calls) (r .table)
-              (laid-counted _ _ r e);
-          refuses = refuses (afterAll cleared calls) (r .lengths) (r .is-valid) (phase-1 _ _ r e) (tallyAll cleared noTally calls) (r .table)
-              (laid-counted _ _ r e);
+          completes = completes (afterAll cleared calls) valid-laid (tallyAll cleared noTally calls) (r .table) (laid-counted _ _ r e);
+          refuses = refuses (afterAll cleared calls) valid-laid (tallyAll cleared noTally calls) (r .table) (laid-counted _ _ r e);
         }
+      where
+        valid-laid : ValidLaid (afterAll cleared calls)
+        valid-laid = record { lengths = r .lengths; is-valid = r .is-valid; phased = phase-1 _ _ r e }

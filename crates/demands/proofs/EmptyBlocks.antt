@@ -20,7 +20,7 @@ use Rattle.state.proofs.Checks.{state-go}
 use Rattle.state.proofs.Facts.{valid-journal}
 use Rattle.take_block.specs.Take.{takeOnValid}
 use Rattle.take_block.proofs.Take.{TakenFacts, facts-taken, taken-table}
-use Rattle.demands.specs.Calls.{State}
+use Rattle.state.specs.State.{State}
 use Rattle.demands.specs.Tally.{Tally, counts, withBlock}
 use Rattle.demands.specs.EmptyBlocks.{TakesEmpty, EmptyBlocks}
 use Rattle.demands.proofs.Chains.{OfTake, later-numbers}

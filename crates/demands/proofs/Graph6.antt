@@ -37,7 +37,8 @@ use Rattle.graph6.proofs.Text.{framed-facts, framed-small, text-bit, text-size,
 use Rattle.graph6_write.specs.Write.{writeText, writeListed, writeAnswer}
 use Rattle.graph6_read.specs.Read.{readList, readAnswer}
 use Rattle.finite.proofs.All.{and-left}
-use Rattle.demands.specs.Demand1.{oneOf, Numbered}
+use Rattle.answer.specs.Numbers.{oneOf}
+use Rattle.demands.specs.Demand1.{Numbered}
 use Rattle.demands.proofs.Chains.{OfWritten}
 use Rattle.demands.proofs.Demand1.{write-rest, survey-rest}
 use Rattle.demands.specs.Graph6.{textIn, listIn, Wrote, WasRead, Graph6}
@@ -188,10 +189,11 @@ graph6 =
       survey-as-refused = λ e total m k r nineteen h.
           same-refusal (listVerdict e total) (surveyListed e total k) (writeListed e total m) r
           (λ q. other-than-19 (20 ∷ 18 ∷ []) refl r (subst (OfWritten (20 ∷ 18 ∷ []) (length (surveyRecords e total)) k) q (survey-rest (20 ∷ 18 ∷ []) refl refl e total k)) nineteen) h;
-      laid = λ j g lengths is-valid phased.
-          let l = valid-facts j g lengths is-valid .laid phased in
-          let n = vertexCount j in
-          let e = text-cong n (edge g) (graphOf (listBytes n g)) (same j g l) in (
+      laid = λ s v.
+          let l = valid-facts s (v .lengths) (v .is-valid) .laid (v .phased) in
+          let n = vertexCount s in
+          let g = s .adjacency in
+          let e = text-cong n (edge g) (graphOf (listBytes n g)) (same s l) in (
             e,
             rw e (text-graph n (edge g) (l .vertices-le) (l .partial .simple)),
             λ m h. write-done (listBytes n g) n m (list-passed n (edge g) (l .vertices-le)) h,

@@ -1,7 +1,8 @@
 pub mod Chains
-pub mod Finishes
+pub mod Choices
 pub mod Demand1
 pub mod Reach
+pub mod Journals
 pub mod Kept
 pub mod EmptyBlocks
 pub mod Demand2

@@ -16,6 +16,7 @@ use Rattle.graph.proofs.Counts.{same-table}
 use Rattle.graph.proofs.Edge.{degree-same, jdm-same}
 use Rattle.graph.proofs.Matrix.{jdm-classes}
 use Rattle.adjacency.specs.Adjacency.{edge}
+use Rattle.state.specs.State.{State}
 use Rattle.state.specs.Laid.{vertexCount}
 use Rattle.state.proofs.Facts.{Laid, valid-facts}
 use Rattle.edge_list.specs.List.{listBytes}
@@ -31,40 +32,40 @@ table-same n E E′ same =
     same-table (λ k l. jdm-classes n (degree n E′) (degree n E) E′ d k l ∙ jdm-same n E E′ same (degree n E) k l)
     (sumTo-cong n (λ v. δ (degree n E′ v) 0) (λ v. δ (degree n E v) 0) (λ v p. rw (d v p)))
 
-module _ (j g : List ℕ) (laid : Laid j g) where
+module _ (s : State) (laid : Laid s) where
   -- the list has the edges of the matrix
-  pub same : SameOn (vertexCount j) (edge g) (graphOf (listBytes (vertexCount j) g))
-  same = list-graph (vertexCount j) (edge g) (laid .partial .simple)
+  pub same : SameOn (vertexCount s) (edge (s .adjacency)) (graphOf (listBytes (vertexCount s) (s .adjacency)))
+  same = list-graph (vertexCount s) (edge (s .adjacency)) (laid .partial .simple)
 
-  records : surveyRecords (listBytes (vertexCount j) g) (vertexCount j) ≡ recordsOf (ownTable (vertexCount j) (edge g))
-  records = ap recordsOf (table-same (vertexCount j) (edge g) (graphOf (listBytes (vertexCount j) g)) same)
+  records : surveyRecords (listBytes (vertexCount s) (s .adjacency)) (vertexCount s) ≡ recordsOf (ownTable (vertexCount s) (edge (s .adjacency)))
+  records = ap recordsOf (table-same (vertexCount s) (edge (s .adjacency)) (graphOf (listBytes (vertexCount s) (s .adjacency))) same)
 
   -- no vertex of the list has a degree above 40
-  low : (v : ℕ) → v < vertexCount j → degree (vertexCount j) (graphOf (listBytes (vertexCount j) g)) v ≤ mostDegree
+  low : (v : ℕ) → v < vertexCount s → degree (vertexCount s) (graphOf (listBytes (vertexCount s) (s .adjacency))) v ≤ mostDegree
   low v l =
       omega (
         arith,
-        degree-same (vertexCount j) (edge g) (graphOf (listBytes (vertexCount j) g)) same v l,
+        degree-same (vertexCount s) (edge (s .adjacency)) (graphOf (listBytes (vertexCount s) (s .adjacency))) same v l,
         laid .partial .room v l,
         laid .target .classed v l,
       )
 
-  none : firstAbove (listBytes (vertexCount j) g) (vertexCount j) ≡ vertexCount j
+  none : firstAbove (listBytes (vertexCount s) (s .adjacency)) (vertexCount s) ≡ vertexCount s
   none =
-      lowest-none 0 (vertexCount j) (λ v. ltb mostDegree (degree (vertexCount j) (graphOf (listBytes (vertexCount j) g)) v)) (omega arith)
-      (λ v z l. le-ltb mostDegree (degree (vertexCount j) (graphOf (listBytes (vertexCount j) g)) v) (low v l))
+      lowest-none 0 (vertexCount s) (λ v. ltb mostDegree (degree (vertexCount s) (graphOf (listBytes (vertexCount s) (s .adjacency))) v)) (omega arith)
+      (λ v z l. le-ltb mostDegree (degree (vertexCount s) (graphOf (listBytes (vertexCount s) (s .adjacency))) v) (low v l))
 
 pub list-surveyed : ListSurveyed
-list-surveyed j g lengths is-valid phased = (
-  records j g laid,
+list-surveyed s v = (
+  records s laid,
   λ m h.
       rw (
-        list-passed (vertexCount j) (edge g) (laid .vertices-le),
-        none j g laid,
-        eq-eqb (vertexCount j) (vertexCount j) refl,
-        le-leb (length (surveyRecords (listBytes (vertexCount j) g) (vertexCount j))) m h,
+        list-passed (vertexCount s) (edge (s .adjacency)) (laid .vertices-le),
+        none s laid,
+        eq-eqb (vertexCount s) (vertexCount s) refl,
+        le-leb (length (surveyRecords (listBytes (vertexCount s) (s .adjacency)) (vertexCount s))) m h,
       ),
 )
   where
-    laid : Laid j g
-    laid = valid-facts j g lengths is-valid .laid phased
+    laid : Laid s
+    laid = valid-facts s (v .lengths) (v .is-valid) .laid (v .phased)

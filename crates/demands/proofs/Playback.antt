@@ -31,7 +31,7 @@ use Rattle.complete.proofs.Entry.{CompleteFacts, good-start, CompleteWorks}
 use Rattle.complete_shuffled.specs.Outcome.{outcome}
 use Rattle.complete_shuffled.proofs.Works.{outcome-works}
 use Rattle.demands.specs.Playback.{play, CompletingPlays, addedRecord, Playback}
-use Rattle.demands.proofs.Finishes.{By, by, outcome-answer}
+use Rattle.demands.proofs.Choices.{By, by, outcome-answer}
 use Rattle.demands.proofs.Playing.{fits, playJoin, join-plays, play-none, play-more}
 
 -- a run's records, played onto the matrix it began with, give the matrix it has come to, whichever pairs are chosen
@@ -58,63 +58,64 @@ module _ (n : ℕ) (cls : ℕ → ℕ) (T : ℕ → ℕ → ℕ) {S : Type 0} (c
                 ∙ join-plays n cls T (r .adjacency) (c .v s) (c .w s) (f .sized) (f .few) (f .target) (f .partial) (c .pair s (h .0) t)),
           )
 
-completing-plays : (f : Choice) (j g out : List ℕ) → lengthsOk j g ≡ true → valid j g ≡ true → phase j ≡ 1 → 8 * missing j g ≤ length out
-    → CompletingPlays f j g out
-completing-plays f j g out lengths is-valid phased room =
+completing-plays : (f : Choice) (s : State) (out : List ℕ) → ValidLaid s → 8 * missing s ≤ length out → CompletingPlays f s out
+completing-plays f s out checked room =
     record {
       joins = r .joins;
       switches = r .switches;
       answer = e;
       made = x .made;
       played =
-          ap (λ (a : CompleteAnswer). play (take (8 * r .joins) (ranOutput a r out)) g) e
-          ∙ ap (λ (k : ℕ). play (take k (sets out 0 (r .records))) g) (sym (x .written))
-          ∙ ap (λ (l : List ℕ). play l g) (take-sets out (r .records) (omega (arith, x .written, x .made)))
-          ∙ rw (b .ends) (run-plays (vertexCount j) (classAt j) (jdmOf j) (b .way) g mostEdges (b .start) (b .begins) (good-start j g checked))
-          ∙ sym (ap (λ (a : CompleteAnswer). fits (ranAfter a r g)) e);
+          ap (λ (a : CompleteAnswer). play (take (8 * r .joins) (outputRan a r out)) (s .adjacency)) e
+          ∙ ap (λ (k : ℕ). play (take k (sets out 0 (r .records))) (s .adjacency)) (sym (x .written))
+          ∙ ap (λ (l : List ℕ). play l (s .adjacency)) (take-sets out (r .records) (omega (arith, x .written, x .made)))
+          ∙ rw (b .ends)
+          (run-plays (vertexCount s) (classAt s) (jdmOf (s .journal)) (b .way) (s .adjacency) mostEdges (b .start) (b .begins) (good-start s checked))
+          ∙ sym (ap (λ (a : CompleteAnswer). fits (afterRan a r s .adjacency)) e);
       rising = λ i l. rw (e, there (8 * i) (omega (arith, x .written)), there (8 * i + 1) (omega (arith, x .written))) (rising i l);
     }
   where
-    checked : CompleteFacts j g
-    checked = record { lengths = lengths; is-valid = is-valid; phased = phased }
-
     r : Ran
-    r = outcome f j g
+    r = outcome f s
 
-    b : By j g (outcome f j g)
-    b = by j g f
+    b : By s (outcome f s)
+    b = by s f
 
-    x : CompleteWorks j g (outcome f j g)
-    x = outcome-works f j g checked
+    x : CompleteWorks s (outcome f s)
+    x = outcome-works f s checked
 
     -- a byte of the records, in the output
     there : (p : ℕ) → p < length (r .records) → getD (sets out 0 (r .records)) p 0 ≡ getD (r .records) p 0
     there p h = rw zero-add at (getD-sets-in out 0 (r .records) p (omega (arith, x .written, x .made)) h)
 
-    rising : Rising (vertexCount j) (outcome f j g)
+    rising : Rising (vertexCount s) (outcome f s)
     rising =
         rw (b .ends)
-        (records-rising (vertexCount j) (classAt j) (jdmOf j) (b .way) (b .rises) mostEdges (b .start) g (b .begins) (good-start j g checked))
+        (records-rising (vertexCount s) (classAt s) (jdmOf (s .journal)) (b .way) (b .rises) mostEdges (b .start) (s .adjacency) (b .begins)
+        (good-start s checked))
 
-    e : ranAnswer (outcome f j g) j g (length out) ≡ Completed (outcome f j g .joins) (outcome f j g .switches) (8 * outcome f j g .joins)
-    e = outcome-answer j g f checked (length out) room
+    e : choiceAnswer f s (length out) ≡ Completed (outcome f s .joins) (outcome f s .switches) (8 * outcome f s .joins)
+    e = outcome-answer s f checked (length out) room
 
-adding-plays : (j g : List ℕ) (v w : ℕ) (s : Switches) → addAnswer j g v w ≡ Added s
-    → play (addedRecord v w s) g ≡ fits (addAdjacency (addAnswer j g v w) j g v w)
-adding-plays j g v w s e =
-    play-more [] 0 v w s g refl
-    ∙ ap (playJoin v w s) (play-none g)
-    ∙ ap (λ (x : Switches). playJoin v w x (fits g)) (added-facts j g v w s e .1)
-    ∙ join-plays (vertexCount j) (classAt j) (jdmOf j) g v w (facts .adjacency-length) (laid .vertices-le) (laid .target) (laid .partial) (f .pair)
-    ∙ sym (ap (λ (a : AddAnswer). fits (addAdjacency a j g v w)) e)
+adding-plays : (s : State) (v w : ℕ) (x : Switches) → addAnswer s v w ≡ Added x
+    → play (addedRecord v w x) (s .adjacency) ≡ fits (addAfter s v w .adjacency)
+adding-plays s v w x e =
+    play-more [] 0 v w x g refl
+    ∙ ap (playJoin v w x) (play-none g)
+    ∙ ap (λ (y : Switches). playJoin v w y (fits g)) (added-facts s v w x e .1)
+    ∙ join-plays (vertexCount s) (classAt s) (jdmOf (s .journal)) g v w (facts .adjacency-length) (laid .vertices-le) (laid .target) (laid .partial) (f .pair)
+    ∙ sym (ap (λ (a : AddAnswer). fits (afterAdd a s v w .adjacency)) e)
   where
-    f : AddFacts j g v w
-    f = added-facts j g v w s e .0
+    abbrev g : List ℕ
+    g = s .adjacency
 
-    facts : StateFacts j g
-    facts = valid-facts j g (f .lengths) (f .is-valid)
+    f : AddFacts s v w
+    f = added-facts s v w x e .0
 
-    laid : Laid j g
+    facts : StateFacts s
+    facts = valid-facts s (f .lengths) (f .is-valid)
+
+    laid : Laid s
     laid = facts .laid (f .phased)
 
 pub playback : Playback

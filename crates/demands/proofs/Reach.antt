@@ -27,22 +27,23 @@ use Rattle.journal.specs.Journal.{mostBlocks, phase, blocks, tableOf, stored, l
 use Rattle.journal.proofs.Store.{phase-stored, blocks-stored, table-stored}
 use Rattle.journal.proofs.Laid.{blocks-laid, table-laid, phase-laid}
 use Rattle.adjacency.proofs.Empty.{no-edges}
+use Rattle.state.specs.State.{State, withJournal, withMatrix, cleared}
 use Rattle.state.specs.Valid.{lengthsOk, valid}
 use Rattle.state.proofs.Facts.{edgeTotal, valid-facts, lengths-journal, valid-journal}
-use Rattle.take_block.specs.Take.{takeAnswer, takeJournal}
-use Rattle.lay_out.specs.LayOut.{layOutAnswer, layOutJournal}
+use Rattle.take_block.specs.Take.{takeAnswer, afterTake}
+use Rattle.lay_out.specs.LayOut.{layOutAnswer, afterLayOut}
 use Rattle.clear.proofs.Cleared.{cleared-state}
 use Rattle.take_block.proofs.Take.{isTaken, isNext, TakenFacts, taken-facts, take-taken, take-lengths, take-valid}
 use Rattle.lay_out.proofs.LayOut.{isLaidOut, laysOut as laysOutNow, LaidOutFacts, lay-out-facts, lay-out-laid-out, lay-out-lengths, lay-out-valid}
-use Rattle.add_edge.specs.Add.{addAnswer, addAdjacency}
-use Rattle.remove_edge.specs.Remove.{removeAnswer, removeAdjacency}
+use Rattle.add_edge.specs.Add.{addAnswer, afterAdd}
+use Rattle.remove_edge.specs.Remove.{removeAnswer, afterRemove}
 use Rattle.add_edge.proofs.Add.{added-facts, add-works}
 use Rattle.remove_edge.proofs.Remove.{removed-facts, remove-works}
-use Rattle.complete.specs.Complete.{Ran, ranAnswer, ranAfter}
+use Rattle.complete.specs.Complete.{Ran, ranAnswer, afterRan}
 use Rattle.complete.proofs.Entry.{completed-facts}
 use Rattle.complete_shuffled.specs.Outcome.{outcome}
 use Rattle.complete_shuffled.proofs.Works.{outcome-works}
-use Rattle.demands.specs.Calls.{Call, take, layOut, add, remove, complete, readBack, list, figures, survey, writeGraph6, readGraph6, State, cleared, after, afterAll}
+use Rattle.demands.specs.Calls.{Change, take, layOut, add, remove, complete, Call, changes, reads, changed, after, afterAll}
 use Rattle.demands.specs.Tally.{Tally, noTally, told, toldAdd, toldRemove, toldComplete, counts, withBlock, laysOut, nowLaid, withEdges, tally, tallyAll}
 
 -- the phase that the tally says
@@ -86,16 +87,16 @@ pub phase-1 : (s : State) (t : Tally) → Reach s t → t .laid ≡ true → pha
 phase-1 s t r e = r .phased ∙ ap phaseOf e
 
 -- the tally's edges moved on a laid state
-with-edges : (s : State) (g′ : List ℕ) (t : Tally) (m : ℕ) → Reach s t → t .laid ≡ true → lengthsOk (s .journal) g′ ≡ true → valid (s .journal) g′ ≡ true
-    → edgeTotal (s .journal) g′ ≡ m → Reach (record { journal = s .journal; adjacency = g′ }) (withEdges t m)
-with-edges s g′ t m r e lengths is-valid count =
+with-edges : (s : State) (g : List ℕ) (t : Tally) (m : ℕ) → Reach s t → t .laid ≡ true → lengthsOk (withMatrix s g) ≡ true → valid (withMatrix s g) ≡ true
+    → edgeTotal (withMatrix s g) ≡ m → Reach (withMatrix s g) (withEdges t m)
+with-edges s g t m r e lengths is-valid count =
     record {
       lengths = lengths;
       is-valid = is-valid;
       table = r .table;
       numbered = r .numbered;
       phased = r .phased;
-      counted = subst (λ (b : Bool). Counted b (edgeTotal (s .journal) g′) m) (sym e) count;
+      counted = subst (λ (b : Bool). Counted b (edgeTotal (withMatrix s g)) m) (sym e) count;
     }
 
 module _ (s : State) (t : Tally) (r : Reach s t) where
@@ -108,17 +109,17 @@ module _ (s : State) (t : Tally) (r : Reach s t) where
       go true = refl
       go false = refl
 
-  after-take : (number : ℕ) (b : List ℕ) → Reach (after s (take number b)) (tally t (told s (take number b)))
+  after-take : (number : ℕ) (b : List ℕ) → Reach (changed s (take number b)) (tally t (told s (take number b)))
   after-take number b = go (takeAnswer s number b) refl (counts t number b) refl
     where
       tested : isTaken (takeAnswer s number b) ≡ counts t number b
       tested = take-taken s number b (r .lengths) (r .is-valid) .0 ∙ same-next number b
 
       go : (a : TakeAnswer) → takeAnswer s number b ≡ a → (c : Bool) → counts t number b ≡ c
-          → Reach (record { journal = takeJournal a (s .journal) b; adjacency = s .adjacency }) (cond c (withBlock t b) t)
+          → Reach (afterTake a s b) (cond c (withBlock t b) t)
       go (Taken m) e true h = new (taken-facts s number b m e)
         where
-          new : TakenFacts s number b → Reach (record { journal = stored (s .journal) b; adjacency = s .adjacency }) (withBlock t b)
+          new : TakenFacts s number b → Reach (withJournal s (stored (s .journal) b)) (withBlock t b)
           new f =
               let size = lengths-journal s (f .lengths) in
               let ok = valid-journal s (f .is-valid) in
@@ -133,7 +134,7 @@ module _ (s : State) (t : Tally) (r : Reach s t) where
                 counted = not-laid (t .laid) refl;
               }
             where
-              not-laid : (l : Bool) → t .laid ≡ l → Counted l (edgeTotal (stored (s .journal) b) (s .adjacency)) (t .edges)
+              not-laid : (l : Bool) → t .laid ≡ l → Counted l (edgeTotal (withJournal s (stored (s .journal) b))) (t .edges)
               not-laid true p = absurd (omega (arith, r .phased, ap phaseOf p, f .taking))
               not-laid false p = subst (λ (l : Bool). Counted l (edgeTotal s) (t .edges)) p (r .counted)
       go (Taken m) e false h = absurd (true≢false (ap isTaken (sym e) ∙ tested ∙ h))
@@ -153,17 +154,17 @@ module _ (s : State) (t : Tally) (r : Reach s t) where
       go true = refl
       go false = refl
 
-  after-layOut : Reach (after s layOut) (tally t (told s layOut))
+  after-layOut : Reach (changed s layOut) (tally t (told s layOut))
   after-layOut = go (layOutAnswer s) refl (laysOut t) refl
     where
       tested : isLaidOut (layOutAnswer s) ≡ laysOut t
       tested = lay-out-laid-out s (r .lengths) (r .is-valid) .0 ∙ same-lays
 
       go : (a : LayOutAnswer) → layOutAnswer s ≡ a → (c : Bool) → laysOut t ≡ c
-          → Reach (record { journal = layOutJournal a (s .journal); adjacency = s .adjacency }) (cond c (nowLaid t) t)
+          → Reach (afterLayOut a s) (cond c (nowLaid t) t)
       go (LaidOut n) e true h = new (lay-out-facts s n e)
         where
-          new : LaidOutFacts s → Reach (record { journal = laid (s .journal); adjacency = s .adjacency }) (nowLaid t)
+          new : LaidOutFacts s → Reach (withJournal s (laid (s .journal))) (nowLaid t)
           new f =
               let facts = valid-facts s (r .lengths) (r .is-valid) in
               record {
@@ -182,40 +183,40 @@ module _ (s : State) (t : Tally) (r : Reach s t) where
       go (LayRefused q) e true h = absurd (true≢false (sym (ap isLaidOut (sym e) ∙ tested ∙ h)))
       go (LayRefused q) e false h = r
 
-  after-add : (v w : ℕ) → Reach (after s (add v w)) (tally t (told s (add v w)))
+  after-add : (v w : ℕ) → Reach (changed s (add v w)) (tally t (told s (add v w)))
   after-add v w = go (addAnswer s v w) refl
     where
       go : (a : AddAnswer) → addAnswer s v w ≡ a
-          → Reach (record { journal = s .journal; adjacency = addAdjacency a s v w }) (tally t (toldAdd a))
+          → Reach (afterAdd a s v w) (tally t (toldAdd a))
       go (Add.Added m) e =
           let f = added-facts s v w m e .0 in
           let x = add-works s v w f in
           let l = laid-tally s t r (f .phased) in
-          with-edges s (addAdjacency (Add.Added m) s v w) t (t .edges + 1) r l (x .lengths) (x .is-valid)
+          with-edges s (afterAdd (Add.Added m) s v w .adjacency) t (t .edges + 1) r l (x .lengths) (x .is-valid)
           (x .one-more ∙ ap (λ (m : ℕ). m + 1) (laid-counted s t r l))
       go (Add.Refused q) e = r
 
-  after-remove : (v w : ℕ) → Reach (after s (remove v w)) (tally t (told s (remove v w)))
+  after-remove : (v w : ℕ) → Reach (changed s (remove v w)) (tally t (told s (remove v w)))
   after-remove v w = go (removeAnswer s v w) refl
     where
       go : (a : RemoveAnswer) → removeAnswer s v w ≡ a
-          → Reach (record { journal = s .journal; adjacency = removeAdjacency a (s .adjacency) v w }) (tally t (toldRemove a))
+          → Reach (afterRemove a s v w) (tally t (toldRemove a))
       go Remove.Removed e =
           let f = removed-facts s v w e in
           let x = remove-works s v w f in
           let l = laid-tally s t r (f .phased) in
-          with-edges s (removeAdjacency Remove.Removed (s .adjacency) v w) t (t .edges - 1) r l (x .lengths) (x .is-valid)
+          with-edges s (afterRemove Remove.Removed s v w .adjacency) t (t .edges - 1) r l (x .lengths) (x .is-valid)
           (omega (arith, x .one-less, laid-counted s t r l))
       go (Remove.Refused q) e = r
 
-  after-complete : (f : Choice) (out : List ℕ) → Reach (after s (complete f out)) (tally t (told s (complete f out)))
+  after-complete : (f : Choice) (out : List ℕ) → Reach (changed s (complete f out)) (tally t (told s (complete f out)))
   after-complete f out = go (ranAnswer r₀ s (length out)) refl
     where
       r₀ : Ran
       r₀ = outcome f s
 
       go : (a : CompleteAnswer) → ranAnswer r₀ s (length out) ≡ a
-          → Reach (record { journal = s .journal; adjacency = ranAfter a r₀ (s .adjacency) }) (tally t (toldComplete a))
+          → Reach (afterRan a r₀ s) (tally t (toldComplete a))
       go (Complete.Completed joins switches n) e =
           let c = completed-facts s r₀ (length out) joins switches n e in
           let x = outcome-works f s (c .facts) in
@@ -224,23 +225,18 @@ module _ (s : State) (t : Tally) (r : Reach s t) where
           (omega (arith, x .more, c .joins-are, laid-counted s t r l))
       go (Complete.Refused q) e = r
 
-  pub after-call : (c : Call) → Reach (after s c) (tally t (told s c))
+  pub after-call : (c : Change) → Reach (changed s c) (tally t (told s c))
   after-call (take number b) = after-take number b
   after-call layOut = after-layOut
   after-call (add v w) = after-add v w
   after-call (remove v w) = after-remove v w
   after-call (complete f out) = after-complete f out
-  after-call (readBack number) = r
-  after-call (list out) = r
-  after-call figures = r
-  after-call (survey e total out) = r
-  after-call (writeGraph6 e total out) = r
-  after-call (readGraph6 text out) = r
 
 -- over a whole list
 pub reach-from : (calls : List Call) (s : State) (t : Tally) → Reach s t → Reach (afterAll s calls) (tallyAll s t calls)
 reach-from [] s t r = r
-reach-from (c ∷ cs) s t r = reach-from cs (after s c) (tally t (told s c)) (after-call s t r c)
+reach-from (changes c ∷ cs) s t r = reach-from cs (changed s c) (tally t (told s c)) (after-call s t r c)
+reach-from (reads q ∷ cs) s t r = reach-from cs s t r
 
 pub reach : (calls : List Call) → Reach (afterAll cleared calls) (tallyAll cleared noTally calls)
 reach calls = reach-from calls cleared noTally reach-cleared

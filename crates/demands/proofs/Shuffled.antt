@@ -25,12 +25,11 @@ use Rattle.demands.specs.Calls.{State}
 use Rattle.demands.specs.Shuffled.{Shuffles, LeftAlone, ShuffledFinishing}
 use Rattle.demands.specs.Matrix.{Short}
 use Rattle.demands.specs.Playback.{play}
-use Rattle.demands.proofs.Finishes.{outcome-answer, full-outcome, full-answer, finish-has}
+use Rattle.demands.proofs.Choices.{outcome-answer, full-outcome, full-answer, choice-has}
 use Rattle.demands.proofs.Playback.{playback}
 
-shuffles : (s : State) (x : ℕ) (out : List ℕ) → lengthsOk s ≡ true → valid s ≡ true
-    → phase (s .journal) ≡ 1 → 8 * missing s ≤ length out → Shuffles s x out
-shuffles s x out lengths is-valid phased room =
+shuffles : (s : State) (x : ℕ) (out : List ℕ) → ValidLaid s → 8 * missing s ≤ length out → Shuffles s x out
+shuffles s x out checked room =
     record {
       joins = r .joins;
       switches = r .switches;
@@ -38,16 +37,13 @@ shuffles s x out lengths is-valid phased room =
           ap (withX (shuffled s x .x)) answered
           ∙ ap (Completed (r .joins) (r .switches) (8 * r .joins)) (shuffled-last s x);
       made = made;
-      has-table = finish-has s (Picked x) out (r .joins) (r .switches) (8 * r .joins) checked answered;
+      has-table = choice-has s (Picked x) out (r .joins) (r .switches) (8 * r .joins) checked answered;
       played =
-          let p = playback .completing (Picked x) s out lengths is-valid phased room in
+          let p = playback .completing (Picked x) s out checked room in
           let e : p .joins ≡ r .joins = omega (arith, p .made, made) in
           ap (λ (m : ℕ). play (take (8 * m) (shuffleOutput s x out)) (s .adjacency)) (sym e) ∙ p .played;
     }
   where
-    checked : CompleteFacts s
-    checked = record { lengths = lengths; is-valid = is-valid; phased = phased }
-
     r : Ran
     r = shuffled s x .ran
 
@@ -57,20 +53,16 @@ shuffles s x out lengths is-valid phased room =
     answered : ranAnswer r s (length out) ≡ Complete.Completed (r .joins) (r .switches) (8 * r .joins)
     answered = outcome-answer s (Picked x) checked (length out) room
 
-left-alone : (s : State) (x : ℕ) (out : List ℕ) → lengthsOk s ≡ true → valid s ≡ true
-    → phase (s .journal) ≡ 1 → ((k l : ℕ) → Short (tableOf (s .journal)) s k l → ⊥) → LeftAlone s x out
-left-alone s x out lengths is-valid phased none =
+left-alone : (s : State) (x : ℕ) (out : List ℕ) → ValidLaid s → ((k l : ℕ) → Short (tableOf (s .journal)) s k l → ⊥) → LeftAlone s x out
+left-alone s x out checked none =
     record {
       answer =
           ap (withX (shuffled s x .x)) answered
           ∙ ap (Completed 0 0 0) (shuffled-last s x ∙ ap (λ (m : ℕ). stepsX m x) (ap (λ (r : Ran). r .joins) ended) ∙ foldTo-none (λ i. nextX) x);
-      same-matrix = ap₂ (λ (a : CompleteAnswer) (r : Ran). ranAfter a r (s .adjacency)) answered ended;
-      same-output = ap₂ (λ (a : CompleteAnswer) (r : Ran). ranOutput a r out) answered ended;
+      same-state = ap₂ (λ (a : CompleteAnswer) (r : Ran). afterRan a r s) answered ended;
+      same-output = ap₂ (λ (a : CompleteAnswer) (r : Ran). outputRan a r out) answered ended;
     }
   where
-    checked : CompleteFacts s
-    checked = record { lengths = lengths; is-valid = is-valid; phased = phased }
-
     full : (k l : ℕ) → leastClass ≤ k → k < mostClasses → k ≤ l → l < mostClasses → jdmOf (s .journal) k l ≤ cellAt s k l
     full k l a b c d = omega (arith, none k l)
 
@@ -86,5 +78,5 @@ shuffled-finishing =
       shuffles = shuffles;
       complete-already = left-alone;
       refused = λ s x out q e. with-x-refused (shuffled s x .x) _ q e;
-      same-matrix = λ s x out. refl;
+      same-state = λ s x out. refl;
     }

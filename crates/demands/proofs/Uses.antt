@@ -25,18 +25,19 @@ use Rattle.journal.specs.Journal.{mostBlocks, tableOf}
 use Rattle.state.specs.Laid.{vertexCount, classAt}
 use Rattle.take_block.specs.Take.{takeAnswer}
 use Rattle.joining.proofs.Alone.{none-alone}
-use Rattle.add_edge.specs.Add.{addAnswer, addAdjacency}
+use Rattle.add_edge.specs.Add.{addAnswer, afterAdd, addAfter}
 use Rattle.add_edge.proofs.Add.{added-facts}
 use Rattle.join_records.specs.Record.{joinRecordSize}
-use Rattle.complete.specs.Complete.{ranAnswer}
 use Rattle.complete.proofs.Entry.{refused-not-completed}
-use Rattle.complete_shuffled.specs.Outcome.{outcome}
-use Rattle.demands.specs.Calls.{Call, take, add, complete, State, emptyMatrix, cleared, after, afterAll}
+use Rattle.complete_shuffled.specs.Outcome.{choiceAnswer, choiceAfter}
+use Rattle.state.specs.State.{State, emptyMatrix, cleared}
+use Rattle.state.specs.Valid.{ValidLaid}
+use Rattle.demands.specs.Calls.{take, complete, Call, changes, afterAll}
 use Rattle.demands.specs.Accepted.{accepted, AcceptedIn}
 use Rattle.demands.specs.Tally.{Tally, noTally, missingEdges, toldTake, counts, withBlock, tally, tallyAll}
 use Rattle.demands.specs.Demand2.{answered, answeredSum}
 use Rattle.demands.specs.Demand3.{RefusedForWantOfAGraph, OpenPair, CanBeJoined}
-use Rattle.demands.specs.WithinReach.{Replica, Pair, Order, adds, AddedAlone, AllAdded, ValidLaid}
+use Rattle.demands.specs.WithinReach.{Replica, Pair, Order, adds, AddedAlone, AllAdded}
 use Rattle.demands.proofs.Demand2.{demand-2}
 use Rattle.demands.proofs.Demand3.{demand-3}
 use Rattle.demands.proofs.WithinReach.{every-replica-within-reach}
@@ -68,26 +69,26 @@ module _ (calls : List Call) where
 
   -- .. and with one byte less nothing changes
   pub short-unchanged : tallyAll cleared noTally calls .laid ≡ true → (f : Choice) (out : List ℕ)
-      → length out + 1 ≡ joinRecordSize * missingEdges (tallyAll cleared noTally calls) → after (afterAll cleared calls) (complete f out) ≡ afterAll cleared calls
+      → length out + 1 ≡ joinRecordSize * missingEdges (tallyAll cleared noTally calls) → choiceAfter f (afterAll cleared calls) (length out) ≡ afterAll cleared calls
   short-unchanged l f out h = demand-3 calls .1 l .refuses f out (λ room. omega arith) .unchanged
 
   -- once completed, exactly as many vertices have no edge as the blocks taken or held add up to
   pub isolated-exact : (f : Choice) (out : List ℕ) (joins switches n : ℕ)
       → let s = afterAll cleared calls in
       choiceAnswer f s (length out) ≡ Completed joins switches n
-      → isolated (vertices (answeredSum (calls ++ complete f out ∷ []))) (edge (after s (complete f out) .adjacency))
-      ≡ answered blockIsolated [] cleared (calls ++ complete f out ∷ [])
+      → isolated (vertices (answeredSum (calls ++ changes (complete f out) ∷ []))) (edge (choiceAfter f s (length out) .adjacency))
+      ≡ answered blockIsolated [] cleared (calls ++ changes (complete f out) ∷ [])
   isolated-exact f out joins switches n e = demand-2 .completed calls [] f out joins switches n e refl .exact-isolated
 
   -- once a block was taken or held, no other bytes are, under its number
   pub other-bytes-refused : (number : ℕ) (b b′ : List ℕ) → AcceptedIn calls number b
-      → accepted (takeAnswer (afterAll cleared calls .journal) (afterAll cleared calls .adjacency) number b′) ≡ true → b ≡ b′
+      → accepted (takeAnswer (afterAll cleared calls) number b′) ≡ true → b ≡ b′
   other-bytes-refused number b b′ a h =
-      demand-2 .once (calls ++ take number b′ ∷ []) number b b′
+      demand-2 .once (calls ++ changes (take number b′) ∷ []) number b b′
       (record {
         before = a .before;
-        rest = a .rest ++ take number b′ ∷ [];
-        offered = ap (λ (cs : List Call). cs ++ take number b′ ∷ []) (a .offered) ∙ append-assoc (a .before) (take number b ∷ a .rest) (take number b′ ∷ []);
+        rest = a .rest ++ changes (take number b′) ∷ [];
+        offered = ap (λ (cs : List Call). cs ++ changes (take number b′) ∷ []) (a .offered) ∙ append-assoc (a .before) (changes (take number b) ∷ a .rest) (changes (take number b′) ∷ []);
         answer = a .answer;
       })
       (record { before = calls; rest = []; offered = refl; answer = h })
@@ -109,21 +110,20 @@ resent-once t number b h = rw h (ap (λ (c : Bool). cond c (withBlock (withBlock
 
 -- of each pair of a list that is all added alone, the answer has no triples
 added-at : (before : List Pair) (p : Pair) (rest : List Pair) (s : State) → AllAdded s (before ++ p ∷ rest)
-    → addAnswer (afterAll s (adds before) .journal) (afterAll s (adds before) .adjacency) (p .0) (p .1) ≡ Added None
+    → addAnswer (afterAll s (adds before)) (p .0) (p .1) ≡ Added None
 added-at [] p rest s a = alone (addAnswer s (p .0) (p .1)) (a .0)
   where
     alone : (x : AddAnswer) → AddedAlone x → x ≡ Added None
     alone (Added switches) e = ap Added e
     alone (AddRefused r) e = absurd e
-added-at (x ∷ before) p rest s a = added-at before p rest (after s (add (x .0) (x .1))) (a .1)
+added-at (x ∷ before) p rest s a = added-at before p rest (addAfter s (x .0) (x .1)) (a .1)
 
 -- While a drawing is laid onto the empty matrix, no edge that lies is ever moved: each call sets the bytes of its own edge and no others.
 pub nothing-moves : (s : State) → ValidLaid s → s .adjacency ≡ emptyMatrix → (H : Graph) → Replica (tableOf (s .journal)) H
     → (before : List Pair) (p : Pair) (rest : List Pair) → Order (vertexCount s) H (before ++ p ∷ rest)
-    → after (afterAll s (adds before)) (add (p .0) (p .1)) .adjacency ≡ setEdge (afterAll s (adds before) .adjacency) (p .0) (p .1) 1
+    → addAfter (afterAll s (adds before)) (p .0) (p .1) .adjacency ≡ setEdge (afterAll s (adds before) .adjacency) (p .0) (p .1) 1
 nothing-moves s v e H d before p rest o =
     let x = afterAll s (adds before) in
     let a = added-at before p rest s (every-replica-within-reach .from-empty s v e H d (before ++ p ∷ rest) o .added) in
-    ap (λ (a : AddAnswer). addAdjacency a (x .journal) (x .adjacency) (p .0) (p .1)) a
-    ∙ none-alone (vertexCount (x .journal)) (classAt (x .journal)) (x .adjacency) (p .0) (p .1)
-    (sym (added-facts (x .journal) (x .adjacency) (p .0) (p .1) None a .1))
+    ap (λ (a : AddAnswer). afterAdd a x (p .0) (p .1) .adjacency) a
+    ∙ none-alone (vertexCount x) (classAt x) (x .adjacency) (p .0) (p .1) (sym (added-facts x (p .0) (p .1) None a .1))

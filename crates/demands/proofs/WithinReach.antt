@@ -16,15 +16,16 @@ use Rattle.journal.specs.Journal.{phase, tableOf}
 use Rattle.adjacency.specs.Adjacency.{edge}
 use Rattle.state.specs.Laid.{vertexCount}
 use Rattle.join_records.specs.Record.{joinRecordSize}
-use Rattle.complete.specs.Complete.{ranAnswer}
 use Rattle.complete.proofs.Entry.{completed-facts}
-use Rattle.complete_shuffled.specs.Outcome.{outcome}
+use Rattle.complete_shuffled.specs.Outcome.{outcome, choiceAnswer, choiceAfter}
 use Rattle.complete_shuffled.proofs.Works.{outcome-works}
-use Rattle.demands.specs.Calls.{Call, complete, State, emptyMatrix, cleared, after, afterAll}
+use Rattle.state.specs.State.{State, emptyMatrix, cleared}
+use Rattle.state.specs.Valid.{ValidLaid}
+use Rattle.demands.specs.Calls.{Call, afterAll}
 use Rattle.demands.specs.Tally.{noTally, missingEdges, tallyAll}
 use Rattle.demands.specs.Demand3.{Completes}
-use Rattle.demands.specs.WithinReach.{Replica, Pair, Order, ascending, adds, removes, ValidLaid, NothingToComplete, Drawn, Redrawn, lacking, EveryReplicaWithinReach}
-use Rattle.demands.proofs.Finishes.{after-finish}
+use Rattle.demands.specs.WithinReach.{Replica, Pair, Order, ascending, adds, removes, NothingToComplete, Drawn, Redrawn, lacking, EveryReplicaWithinReach}
+use Rattle.demands.proofs.Choices.{after-choice}
 use Rattle.demands.proofs.Reach.{Reach, reach, laid-tally, phase-1, after-append}
 use Rattle.demands.proofs.Demand3.{demand-3}
 use Rattle.demands.proofs.Orders.{order-length}
@@ -35,12 +36,10 @@ use Rattle.demands.proofs.Drawing.{laid, drawn, redrawn, emptied}
 -- what completing ends in
 some : (s : State) (f : Choice) (out : List ℕ) (joins switches m : ℕ)
     → choiceAnswer f s (length out) ≡ Completed joins switches m
-    → Replica (tableOf (s .journal)) (edge (after s (complete f out) .adjacency))
+    → Replica (tableOf (s .journal)) (edge (choiceAfter f s (length out) .adjacency))
 some s f out joins switches m e =
-    let j = s .journal in
-    let g = s .adjacency in
-    let x = outcome-works f j g (completed-facts j g (outcome f j g) (length out) joins switches m e .facts) in
-    subst (λ (s′ : State). Replica (tableOf j) (edge (s′ .adjacency))) (sym (after-finish s f out joins switches m e))
+    let x = outcome-works f s (completed-facts s (outcome f s) (length out) joins switches m e .facts) in
+    subst (λ (s′ : State). Replica (tableOf (s .journal)) (edge (s′ .adjacency))) (sym (after-choice s f out joins switches m e))
     (record { simple = x .simple; degrees = x .degrees-exact; table = x .table })
 
 -- the statement's hypotheses, on any valid laid state
@@ -72,7 +71,7 @@ module _ (s : State) (v : ValidLaid s) (H : Graph) (drawing : Replica (tableOf (
       × Redrawn s H (ascending n (edge (s .adjacency))) (ascending n H)
   reached =
       let n = vertexCount s in
-      let l = laid s v in
+      let l = laid (s .journal) (s .adjacency) v in
       let a = ascending-order n (edge (s .adjacency)) (l .vertices-le) (l .partial .simple) in
       let b = ascending-order n H (l .vertices-le) (drawing .simple) in
       (a, b, from-anywhere (ascending n (edge (s .adjacency))) (ascending n H) a b)
@@ -104,13 +103,13 @@ module _ (calls : List Call) (e : tallyAll cleared noTally calls .laid ≡ true)
   r : Reach (afterAll cleared calls) (tallyAll cleared noTally calls)
   r = reach calls
 
-  is-valid : ValidLaid (afterAll cleared calls)
-  is-valid = record { lengths = r .lengths; is-valid = r .is-valid; phased = phase-1 _ _ r e }
+  valid-laid : ValidLaid (afterAll cleared calls)
+  valid-laid = record { lengths = r .lengths; is-valid = r .is-valid; phased = phase-1 _ _ r e }
 
   again : Redrawn (afterAll cleared calls) H qs ps
   again =
       let t = sym (r .table) in
-      from-anywhere s is-valid H (subst (λ (t : DegreeTable). Replica t H) t drawing) qs ps
+      from-anywhere s valid-laid H (subst (λ (t : DegreeTable). Replica t H) t drawing) qs ps
       (subst (λ (t : DegreeTable). Order (vertices t) (edge (s .adjacency)) qs) t o) (subst (λ (t : DegreeTable). Order (vertices t) H ps) t q)
 
   whole : afterAll cleared (calls ++ (removes qs ++ adds ps)) ≡ afterAll (afterAll s (removes qs)) (adds ps)
@@ -122,7 +121,7 @@ module _ (calls : List Call) (e : tallyAll cleared noTally calls .laid ≡ true)
   still-laid : tallyAll cleared noTally (calls ++ (removes qs ++ adds ps)) .laid ≡ true
   still-laid =
       laid-tally _ _ (reach (calls ++ (removes qs ++ adds ps)))
-      (ap (λ (x : State). phase (x .journal)) (after-append calls (removes qs ++ adds ps) cleared ∙ again .exactly) ∙ is-valid .phased)
+      (ap (λ (x : State). phase (x .journal)) (after-append calls (removes qs ++ adds ps) cleared ∙ again .exactly) ∙ valid-laid .phased)
 
   tallied : (missingEdges (tallyAll cleared noTally (calls ++ (removes qs ++ adds ps))) ≡ 0) × NothingToComplete (afterAll cleared (calls ++ (removes qs ++ adds ps)))
   tallied = (none-missing (calls ++ (removes qs ++ adds ps)) still-laid none-left, none-left)

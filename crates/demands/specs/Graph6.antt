@@ -12,10 +12,10 @@ use Rattle.answer.specs.declared.Refusal.{Refusal}
 use Rattle.answer.specs.declared.Verdict.the-variants.{Go}
 use Rattle.answer.specs.declared.WrittenAnswer.the-variants.{Written, Refused}
 use Rattle.answer.specs.declared.ReadAnswer.the-variants.{Read}
-use Rattle.journal.specs.Journal.{phase}
 use Rattle.layout.specs.Layout.{mostVertices}
 use Rattle.adjacency.specs.Adjacency.{edge}
-use Rattle.state.specs.Valid.{lengthsOk, valid}
+use Rattle.state.specs.State.{State}
+use Rattle.state.specs.Valid.{ValidLaid}
 use Rattle.state.specs.Laid.{vertexCount}
 use Rattle.edge_lists.specs.EdgeList.{listVerdict, graphOf}
 use Rattle.edge_list.specs.List.{listBytes}
@@ -62,8 +62,8 @@ pub record Graph6 : Type 0 where
   pub survey-as-refused : (e : List ℕ) (total m k : ℕ) (r : Refusal) → numberOf (r .cause) ≡ 19 →
       surveyAnswer e total k ≡ Refused r → writeAnswer e total m ≡ Refused r
   -- the list of a valid laid state, written with its N, is the text of the state's graph, and only a short output is refused
-  pub laid : (j g : List ℕ) → lengthsOk j g ≡ true → valid j g ≡ true → phase j ≡ 1 →
-      let n = vertexCount j in
-      let e = listBytes n g in
-      (writeText e n ≡ graph6Text n (edge g)) × SameOn n (edge g) (textGraph (writeText e n))
+  pub laid : (s : State) → ValidLaid s →
+      let n = vertexCount s in
+      let e = listBytes n (s .adjacency) in
+      (writeText e n ≡ graph6Text n (edge (s .adjacency))) × SameOn n (edge (s .adjacency)) (textGraph (writeText e n))
       × ((m : ℕ) → length (writeText e n) ≤ m → writeAnswer e n m ≡ Written (length (writeText e n)))
