@@ -2,28 +2,29 @@
 ghost use mathlib.Core.Path.{_≡_};
 ghost use lib.ListN.{length};
 ghost use Rattle.answer.specs.Numbers.{clearNumbers, takeNumbers, layOutNumbers, figuresNumbers, addNumbers, removeNumbers, completeNumbers, shuffleNumbers, writtenNumbers, readNumbers};
-ghost use Rattle.clear.specs.Clear.{clearAnswer, clearBytes};
-ghost use Rattle.take_block.specs.Take.{takeAnswer, takeJournal};
+ghost use Rattle.state.specs.State.{stateOf};
+ghost use Rattle.clear.specs.Clear.{clearAnswer, clearAfter};
+ghost use Rattle.take_block.specs.Take.{takeAnswer, takeAfter};
 ghost use Rattle.held_block.specs.Held.{lengthAnswer};
-ghost use Rattle.lay_out.specs.LayOut.{layOutAnswer, layOutJournal};
+ghost use Rattle.lay_out.specs.LayOut.{layOutAnswer, layOutAfter};
 ghost use Rattle.figures.specs.Figures.{figuresAnswer};
-ghost use Rattle.add_edge.specs.Add.{addAnswer, addAdjacency};
-ghost use Rattle.remove_edge.specs.Remove.{removeAnswer, removeAdjacency};
+ghost use Rattle.add_edge.specs.Add.{addAnswer, addAfter};
+ghost use Rattle.remove_edge.specs.Remove.{removeAnswer, removeAfter};
 ghost use Rattle.edge_list.specs.List.{listAnswer, listOutput};
 ghost use Rattle.jdm_of_edges.specs.Survey.{surveyAnswer, surveyOutput};
 ghost use Rattle.graph6_write.specs.Write.{writeAnswer, writeOutput};
 ghost use Rattle.graph6_read.specs.Read.{readAnswer, readOutput};
-ghost use Rattle.complete.specs.Complete.{completeAnswer, completeAdjacency, completeOutput};
-ghost use Rattle.complete_shuffled.specs.Shuffle.{shuffleAnswer, shuffleAdjacency, shuffleOutput};
+ghost use Rattle.complete.specs.Complete.{completeAnswer, completeAfter, completeOutput};
+ghost use Rattle.complete_shuffled.specs.Shuffle.{shuffleAnswer, shuffleAfter, shuffleOutput};
 ghost use Rattle.numbers.specs.Flat.{flat, flatJoin, heldNumbers};
 use numbers::ReplicaAnswer;
 use numbers::ReplicaJoin;
 
 #[no_mangle]
 pub extern "C" fn replica_clear(journal: &mut [u8], adjacency: &mut [u8]) -> ReplicaAnswer
-    ensures { λ r. ⌜ r ≡ flat (clearNumbers (clearAnswer (now (journal .entry)) (now (adjacency .entry)))) ⌝ }
-    ensures { λ _. ⌜ now (journal .exit) ≡ clearBytes (clearAnswer (now (journal .entry)) (now (adjacency .entry))) (now (journal .entry)) ⌝ }
-    ensures { λ _. ⌜ now (adjacency .exit) ≡ clearBytes (clearAnswer (now (journal .entry)) (now (adjacency .entry))) (now (adjacency .entry)) ⌝ }
+    ensures { λ r. ⌜ r ≡ flat (clearNumbers (clearAnswer (stateOf (now (journal .entry)) (now (adjacency .entry))))) ⌝ }
+    ensures { λ _. ⌜ now (journal .exit) ≡ clearAfter (stateOf (now (journal .entry)) (now (adjacency .entry))) .journal ⌝ }
+    ensures { λ _. ⌜ now (adjacency .exit) ≡ clearAfter (stateOf (now (journal .entry)) (now (adjacency .entry))) .adjacency ⌝ }
 {
     numbers::of_clear(clear::clear(journal, adjacency))
 }
@@ -35,8 +36,8 @@ pub extern "C" fn replica_take_block(
     number: usize,
     block: &[u8],
 ) -> ReplicaAnswer
-    ensures { λ r. ⌜ r ≡ flat (takeNumbers (takeAnswer (now (journal .entry)) (now (adjacency .entry)) number (now (block .entry)))) ⌝ }
-    ensures { λ _. ⌜ now (journal .exit) ≡ takeJournal (takeAnswer (now (journal .entry)) (now (adjacency .entry)) number (now (block .entry))) (now (journal .entry)) (now (block .entry)) ⌝ }
+    ensures { λ r. ⌜ r ≡ flat (takeNumbers (takeAnswer (stateOf (now (journal .entry)) (now (adjacency .entry))) number (now (block .entry)))) ⌝ }
+    ensures { λ _. ⌜ now (journal .exit) ≡ takeAfter (stateOf (now (journal .entry)) (now (adjacency .entry))) number (now (block .entry)) .journal ⌝ }
 {
     numbers::of_take(take_block::take_block(journal, adjacency, number, block))
 }
@@ -47,7 +48,7 @@ pub extern "C" fn replica_held_block(
     adjacency: &[u8],
     number: usize,
 ) -> ReplicaAnswer
-    ensures { λ r. ⌜ r ≡ flat (heldNumbers number (lengthAnswer (now (journal .entry)) (now (adjacency .entry)) number)) ⌝ }
+    ensures { λ r. ⌜ r ≡ flat (heldNumbers number (lengthAnswer (stateOf (now (journal .entry)) (now (adjacency .entry))) number)) ⌝ }
 {
     numbers::of_held(
         number,
@@ -57,8 +58,8 @@ pub extern "C" fn replica_held_block(
 
 #[no_mangle]
 pub extern "C" fn replica_lay_out(journal: &mut [u8], adjacency: &[u8]) -> ReplicaAnswer
-    ensures { λ r. ⌜ r ≡ flat (layOutNumbers (layOutAnswer (now (journal .entry)) (now (adjacency .entry)))) ⌝ }
-    ensures { λ _. ⌜ now (journal .exit) ≡ layOutJournal (layOutAnswer (now (journal .entry)) (now (adjacency .entry))) (now (journal .entry)) ⌝ }
+    ensures { λ r. ⌜ r ≡ flat (layOutNumbers (layOutAnswer (stateOf (now (journal .entry)) (now (adjacency .entry))))) ⌝ }
+    ensures { λ _. ⌜ now (journal .exit) ≡ layOutAfter (stateOf (now (journal .entry)) (now (adjacency .entry))) .journal ⌝ }
 {
     numbers::of_lay_out(lay_out::lay_out(journal, adjacency))
 }
@@ -70,8 +71,8 @@ pub extern "C" fn replica_add_edge(
     v: usize,
     w: usize,
 ) -> ReplicaJoin
-    ensures { λ r. ⌜ r ≡ flatJoin (addNumbers (addAnswer (now (journal .entry)) (now (adjacency .entry)) v w)) ⌝ }
-    ensures { λ _. ⌜ now (adjacency .exit) ≡ addAdjacency (addAnswer (now (journal .entry)) (now (adjacency .entry)) v w) (now (journal .entry)) (now (adjacency .entry)) v w ⌝ }
+    ensures { λ r. ⌜ r ≡ flatJoin (addNumbers (addAnswer (stateOf (now (journal .entry)) (now (adjacency .entry))) v w)) ⌝ }
+    ensures { λ _. ⌜ now (adjacency .exit) ≡ addAfter (stateOf (now (journal .entry)) (now (adjacency .entry))) v w .adjacency ⌝ }
 {
     numbers::of_add(add_edge::add_edge(journal, adjacency, v, w))
 }
@@ -83,8 +84,8 @@ pub extern "C" fn replica_remove_edge(
     v: usize,
     w: usize,
 ) -> ReplicaAnswer
-    ensures { λ r. ⌜ r ≡ flat (removeNumbers (removeAnswer (now (journal .entry)) (now (adjacency .entry)) v w)) ⌝ }
-    ensures { λ _. ⌜ now (adjacency .exit) ≡ removeAdjacency (removeAnswer (now (journal .entry)) (now (adjacency .entry)) v w) (now (adjacency .entry)) v w ⌝ }
+    ensures { λ r. ⌜ r ≡ flat (removeNumbers (removeAnswer (stateOf (now (journal .entry)) (now (adjacency .entry))) v w)) ⌝ }
+    ensures { λ _. ⌜ now (adjacency .exit) ≡ removeAfter (stateOf (now (journal .entry)) (now (adjacency .entry))) v w .adjacency ⌝ }
 {
     numbers::of_remove(remove_edge::remove_edge(journal, adjacency, v, w))
 }
@@ -95,9 +96,9 @@ pub extern "C" fn replica_complete(
     adjacency: &mut [u8],
     output: &mut [u8],
 ) -> ReplicaAnswer
-    ensures { λ r. ⌜ r ≡ flat (completeNumbers (completeAnswer (now (journal .entry)) (now (adjacency .entry)) (length (now (output .entry))))) ⌝ }
-    ensures { λ _. ⌜ now (adjacency .exit) ≡ completeAdjacency (completeAnswer (now (journal .entry)) (now (adjacency .entry)) (length (now (output .entry)))) (now (journal .entry)) (now (adjacency .entry)) ⌝ }
-    ensures { λ _. ⌜ now (output .exit) ≡ completeOutput (completeAnswer (now (journal .entry)) (now (adjacency .entry)) (length (now (output .entry)))) (now (journal .entry)) (now (adjacency .entry)) (now (output .entry)) ⌝ }
+    ensures { λ r. ⌜ r ≡ flat (completeNumbers (completeAnswer (stateOf (now (journal .entry)) (now (adjacency .entry))) (length (now (output .entry))))) ⌝ }
+    ensures { λ _. ⌜ now (adjacency .exit) ≡ completeAfter (stateOf (now (journal .entry)) (now (adjacency .entry))) (length (now (output .entry))) .adjacency ⌝ }
+    ensures { λ _. ⌜ now (output .exit) ≡ completeOutput (stateOf (now (journal .entry)) (now (adjacency .entry))) (now (output .entry)) ⌝ }
 {
     numbers::of_complete(complete::complete(journal, adjacency, output))
 }
@@ -109,9 +110,9 @@ pub extern "C" fn replica_complete_shuffled(
     x: u32,
     output: &mut [u8],
 ) -> ReplicaAnswer
-    ensures { λ r. ⌜ r ≡ flat (shuffleNumbers (shuffleAnswer (now (journal .entry)) (now (adjacency .entry)) x (length (now (output .entry))))) ⌝ }
-    ensures { λ _. ⌜ now (adjacency .exit) ≡ shuffleAdjacency (now (journal .entry)) (now (adjacency .entry)) x (length (now (output .entry))) ⌝ }
-    ensures { λ _. ⌜ now (output .exit) ≡ shuffleOutput (now (journal .entry)) (now (adjacency .entry)) x (now (output .entry)) ⌝ }
+    ensures { λ r. ⌜ r ≡ flat (shuffleNumbers (shuffleAnswer (stateOf (now (journal .entry)) (now (adjacency .entry))) x (length (now (output .entry))))) ⌝ }
+    ensures { λ _. ⌜ now (adjacency .exit) ≡ shuffleAfter (stateOf (now (journal .entry)) (now (adjacency .entry))) x (length (now (output .entry))) .adjacency ⌝ }
+    ensures { λ _. ⌜ now (output .exit) ≡ shuffleOutput (stateOf (now (journal .entry)) (now (adjacency .entry))) x (now (output .entry)) ⌝ }
 {
     numbers::of_shuffle(complete_shuffled::complete_shuffled(journal, adjacency, x, output))
 }
@@ -122,8 +123,8 @@ pub extern "C" fn replica_edge_list(
     adjacency: &[u8],
     output: &mut [u8],
 ) -> ReplicaAnswer
-    ensures { λ r. ⌜ r ≡ flat (writtenNumbers (listAnswer (now (journal .entry)) (now (adjacency .entry)) (length (now (output .entry))))) ⌝ }
-    ensures { λ _. ⌜ now (output .exit) ≡ listOutput (listAnswer (now (journal .entry)) (now (adjacency .entry)) (length (now (output .entry)))) (now (journal .entry)) (now (adjacency .entry)) (now (output .entry)) ⌝ }
+    ensures { λ r. ⌜ r ≡ flat (writtenNumbers (listAnswer (stateOf (now (journal .entry)) (now (adjacency .entry))) (length (now (output .entry))))) ⌝ }
+    ensures { λ _. ⌜ now (output .exit) ≡ listOutput (stateOf (now (journal .entry)) (now (adjacency .entry))) (now (output .entry)) ⌝ }
 {
     numbers::of_written(edge_list::edge_list(journal, adjacency, output))
 }
@@ -162,7 +163,7 @@ pub extern "C" fn replica_graph6_read(text: &[u8], output: &mut [u8]) -> Replica
 
 #[no_mangle]
 pub extern "C" fn replica_figures(journal: &[u8], adjacency: &[u8]) -> ReplicaAnswer
-    ensures { λ r. ⌜ r ≡ flat (figuresNumbers (figuresAnswer (now (journal .entry)) (now (adjacency .entry)))) ⌝ }
+    ensures { λ r. ⌜ r ≡ flat (figuresNumbers (figuresAnswer (stateOf (now (journal .entry)) (now (adjacency .entry))))) ⌝ }
 {
     numbers::of_figures(figures::figures(journal, adjacency))
 }

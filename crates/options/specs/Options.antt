@@ -13,8 +13,8 @@ use Rattle.options.specs.declared.Form.{Form}
 use Rattle.options.specs.declared.Form.the-variants.{Lines, Graph6}
 use Rattle.options.specs.declared.Number.{Number}
 use Rattle.options.specs.declared.Number.the-variants.{Value, NoNumber}
-use Rattle.options.specs.declared.Choice.{Choice}
-use Rattle.options.specs.declared.Choice.the-variants.{Show, Usage}
+use Rattle.options.specs.declared.Request.{Request}
+use Rattle.options.specs.declared.Request.the-variants.{Show, Usage}
 
 -- "--graph6"
 abbrev pub graph6Word : List ℕ
@@ -48,27 +48,27 @@ abbrev pub numberOf : List ℕ → Number
 numberOf word = cond (isNumber word) (Value (valueOf word)) NoNumber
 
 -- the form, shuffled from the word's number on
-abbrev pub shuffledBy : Form → Number → Choice
+abbrev pub shuffledBy : Form → Number → Request
 shuffledBy form (Value x) = Show form (Picked x)
 shuffledBy form NoNumber = Usage
 
 -- `--graph6`
-abbrev pub oneWord : List ℕ → Choice
+abbrev pub oneWord : List ℕ → Request
 oneWord first = cond (sameBytes first graph6Word) (Show Graph6 Lowest) Usage
 
 -- `--shuffle X`
-abbrev pub twoWords : List ℕ → List ℕ → Choice
+abbrev pub twoWords : List ℕ → List ℕ → Request
 twoWords first second = cond (sameBytes first shuffleWord) (shuffledBy Lines (numberOf second)) Usage
 
 -- both, in either order
-abbrev pub threeWords : List ℕ → List ℕ → List ℕ → Choice
+abbrev pub threeWords : List ℕ → List ℕ → List ℕ → Request
 threeWords first second third =
     cond (sameBytes first graph6Word && sameBytes second shuffleWord) (shuffledBy Graph6 (numberOf third))
     (cond (sameBytes first shuffleWord && sameBytes third graph6Word) (shuffledBy Graph6 (numberOf second)) Usage)
 
 -- of so many arguments, the program's name among them, and the three behind the name
-abbrev pub choiceOf : ℕ → List ℕ → List ℕ → List ℕ → Choice
-choiceOf count first second third =
+abbrev pub requestOf : ℕ → List ℕ → List ℕ → List ℕ → Request
+requestOf count first second third =
     cond (leb count 1) (Show Lines Lowest)
     (cond (eqb count 2) (oneWord first)
     (cond (eqb count 3) (twoWords first second)

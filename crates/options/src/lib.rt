@@ -1,7 +1,7 @@
 // What the program's arguments ask for.
 ghost use mathlib.Core.Path.{_≡_};
 ghost use Prim.Native.Nat.{_-_};
-ghost use Rattle.options.specs.Options.{isDigit, numberOf, shuffledBy, oneWord, twoWords, threeWords, choiceOf};
+ghost use Rattle.options.specs.Options.{isDigit, numberOf, shuffledBy, oneWord, twoWords, threeWords, requestOf};
 use answer::Choice;
 use slices::same_bytes;
 use slices::wide;
@@ -13,7 +13,7 @@ pub enum Form {
 }
 
 // What the arguments ask for.
-pub enum Choice {
+pub enum Request {
     Show(Form, Choice),
     Usage,
 }
@@ -54,38 +54,38 @@ fn number_of(word: &[u8]) -> Number
 }
 
 // The form, shuffled from a word's number on.
-fn shuffled_by(form: Form, word: &[u8]) -> Choice
+fn shuffled_by(form: Form, word: &[u8]) -> Request
     ensures { λ r. ⌜ r ≡ shuffledBy form (numberOf (now (word .entry))) ⌝ }
 {
     let number = number_of(word);
     match number {
-        Number::Value(x) => Choice::Show(form, Choice::Picked(x)),
-        Number::NoNumber => Choice::Usage,
+        Number::Value(x) => Request::Show(form, Choice::Picked(x)),
+        Number::NoNumber => Request::Usage,
     }
 }
 
 // `--graph6`.
-fn one_word(first: &[u8]) -> Choice
+fn one_word(first: &[u8]) -> Request
     ensures { λ r. ⌜ r ≡ oneWord (now (first .entry)) ⌝ }
 {
     if same_bytes(first, b"--graph6") {
-        return Choice::Show(Form::Graph6, Choice::Lowest);
+        return Request::Show(Form::Graph6, Choice::Lowest);
     }
-    Choice::Usage
+    Request::Usage
 }
 
 // `--shuffle X`.
-fn two_words(first: &[u8], second: &[u8]) -> Choice
+fn two_words(first: &[u8], second: &[u8]) -> Request
     ensures { λ r. ⌜ r ≡ twoWords (now (first .entry)) (now (second .entry)) ⌝ }
 {
     if same_bytes(first, b"--shuffle") {
         return shuffled_by(Form::Lines, second);
     }
-    Choice::Usage
+    Request::Usage
 }
 
 // Both, in either order.
-fn three_words(first: &[u8], second: &[u8], third: &[u8]) -> Choice
+fn three_words(first: &[u8], second: &[u8], third: &[u8]) -> Request
     ensures { λ r. ⌜ r ≡ threeWords (now (first .entry)) (now (second .entry)) (now (third .entry)) ⌝ }
 {
     if same_bytes(first, b"--graph6") & same_bytes(second, b"--shuffle") {
@@ -94,15 +94,15 @@ fn three_words(first: &[u8], second: &[u8], third: &[u8]) -> Choice
     if same_bytes(first, b"--shuffle") & same_bytes(third, b"--graph6") {
         return shuffled_by(Form::Graph6, second);
     }
-    Choice::Usage
+    Request::Usage
 }
 
 // What so many arguments ask for, the program's name counted, of which these are the three behind the name.
-pub fn choice_of(count: usize, first: &[u8], second: &[u8], third: &[u8]) -> Choice
-    ensures { λ r. ⌜ r ≡ choiceOf count (now (first .entry)) (now (second .entry)) (now (third .entry)) ⌝ }
+pub fn request_of(count: usize, first: &[u8], second: &[u8], third: &[u8]) -> Request
+    ensures { λ r. ⌜ r ≡ requestOf count (now (first .entry)) (now (second .entry)) (now (third .entry)) ⌝ }
 {
     if count <= 1 {
-        return Choice::Show(Form::Lines, Choice::Lowest);
+        return Request::Show(Form::Lines, Choice::Lowest);
     }
     if count == 2 {
         return one_word(first);
@@ -113,5 +113,5 @@ pub fn choice_of(count: usize, first: &[u8], second: &[u8], third: &[u8]) -> Cho
     if count == 4 {
         return three_words(first, second, third);
     }
-    Choice::Usage
+    Request::Usage
 }

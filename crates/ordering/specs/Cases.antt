@@ -7,12 +7,11 @@ use mathlib.Core.List.{List, [], _∷_}
 use Prim.Native.Nat.{ℕ, zero, suc, _+_}
 use lib.ListN.{replicate}
 use Rattle.answer.specs.declared.Choice.the-variants.{Lowest}
-use Rattle.demands.specs.Calls.{take, layOut, add, remove, complete, readBack, list, figures, survey}
-use Rattle.worked.specs.Cases.{Step, _gives_, Case, allHold, taken, held, part, laidOut, finished, written, report, no, noInto, joined, noJoin, join, sevens, rec}
+use Rattle.worked.specs.Cases.{take, layOut, add, remove, complete, readBack, list, figures, survey, Step, _gives_, Case, allHold, taken, held, part, laidOut, completed, written, report, no, noInto, joined, noJoin, join, sevens, rec}
 
 -- The order of checks (document 01: "Checks run in table order, among those that concern the call"): calls in which refusals compete, and the
 -- one that is to come out. Left to the tests: survey's 18 on 200 vertices, and 200 isolated vertices laid out. A new block on a laid state with
--- 64 blocks, whose table is too dear to compute here, is 3 by taking/proofs/Take.antt `take-new-laid`.
+-- 64 blocks, whose table is too dear to compute here, is 3 by take_block/proofs/Take.antt `take-new-laid`.
 
 -- (1,1)=2 and (1,1)=4, as blocks
 abbrev pub pair : List ℕ
@@ -123,7 +122,7 @@ withIsolated =
     }
     -- a table of them alone
     ∷ record {
-      steps = take 0 (rec 0 0 3 []) gives taken 1 ∷ layOut gives laidOut 3 ∷ complete Lowest [] gives finished 0 0 0 [] ∷ [];
+      steps = take 0 (rec 0 0 3 []) gives taken 1 ∷ layOut gives laidOut 3 ∷ complete Lowest [] gives completed 0 0 0 [] ∷ [];
       edges = [];
     }
     -- they are numbered first and never linked: 13 and 14 before 16, which names degree 0; 17; figures
@@ -131,7 +130,7 @@ withIsolated =
       steps =
           take 0 (rec 1 1 2 (rec 0 0 2 [])) gives taken 1 ∷ layOut gives laidOut 4
           ∷ add 0 4 gives noJoin 13 0 0 ∷ add 0 0 gives noJoin 14 0 0 ∷ add 1 0 gives noJoin 16 0 0 ∷ add 3 1 gives noJoin 16 0 1 ∷ remove 2 1 gives no 17 0 0
-          ∷ complete Lowest (sevens 8) gives finished 1 0 8 (join 2 3 []) ∷ figures gives report 1 1 4 1 1 ∷ [];
+          ∷ complete Lowest (sevens 8) gives completed 1 0 8 (join 2 3 []) ∷ figures gives report 1 1 4 1 1 ∷ [];
       edges = 2 ∷ 3 ∷ [];
     }
     -- 12 counts them; 9 to 11 come first and do not see them
@@ -171,7 +170,7 @@ withEmpty =
       edges = [];
     }
     -- no other block: no vertices
-    ∷ record { steps = take 0 [] gives taken 1 ∷ layOut gives laidOut 0 ∷ complete Lowest [] gives finished 0 0 0 [] ∷ []; edges = [] }
+    ∷ record { steps = take 0 [] gives taken 1 ∷ layOut gives laidOut 0 ∷ complete Lowest [] gives completed 0 0 0 [] ∷ []; edges = [] }
     -- 64 of them, then 8, for one with bytes too; 6, 7 and held before 8
     ∷ record {
       steps =

@@ -3,8 +3,7 @@
 use mathlib.Core.Path.{_≡_}
 use mathlib.Core.Bool.{true}
 use mathlib.Core.List.{List, [], _∷_}
-use Rattle.demands.specs.Calls.{take, layOut, add, remove, figures}
-use Rattle.worked.specs.Cases.{_gives_, Case, allHold, taken, laidOut, removed, report, joined, joinedBy, noJoin, rec}
+use Rattle.worked.specs.Cases.{take, layOut, add, remove, figures, _gives_, Case, allHold, taken, laidOut, removed, report, joined, joinedBy, noJoin, rec}
 
 abbrev pub drawings : List Case
 drawings =

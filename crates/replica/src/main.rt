@@ -3,8 +3,8 @@ use answer::Choice;
 use libc::STDERR_FILENO;
 use libc::STDIN_FILENO;
 use libc::STDOUT_FILENO;
-use options::Choice;
 use options::Form;
+use options::Request;
 use runner::MAX_INPUT_BYTES;
 use runner::MAX_TEXT_BYTES;
 
@@ -21,7 +21,7 @@ fn was_read(n: usize) -> bool {
 }
 
 // Reads the records and prints the replica.
-fn print_replica(form: Form, finish: Choice) {
+fn print_replica(form: Form, choice: Choice) {
     let mut input = [0u8; MAX_INPUT_BYTES];
     let n = io::read_full(STDIN_FILENO, &mut input);
     if !was_read(n) {
@@ -29,7 +29,7 @@ fn print_replica(form: Form, finish: Choice) {
         return;
     }
     let mut output = [0u8; MAX_TEXT_BYTES];
-    let len = runner::render(form, finish, &input[..n], &mut output);
+    let len = runner::render(form, choice, &input[..n], &mut output);
     if !io::write_all(STDOUT_FILENO, &output[..len]) {
         io::write_all(STDERR_FILENO, b"replica: the output could not be written\n");
     }
@@ -42,10 +42,10 @@ fn main() {
     let n1 = os::arg(1, &mut first);
     let n2 = os::arg(2, &mut second);
     let n3 = os::arg(3, &mut third);
-    let choice = options::choice_of(os::arg_count(), &first[..n1], &second[..n2], &third[..n3]);
-    match choice {
-        Choice::Show(form, finish) => print_replica(form, finish),
-        Choice::Usage => {
+    let asked = options::request_of(os::arg_count(), &first[..n1], &second[..n2], &third[..n3]);
+    match asked {
+        Request::Show(form, choice) => print_replica(form, choice),
+        Request::Usage => {
             io::write_all(
                 STDERR_FILENO,
                 b"usage: replica [--graph6] [--shuffle X] < records\n",

@@ -6,7 +6,7 @@ use mathlib.Core.List.{List, [], _++_}
 use mathlib.Core.Logic.{_⊎_}
 use Prim.Native.Nat.{ℕ, _*_, _<_}
 use lib.Dec.{eqb, ltb}
-use lib.ListN.{length, take, replicate}
+use lib.ListN.{length, take}
 use Rattle.finite.specs.Range.{sumTo, catTo}
 use Rattle.graph.specs.Graph.{Simple, ownJdm, isolated, DegreeTable, edges}
 use Rattle.answer.specs.declared.Refusal.{Refusal}
@@ -16,12 +16,12 @@ use Rattle.answer.specs.declared.CompleteAnswer.the-variants.{Completed}
 use Rattle.answer.specs.declared.Choice.{Choice}
 use Rattle.table.specs.Block.{blockMost, blockCell, blockIsolated}
 use Rattle.graph.specs.Tests.{vertices}
-use Rattle.journal.specs.Journal.{journalSize, tableOf}
-use Rattle.adjacency.specs.Adjacency.{adjacencySize, edge}
-use Rattle.lay_out.specs.LayOut.{layOutAnswer, layOutJournal}
-use Rattle.complete.specs.Complete.{ranAnswer}
+use Rattle.journal.specs.Journal.{tableOf}
+use Rattle.adjacency.specs.Adjacency.{edge}
+use Rattle.state.specs.State.{State, cleared}
+use Rattle.lay_out.specs.LayOut.{layOutAnswer, layOutAfter}
 use Rattle.graph6.specs.Format.{graph6Text}
-use Rattle.complete_shuffled.specs.Outcome.{outcome}
+use Rattle.complete_shuffled.specs.Outcome.{choiceAnswer}
 use Rattle.text.specs.Text.{newline, refusedLine, headLine, edgeLine}
 use Rattle.options.specs.declared.Form.{Form}
 use Rattle.options.specs.declared.Form.the-variants.{Lines, Graph6}
@@ -37,18 +37,16 @@ pub record InputCut : Type 0 where
 
 -- what lies behind 65 blocks cannot matter: the program need not read it
 abbrev pub ReadsEnough : Type 0
-ReadsEnough = (form : Form) (finish : Choice) (input : List ℕ) → programText form finish input ≡ programText form finish (take inputMost input)
+ReadsEnough = (form : Form) (choice : Choice) (input : List ℕ) → programText form choice input ≡ programText form choice (take inputMost input)
 
 -- where the input's blocks are taken and laid out, completing has room and is not refused
 abbrev pub CompletesAlways : Type 0
 CompletesAlways =
-    (finish : Choice) (input : List ℕ) (n : ℕ) →
-    let g : List ℕ = replicate adjacencySize 0 in
-    let t = takeAll (replicate journalSize 0) g input in
-    let a = layOutAnswer (t .journal) g in
-    let j = layOutJournal a (t .journal) in
-    t .verdict ≡ Go → a ≡ LaidOut n →
-    (joins switches written : ℕ) × (ranAnswer (outcome finish j g) j g recordsMost ≡ Completed joins switches written)
+    (choice : Choice) (input : List ℕ) (n : ℕ) →
+    let t = takeAll cleared input in
+    let s = layOutAfter (t .state) in
+    t .verdict ≡ Go → layOutAnswer (t .state) ≡ LaidOut n →
+    (joins switches written : ℕ) × (choiceAnswer choice s recordsMost ≡ Completed joins switches written)
 
 -- the sum of the input's blocks: in each cell, and of the isolated vertices
 abbrev pub inputTable : List ℕ → DegreeTable
@@ -71,17 +69,16 @@ shown Graph6 n switches g = graph6Text n (edge g) ++ newline
 -- The text is that of a state whose journal says t and whose matrix holds a simple graph with t's matrix in every cell, by equation (1) at its own
 -- degrees, and as many isolated vertices: its graph shown, and nothing else.
 pub record Built (form : Form) (t : DegreeTable) (text : List ℕ) : Type 0 where
-  pub journal : List ℕ
-  pub adjacency : List ℕ
+  pub state : State
   pub switches : ℕ
-  pub table : tableOf journal ≡ t
-  pub simple : Simple (vertices t) (edge adjacency)
-  pub has-table : (k l : ℕ) → ownJdm (vertices t) (edge adjacency) k l ≡ t .cells k l
-  pub has-isolated : isolated (vertices t) (edge adjacency) ≡ t .isolated
-  pub says : text ≡ shown form (vertices t) switches adjacency
+  pub table : tableOf (state .journal) ≡ t
+  pub simple : Simple (vertices t) (edge (state .adjacency))
+  pub has-table : (k l : ℕ) → ownJdm (vertices t) (edge (state .adjacency)) k l ≡ t .cells k l
+  pub has-isolated : isolated (vertices t) (edge (state .adjacency)) ≡ t .isolated
+  pub says : text ≡ shown form (vertices t) switches (state .adjacency)
 
 -- every text is a refusal, or that of a graph with the input's table
 abbrev pub ProgramSays : Type 0
 ProgramSays =
-    (form : Form) (finish : Choice) (input : List ℕ) →
-    ((r : Refusal) × (programText form finish input ≡ refusedLine r)) ⊎ Built form (inputTable input) (programText form finish input)
+    (form : Form) (choice : Choice) (input : List ℕ) →
+    ((r : Refusal) × (programText form choice input ≡ refusedLine r)) ⊎ Built form (inputTable input) (programText form choice input)

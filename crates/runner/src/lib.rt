@@ -1,25 +1,23 @@
 // What the program does with its input: takes records in blocks of 64 bytes, lays out, completes, and writes the text that it prints.
 ghost use mathlib.Core.Path.{_≡_};
-ghost use mathlib.Core.Bool.{true};
 ghost use mathlib.Core.List.{_++_};
 ghost use Prim.Native.Nat.{ℕ, _+_, _-_, _*_, _/_, _≤_};
 ghost use lib.Dec.{eqb};
 ghost use lib.ListN.{length};
 ghost use lib.Seq.{sets};
 ghost use Rattle.table.specs.Block.{blockMost};
-ghost use Rattle.journal.specs.Journal.{phase};
-ghost use Rattle.state.specs.Valid.{lengthsOk, valid};
+ghost use Rattle.state.specs.State.{stateOf};
+ghost use Rattle.state.specs.Valid.{ValidLaid};
 ghost use Rattle.answer.specs.declared.Verdict.the-variants.{Go};
 ghost use Rattle.answer.specs.declared.CompleteAnswer.{CompleteAnswer};
 ghost use Rattle.answer.specs.declared.LayOutAnswer.the-variants.{LaidOut};
-ghost use Rattle.take_block.specs.Take.{takeAnswer, takeJournal};
+ghost use Rattle.take_block.specs.Take.{takeAnswer, takeAfter};
 ghost use Rattle.io.specs.Counts.{Counts};
 ghost use Rattle.text.specs.Text.{newline, headLine, edgeLines, headMost};
 ghost use Rattle.state.specs.Laid.{vertexCount};
 ghost use Rattle.edge_lists.specs.EdgeList.{listVerdict};
 ghost use Rattle.graph6_write.specs.Write.{writeText};
-ghost use Rattle.complete.specs.Complete.{ranAnswer, ranAfter};
-ghost use Rattle.complete_shuffled.specs.Outcome.{outcome};
+ghost use Rattle.complete_shuffled.specs.Outcome.{choiceAnswer, choiceAfter};
 ghost use Rattle.complete_shuffled.specs.Shuffle.{withX};
 ghost use Rattle.runner.specs.Program.{blockIn, takeVerdict, takeAll, listText, stateText, laidText, takenText, programText, inputMost, textMost};
 use adjacency::ADJACENCY_BYTES;
@@ -90,8 +88,8 @@ fn block_in(input: &[u8], number: usize) -> &[u8]
 
 // Takes one block; refused or not.
 fn take_one(journal: &mut [u8], adjacency: &[u8], number: usize, block: &[u8]) -> Verdict
-    ensures { λ r. ⌜ r ≡ takeVerdict (takeAnswer (now (journal .entry)) (now (adjacency .entry)) number (now (block .entry))) ⌝ }
-    ensures { λ _. ⌜ now (journal .exit) ≡ takeJournal (takeAnswer (now (journal .entry)) (now (adjacency .entry)) number (now (block .entry))) (now (journal .entry)) (now (block .entry)) ⌝ }
+    ensures { λ r. ⌜ r ≡ takeVerdict (takeAnswer (stateOf (now (journal .entry)) (now (adjacency .entry))) number (now (block .entry))) ⌝ }
+    ensures { λ _. ⌜ now (journal .exit) ≡ takeAfter (stateOf (now (journal .entry)) (now (adjacency .entry))) number (now (block .entry)) .journal ⌝ }
 {
     let answer = take_block::take_block(journal, adjacency, number, block);
     match answer {
@@ -103,8 +101,8 @@ fn take_one(journal: &mut [u8], adjacency: &[u8], number: usize, block: &[u8]) -
 
 // Takes the input block by block, up to the first refusal. The 65th block is refused, so nothing behind it matters.
 fn take_all(journal: &mut [u8], adjacency: &[u8], input: &[u8]) -> Verdict
-    ensures { λ r. ⌜ r ≡ takeAll (now (journal .entry)) (now (adjacency .entry)) (now (input .entry)) .verdict ⌝ }
-    ensures { λ _. ⌜ now (journal .exit) ≡ takeAll (now (journal .entry)) (now (adjacency .entry)) (now (input .entry)) .journal ⌝ }
+    ensures { λ r. ⌜ r ≡ takeAll (stateOf (now (journal .entry)) (now (adjacency .entry))) (now (input .entry)) .verdict ⌝ }
+    ensures { λ _. ⌜ now (journal .exit) ≡ takeAll (stateOf (now (journal .entry)) (now (adjacency .entry))) (now (input .entry)) .state .journal ⌝ }
 {
     let n = least(block_count(input.len()), MAX_BLOCKS + 1);
     for number in 0..n {
@@ -164,9 +162,9 @@ fn put_state(
     switches: usize,
     output: &mut [u8],
 ) -> usize
-    requires { ⌜ (lengthsOk (now journal) (now adjacency) ≡ true) × (valid (now journal) (now adjacency) ≡ true) × (phase (now journal) ≡ 1) × (n ≡ vertexCount (now journal)) × (textMost ≤ length (now output)) ⌝ }
-    ensures { λ r. ⌜ r ≡ length (stateText form n switches (now (journal .entry)) (now (adjacency .entry))) ⌝ }
-    ensures { λ _. ⌜ now (output .exit) ≡ sets (now (output .entry)) 0 (stateText form n switches (now (journal .entry)) (now (adjacency .entry))) ⌝ }
+    requires { ⌜ ValidLaid (stateOf (now journal) (now adjacency)) × (n ≡ vertexCount (stateOf (now journal) (now adjacency))) × (textMost ≤ length (now output)) ⌝ }
+    ensures { λ r. ⌜ r ≡ length (stateText form n switches (stateOf (now (journal .entry)) (now (adjacency .entry)))) ⌝ }
+    ensures { λ _. ⌜ now (output .exit) ≡ sets (now (output .entry)) 0 (stateText form n switches (stateOf (now (journal .entry)) (now (adjacency .entry)))) ⌝ }
 {
     let mut list = [0u8; MAX_LIST_BYTES];
     let answer = edge_list::edge_list(journal, adjacency, &mut list);
@@ -191,16 +189,16 @@ fn without_x(answer: ShuffleAnswer) -> CompleteAnswer
 }
 
 // Completes by the lowest open pairs, or by those that x picks.
-fn finish_by(
+fn complete_by(
     journal: &[u8],
     adjacency: &mut [u8],
-    finish: Choice,
+    choice: Choice,
     records: &mut [u8],
 ) -> CompleteAnswer
-    ensures { λ r. ⌜ r ≡ ranAnswer (outcome finish (now (journal .entry)) (now (adjacency .entry))) (now (journal .entry)) (now (adjacency .entry)) (length (now (records .entry))) ⌝ }
-    ensures { λ r. ⌜ now (adjacency .exit) ≡ ranAfter r (outcome finish (now (journal .entry)) (now (adjacency .entry))) (now (adjacency .entry)) ⌝ }
+    ensures { λ r. ⌜ r ≡ choiceAnswer choice (stateOf (now (journal .entry)) (now (adjacency .entry))) (length (now (records .entry))) ⌝ }
+    ensures { λ r. ⌜ now (adjacency .exit) ≡ choiceAfter choice (stateOf (now (journal .entry)) (now (adjacency .entry))) (length (now (records .entry))) .adjacency ⌝ }
 {
-    match finish {
+    match choice {
         Choice::Lowest => complete::complete(journal, adjacency, records),
         Choice::Picked(x) => without_x(complete_shuffled(journal, adjacency, x, records)),
     }
@@ -211,16 +209,16 @@ fn complete(
     journal: &[u8],
     adjacency: &mut [u8],
     form: Form,
-    finish: Choice,
+    choice: Choice,
     n: usize,
     output: &mut [u8],
 ) -> usize
-    requires { ⌜ (n ≡ vertexCount (now journal)) × (textMost ≤ length (now output)) ⌝ }
-    ensures { λ r. ⌜ r ≡ length (laidText form finish (LaidOut n) (now (journal .entry)) (now (adjacency .entry))) ⌝ }
-    ensures { λ _. ⌜ now (output .exit) ≡ sets (now (output .entry)) 0 (laidText form finish (LaidOut n) (now (journal .entry)) (now (adjacency .entry))) ⌝ }
+    requires { ⌜ (n ≡ vertexCount (stateOf (now journal) (now adjacency))) × (textMost ≤ length (now output)) ⌝ }
+    ensures { λ r. ⌜ r ≡ length (laidText form choice (LaidOut n) (stateOf (now (journal .entry)) (now (adjacency .entry)))) ⌝ }
+    ensures { λ _. ⌜ now (output .exit) ≡ sets (now (output .entry)) 0 (laidText form choice (LaidOut n) (stateOf (now (journal .entry)) (now (adjacency .entry)))) ⌝ }
 {
     let mut records = [0u8; MAX_JOIN_RECORDS_BYTES];
-    let answer = finish_by(journal, adjacency, finish, &mut records);
+    let answer = complete_by(journal, adjacency, choice, &mut records);
     match answer {
         CompleteAnswer::Refused(r) => put_refused(output, 0, r),
         CompleteAnswer::Completed(_, switches, _) => put_state(
@@ -239,32 +237,32 @@ fn lay_out(
     journal: &mut [u8],
     adjacency: &mut [u8],
     form: Form,
-    finish: Choice,
+    choice: Choice,
     output: &mut [u8],
 ) -> usize
     requires { ⌜ textMost ≤ length (now output) ⌝ }
-    ensures { λ r. ⌜ r ≡ length (takenText form finish Go (now (journal .entry)) (now (adjacency .entry))) ⌝ }
-    ensures { λ _. ⌜ now (output .exit) ≡ sets (now (output .entry)) 0 (takenText form finish Go (now (journal .entry)) (now (adjacency .entry))) ⌝ }
+    ensures { λ r. ⌜ r ≡ length (takenText form choice Go (stateOf (now (journal .entry)) (now (adjacency .entry)))) ⌝ }
+    ensures { λ _. ⌜ now (output .exit) ≡ sets (now (output .entry)) 0 (takenText form choice Go (stateOf (now (journal .entry)) (now (adjacency .entry)))) ⌝ }
 {
     let answer = lay_out::lay_out(journal, adjacency);
     match answer {
         LayOutAnswer::Refused(r) => put_refused(output, 0, r),
-        LayOutAnswer::LaidOut(n) => complete(journal, adjacency, form, finish, n, output),
+        LayOutAnswer::LaidOut(n) => complete(journal, adjacency, form, choice, n, output),
     }
 }
 
 // The program's text for an input, at the start of the output. Its length; it always fits.
-pub fn render(form: Form, finish: Choice, input: &[u8], output: &mut [u8; MAX_TEXT_BYTES]) -> usize
-    ensures { λ r. ⌜ r ≡ length (programText form finish (now (input .entry))) ⌝ }
+pub fn render(form: Form, choice: Choice, input: &[u8], output: &mut [u8; MAX_TEXT_BYTES]) -> usize
+    ensures { λ r. ⌜ r ≡ length (programText form choice (now (input .entry))) ⌝ }
     ensures { λ r. ⌜ Counts r (now (output .exit)) ⌝ }
-    ensures { λ _. ⌜ now (output .exit) ≡ sets (now (output .entry)) 0 (programText form finish (now (input .entry))) ⌝ }
+    ensures { λ _. ⌜ now (output .exit) ≡ sets (now (output .entry)) 0 (programText form choice (now (input .entry))) ⌝ }
 {
     let mut journal = [0u8; JOURNAL_BYTES];
     let mut adjacency = [0u8; ADJACENCY_BYTES];
     let taken = take_all(&mut journal, &adjacency, input);
     match taken {
         Verdict::Stop(r) => put_refused(output, 0, r),
-        Verdict::Go => lay_out(&mut journal, &mut adjacency, form, finish, output),
+        Verdict::Go => lay_out(&mut journal, &mut adjacency, form, choice, output),
     }
 }
 

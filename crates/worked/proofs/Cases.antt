@@ -9,7 +9,7 @@ use lib.ListN.{length}
 use borrow.Author.Tests.{eqb-true}
 use Rattle.answer.specs.Refusals.{refusal, stop, unless, unlessStopped}
 use Rattle.answer.specs.Numbers.{takeNumbers, layOutNumbers, addNumbers, removeNumbers, completeNumbers, shuffleNumbers, lengthNumbers, writtenNumbers, readNumbers, figuresNumbers}
-use Rattle.answer.specs.declared.Cause.the-variants.{WrongPhase, BlockNumber}
+use Rattle.answer.specs.declared.Cause.the-variants.{WrongPhase, BlockNumber, EdgeAbsent}
 use Rattle.answer.specs.declared.Verdict.{Verdict}
 use Rattle.answer.specs.declared.Verdict.the-variants.{Go}
 use Rattle.answer.specs.declared.LengthAnswer.{LengthAnswer}
@@ -31,89 +31,95 @@ use Rattle.graph.specs.Graph.{jdm, edges}
 use Rattle.graph.specs.Tests.{vertices}
 use Rattle.layout.specs.Layout.{layoutVerdict}
 use Rattle.journal.specs.Journal.{phase, blocks, slotLength, tableOf}
-use Rattle.state.specs.Checks.{stateVerdict}
+use Rattle.adjacency.specs.Adjacency.{edge}
+use Rattle.state.specs.State.{State, cleared}
+use Rattle.state.specs.Checks.{stateVerdict, pairVerdict}
 use Rattle.state.specs.Laid.{vertexCount}
 use Rattle.state.proofs.Checks.{state-go}
 use Rattle.state.proofs.Facts.{valid-facts}
-use Rattle.take_block.specs.Take.{takeOnValid, takeJournal}
-use Rattle.held_block.specs.Held.{heldPart}
-use Rattle.lay_out.specs.LayOut.{laidOut, layOutJournal}
+use Rattle.take_block.specs.Take.{takeOnValid, afterTake}
+use Rattle.held_block.specs.Held.{partHeld}
+use Rattle.lay_out.specs.LayOut.{laidOut, afterLayOut}
 use Rattle.figures.specs.Figures.{figuresOf}
-use Rattle.add_edge.specs.Add.{addLaid, addAdjacency}
-use Rattle.remove_edge.specs.Remove.{removeLaid, removeAdjacency}
-use Rattle.edge_list.specs.List.{listLaid, listOutput}
+use Rattle.add_edge.specs.Add.{addPair, afterAdd}
+use Rattle.remove_edge.specs.Remove.{afterRemove}
+use Rattle.edge_list.specs.List.{listLaid, outputListed}
 use Rattle.edge_list.proofs.List.{zeros-none}
 use Rattle.jdm_of_edges.specs.Survey.{surveyAnswer, surveyOutput}
 use Rattle.graph6_write.specs.Write.{writeAnswer, writeOutput}
 use Rattle.graph6_read.specs.Read.{readAnswer, readOutput}
-use Rattle.complete.specs.Complete.{Ran, completed, ranLaid, ranAfter, ranOutput}
+use Rattle.complete.specs.Complete.{Ran, completed, ranLaid, afterRan, outputRan}
 use Rattle.complete_shuffled.specs.Shuffle.{shuffled, withX}
 use Rattle.complete_shuffled.specs.Outcome.{outcome}
-use Rattle.demands.specs.Calls.{Call, take, layOut, add, remove, complete, readBack, list, figures, survey, writeGraph6, readGraph6, State, cleared, after}
+use Rattle.demands.specs.Calls.{Change, take, layOut, add, remove, complete, Reading, readBack, list, figures, survey, writeGraph6, readGraph6, Call, changes, reads, changed, after}
+use Rattle.demands.specs.Answers.{six, nine, answerOf}
 use Rattle.demands.specs.Tally.{Tally, noTally, told, tally}
-use Rattle.worked.specs.Cases.{six, nine, answerOf, Step, Case, sameList, edgesOf, holdsFrom, allHold, starred, StarredHold, moved, MovedHold, picked, PickedHold}
+use Rattle.worked.specs.Cases.{Step, Case, sameList, edgesOf, holdsFrom, allHold, starred, StarredHold, moved, MovedHold, picked, PickedHold}
 use Rattle.demands.proofs.Reach.{Reach, reach-cleared, after-call}
 
 -- The answers past the checks 1 and 2.
-abbrev phaseRest : ℕ → List ℕ → Verdict
-phaseRest p j = unless (eqb (phase j) p) (stop WrongPhase) Go
+abbrev phaseRest : ℕ → State → Verdict
+phaseRest p s = unless (eqb (phase (s .journal)) p) (stop WrongPhase) Go
 
-abbrev layOutRest : List ℕ → LayOutAnswer
-layOutRest j = unlessStopped (phaseRest 0 j) LayOut.Refused (laidOut (layoutVerdict (tableOf j)) (vertices (tableOf j)))
+abbrev layOutRest : State → LayOutAnswer
+layOutRest s =
+    unlessStopped (phaseRest 0 s) LayOut.Refused (laidOut (layoutVerdict (tableOf (s .journal))) (vertices (tableOf (s .journal))))
 
-abbrev addRest : List ℕ → List ℕ → ℕ → ℕ → AddAnswer
-addRest j g v w = unlessStopped (phaseRest 1 j) Add.Refused (addLaid j g v w)
+abbrev addRest : State → ℕ → ℕ → AddAnswer
+addRest s v w = unlessStopped (phaseRest 1 s) Add.Refused (unlessStopped (pairVerdict (vertexCount s) v w) Add.Refused (addPair s v w))
 
-abbrev removeRest : List ℕ → List ℕ → ℕ → ℕ → RemoveAnswer
-removeRest j g v w = unlessStopped (phaseRest 1 j) Remove.Refused (removeLaid j g v w)
+abbrev removeRest : State → ℕ → ℕ → RemoveAnswer
+removeRest s v w =
+    unlessStopped (phaseRest 1 s) Remove.Refused
+    (unlessStopped (pairVerdict (vertexCount s) v w) Remove.Refused
+    (unless (eqb (edge (s .adjacency) v w) 1) (Remove.Refused (refusal EdgeAbsent 0 0)) Remove.Removed))
 
-abbrev finishRest : Ran → List ℕ → List ℕ → ℕ → CompleteAnswer
-finishRest r j g m = unlessStopped (phaseRest 1 j) Complete.Refused (ranLaid r j g m)
+abbrev completeRest : Ran → State → ℕ → CompleteAnswer
+completeRest r s m = unlessStopped (phaseRest 1 s) Complete.Refused (ranLaid r s m)
 
-abbrev lengthRest : List ℕ → ℕ → LengthAnswer
-lengthRest j number = unless (ltb number (blocks j)) (Len.Refused (refusal BlockNumber 0 0)) (Len.Length (slotLength j number))
+abbrev lengthRest : State → ℕ → LengthAnswer
+lengthRest s number =
+    unless (ltb number (blocks (s .journal))) (Len.Refused (refusal BlockNumber 0 0)) (Len.Length (slotLength (s .journal) number))
 
-abbrev listRest : List ℕ → List ℕ → ℕ → WrittenAnswer
-listRest j g m = unlessStopped (phaseRest 1 j) Write.Refused (listLaid j g m)
+abbrev listRest : State → ℕ → WrittenAnswer
+listRest s m = unlessStopped (phaseRest 1 s) Write.Refused (listLaid s m)
+
+abbrev changeRest : State → Change → List ℕ
+changeRest s (take number b) = six (takeNumbers (takeOnValid (s .journal) number b))
+changeRest s layOut = six (layOutNumbers (layOutRest s))
+changeRest s (add v w) = nine (addNumbers (addRest s v w))
+changeRest s (remove v w) = six (removeNumbers (removeRest s v w))
+changeRest s (complete Lowest out) =
+    let r = completed s in
+    let a = completeRest r s (length out) in
+    six (completeNumbers a) ++ outputRan a r out
+changeRest s (complete (Picked x) out) =
+    let r = shuffled s x in
+    let a = completeRest (r .ran) s (length out) in
+    six (shuffleNumbers (withX (r .x) a)) ++ outputRan a (r .ran) out
+
+abbrev readingRest : State → Reading → List ℕ
+readingRest s (readBack number) = let a = lengthRest s number in six (lengthNumbers a) ++ partHeld a (s .journal) number
+readingRest s (list out) = let a = listRest s (length out) in six (writtenNumbers a) ++ outputListed a s out
+readingRest s figures = six (figuresNumbers (Figs.Reported (figuresOf (eqb (phase (s .journal)) 0) s)))
+readingRest s (survey e total out) = let a = surveyAnswer e total (length out) in six (writtenNumbers a) ++ surveyOutput a e total out
+readingRest s (writeGraph6 e total out) = let a = writeAnswer e total (length out) in six (writtenNumbers a) ++ writeOutput a e total out
+readingRest s (readGraph6 text out) = let a = readAnswer text (length out) in six (readNumbers a) ++ readOutput a text out
 
 abbrev answerRest : State → Call → List ℕ
-answerRest s (take number b) = six (takeNumbers (takeOnValid (s .journal) number b))
-answerRest s layOut = six (layOutNumbers (layOutRest (s .journal)))
-answerRest s (add v w) = nine (addNumbers (addRest s v w))
-answerRest s (remove v w) = six (removeNumbers (removeRest s v w))
-answerRest s (complete Lowest out) =
-    let r = completed s in
-    let a = finishRest r s (length out) in
-    six (completeNumbers a) ++ ranOutput a r out
-answerRest s (complete (Picked x) out) =
-    let r = shuffled s x in
-    let a = finishRest (r .ran) s (length out) in
-    six (shuffleNumbers (withX (r .x) a)) ++ ranOutput a (r .ran) out
-answerRest s (readBack number) = let a = lengthRest (s .journal) number in six (lengthNumbers a) ++ heldPart a (s .journal) number
-answerRest s (list out) =
-    let a = listRest s (length out) in
-    six (writtenNumbers a) ++ listOutput a s out
-answerRest s figures = six (figuresNumbers (Figs.Reported (figuresOf (eqb (phase (s .journal)) 0) s)))
-answerRest s (survey e total out) = let a = surveyAnswer e total (length out) in six (writtenNumbers a) ++ surveyOutput a e total out
-answerRest s (writeGraph6 e total out) = let a = writeAnswer e total (length out) in six (writtenNumbers a) ++ writeOutput a e total out
-answerRest s (readGraph6 text out) = let a = readAnswer text (length out) in six (readNumbers a) ++ readOutput a text out
+answerRest s (changes c) = changeRest s c
+answerRest s (reads q) = readingRest s q
+
+abbrev changedRest : State → Change → State
+changedRest s (take number b) = afterTake (takeOnValid (s .journal) number b) s b
+changedRest s layOut = afterLayOut (layOutRest s) s
+changedRest s (add v w) = afterAdd (addRest s v w) s v w
+changedRest s (remove v w) = afterRemove (removeRest s v w) s v w
+changedRest s (complete f out) = let r = outcome f s in afterRan (completeRest r s (length out)) r s
 
 abbrev afterRest : State → Call → State
-afterRest s (take number b) = record { journal = takeJournal (takeOnValid (s .journal) number b) (s .journal) b; adjacency = s .adjacency }
-afterRest s layOut = record { journal = layOutJournal (layOutRest (s .journal)) (s .journal); adjacency = s .adjacency }
-afterRest s (add v w) =
-    record { journal = s .journal; adjacency = addAdjacency (addRest s v w) s v w }
-afterRest s (remove v w) =
-    record { journal = s .journal; adjacency = removeAdjacency (removeRest s v w) (s .adjacency) v w }
-afterRest s (complete f out) =
-    let r = outcome f s in
-    record { journal = s .journal; adjacency = ranAfter (finishRest r s (length out)) r (s .adjacency) }
-afterRest s (readBack number) = s
-afterRest s (list out) = s
-afterRest s figures = s
-afterRest s (survey e total out) = s
-afterRest s (writeGraph6 e total out) = s
-afterRest s (readGraph6 text out) = s
+afterRest s (changes c) = changedRest s c
+afterRest s (reads q) = s
 
 -- on a reached state both checks pass
 module _ (s : State) (t : Tally) (r : Reach s t) where
@@ -121,31 +127,25 @@ module _ (s : State) (t : Tally) (r : Reach s t) where
   checked = state-go s (r .lengths) (r .is-valid)
 
   answer-rest : (c : Call) → answerOf s c ≡ answerRest s c
-  answer-rest (take number b) = rw checked
-  answer-rest layOut = rw checked
-  answer-rest (add v w) = rw checked
-  answer-rest (remove v w) = rw checked
-  answer-rest (complete Lowest out) = rw checked
-  answer-rest (complete (Picked x) out) = rw checked
-  answer-rest (readBack number) = rw checked
-  answer-rest (list out) = rw checked
-  answer-rest figures = rw checked
-  answer-rest (survey e total out) = refl
-  answer-rest (writeGraph6 e total out) = refl
-  answer-rest (readGraph6 text out) = refl
+  answer-rest (changes (take number b)) = rw checked
+  answer-rest (changes layOut) = rw checked
+  answer-rest (changes (add v w)) = rw checked
+  answer-rest (changes (remove v w)) = rw checked
+  answer-rest (changes (complete Lowest out)) = rw checked
+  answer-rest (changes (complete (Picked x) out)) = rw checked
+  answer-rest (reads (readBack number)) = rw checked
+  answer-rest (reads (list out)) = rw checked
+  answer-rest (reads figures) = rw checked
+  answer-rest (reads (survey e total out)) = refl
+  answer-rest (reads (writeGraph6 e total out)) = refl
+  answer-rest (reads (readGraph6 text out)) = refl
 
-  after-rest : (c : Call) → after s c ≡ afterRest s c
-  after-rest (take number b) = rw checked
-  after-rest layOut = rw checked
-  after-rest (add v w) = rw checked
-  after-rest (remove v w) = rw checked
-  after-rest (complete f out) = rw checked
-  after-rest (readBack number) = refl
-  after-rest (list out) = refl
-  after-rest figures = refl
-  after-rest (survey e total out) = refl
-  after-rest (writeGraph6 e total out) = refl
-  after-rest (readGraph6 text out) = refl
+  changed-rest : (c : Change) → changed s c ≡ changedRest s c
+  changed-rest (take number b) = rw checked
+  changed-rest layOut = rw checked
+  changed-rest (add v w) = rw checked
+  changed-rest (remove v w) = rw checked
+  changed-rest (complete f out) = rw checked
 
 -- in phase 0 there are no edges, so that none need be looked for
 abbrev edgesRest : State → List ℕ
@@ -167,10 +167,13 @@ holdsRest s (x ∷ xs) es = sameList (answerRest s (x .call)) (x .answer) && hol
 holds-rest : (xs : List Step) (es : List ℕ) (s : State) (t : Tally) → Reach s t → holdsFrom s xs es ≡ holdsRest s xs es
 holds-rest [] es s t r = ap (λ (e : List ℕ). sameList e es) (edges-rest s t r)
 holds-rest (x ∷ xs) es s t r =
-    let c = x .call in
-    ap (λ (n : List ℕ). sameList n (x .answer) && holdsFrom (after s c) xs es) (answer-rest s t r c)
-    ∙ ap (λ (b : Bool). sameList (answerRest s c) (x .answer) && b)
-    (holds-rest xs es (after s c) (tally t (told s c)) (after-call s t r c) ∙ ap (λ (s : State). holdsRest s xs es) (after-rest s t r c))
+    ap (λ (n : List ℕ). sameList n (x .answer) && holdsFrom (after s (x .call)) xs es) (answer-rest s t r (x .call))
+    ∙ ap (λ (b : Bool). sameList (answerRest s (x .call)) (x .answer) && b) (next (x .call))
+  where
+    next : (c : Call) → holdsFrom (after s c) xs es ≡ holdsRest (afterRest s c) xs es
+    next (changes c) =
+        holds-rest xs es (changed s c) (tally t (told s c)) (after-call s t r c) ∙ ap (λ (s : State). holdsRest s xs es) (changed-rest s t r c)
+    next (reads q) = holds-rest xs es s t r
 
 abbrev pub allRest : List Case → Bool
 allRest [] = true

@@ -1,6 +1,6 @@
 -- Worked examples as lists of cases, and one test that runs the entries' definitions on a case: what all its calls from a cleared state hand back,
 -- in document 01's numbers and the bytes of their outputs, and the edges in the end. `starred` are the starred cases of document 01 ("Tables to
--- try"), `moved` those of document 02's switches and records, `picked` those of its shuffled finishing.
+-- try"), `moved` those of document 02's switches and records, `picked` those of its shuffled completing.
 -- Assumes nothing.
 use mathlib.Core.Path.{_≡_}
 use mathlib.Core.Bool.{Bool, true, false, _&&_}
@@ -8,51 +8,43 @@ use mathlib.Core.List.{List, [], _∷_, _++_}
 use Prim.Native.Nat.{ℕ}
 use lib.Dec.{eqb}
 use lib.ListN.{length, replicate}
-use Rattle.answer.specs.Numbers.{Numbers, JoinNumbers, done, takeNumbers, layOutNumbers, addNumbers, removeNumbers, completeNumbers, shuffleNumbers, lengthNumbers, writtenNumbers, readNumbers, figuresNumbers}
+use Rattle.answer.specs.Numbers.{done}
+use Rattle.answer.specs.declared.Choice.{Choice}
 use Rattle.answer.specs.declared.Choice.the-variants.{Lowest, Picked}
+use Rattle.state.specs.State.{State, cleared}
 use Rattle.state.specs.Laid.{vertexCount}
-use Rattle.take_block.specs.Take.{takeAnswer}
-use Rattle.held_block.specs.Held.{lengthAnswer, heldPart}
-use Rattle.lay_out.specs.LayOut.{layOutAnswer}
-use Rattle.figures.specs.Figures.{figuresAnswer}
-use Rattle.add_edge.specs.Add.{addAnswer}
-use Rattle.remove_edge.specs.Remove.{removeAnswer}
-use Rattle.edge_list.specs.List.{listBytes, listAnswer, listOutput}
-use Rattle.jdm_of_edges.specs.Survey.{surveyAnswer, surveyOutput}
-use Rattle.graph6_write.specs.Write.{writeAnswer, writeOutput}
-use Rattle.graph6_read.specs.Read.{readAnswer, readOutput}
-use Rattle.complete.specs.Complete.{completeAnswer, completeOutput}
-use Rattle.complete_shuffled.specs.Shuffle.{shuffleAnswer, shuffleOutput}
-use Rattle.demands.specs.Calls.{Call, take, layOut, add, remove, complete, readBack, list, figures, survey, writeGraph6, readGraph6, State, cleared, after}
+use Rattle.edge_list.specs.List.{listBytes}
+use Rattle.demands.specs.Calls as Calls
+use Rattle.demands.specs.Calls.{Call, changes, reads, after}
+use Rattle.demands.specs.Answers.{six, answerOf}
 
--- answers as lists of numbers
-abbrev pub six : Numbers → List ℕ
-six n = n .number ∷ n .first ∷ n .second ∷ n .third ∷ n .fourth ∷ n .fifth ∷ []
+-- the calls, as the lists below name them
+abbrev pub take : ℕ → List ℕ → Call
+take number b = changes (Calls.take number b)
 
-abbrev pub nine : JoinNumbers → List ℕ
-nine n = n .number ∷ n .first ∷ n .second ∷ n .a1 ∷ n .b1 ∷ n .t1 ∷ n .a2 ∷ n .b2 ∷ n .t2 ∷ []
+abbrev pub layOut : Call
+layOut = changes Calls.layOut
 
--- what a call hands back: its answer in document 01's numbers, then the bytes of its output, or of the part that it reads back
-abbrev pub answerOf : State → Call → List ℕ
-answerOf s (take number b) = six (takeNumbers (takeAnswer s number b))
-answerOf s layOut = six (layOutNumbers (layOutAnswer s))
-answerOf s (add v w) = nine (addNumbers (addAnswer s v w))
-answerOf s (remove v w) = six (removeNumbers (removeAnswer s v w))
-answerOf s (complete Lowest out) =
-    let a = completeAnswer s (length out) in
-    six (completeNumbers a) ++ completeOutput a s out
-answerOf s (complete (Picked x) out) =
-    six (shuffleNumbers (shuffleAnswer s x (length out))) ++ shuffleOutput s x out
-answerOf s (readBack number) =
-    let a = lengthAnswer s number in
-    six (lengthNumbers a) ++ heldPart a (s .journal) number
-answerOf s (list out) =
-    let a = listAnswer s (length out) in
-    six (writtenNumbers a) ++ listOutput a s out
-answerOf s figures = six (figuresNumbers (figuresAnswer s))
-answerOf s (survey e total out) = let a = surveyAnswer e total (length out) in six (writtenNumbers a) ++ surveyOutput a e total out
-answerOf s (writeGraph6 e total out) = let a = writeAnswer e total (length out) in six (writtenNumbers a) ++ writeOutput a e total out
-answerOf s (readGraph6 text out) = let a = readAnswer text (length out) in six (readNumbers a) ++ readOutput a text out
+abbrev pub add : ℕ → ℕ → Call
+add v w = changes (Calls.add v w)
+
+abbrev pub remove : ℕ → ℕ → Call
+remove v w = changes (Calls.remove v w)
+
+abbrev pub complete : Choice → List ℕ → Call
+complete f out = changes (Calls.complete f out)
+
+abbrev pub readBack : ℕ → Call
+readBack number = reads (Calls.readBack number)
+
+abbrev pub list : List ℕ → Call
+list out = reads (Calls.list out)
+
+abbrev pub figures : Call
+figures = reads Calls.figures
+
+abbrev pub survey : List ℕ → ℕ → List ℕ → Call
+survey e total out = reads (Calls.survey e total out)
 
 -- a call and what it is to hand back
 pub record Step : Type 0 where
@@ -90,7 +82,7 @@ allHold [] = true
 allHold (c ∷ cs) = holds c && allHold cs
 
 -- answers by name: a block taken, with the number of the next; a block held; a block read back, with its length; N laid out; an edge removed; joins,
--- switches and output of a finish, and of one by x, with the last x; an output with its written length; the figures; a refusal, with the output as it was
+-- switches and output of a completing, and of one by x, with the last x; an output with its written length; the figures; a refusal, with the output as it was
 abbrev pub taken : ℕ → List ℕ
 taken next = six (done 0 next)
 
@@ -106,11 +98,11 @@ laidOut n = six (done n 0)
 abbrev pub removed : List ℕ
 removed = six (done 0 0)
 
-abbrev pub finished : ℕ → ℕ → ℕ → List ℕ → List ℕ
-finished joins switches n out = 0 ∷ joins ∷ switches ∷ n ∷ 0 ∷ 0 ∷ out
+abbrev pub completed : ℕ → ℕ → ℕ → List ℕ → List ℕ
+completed joins switches n out = 0 ∷ joins ∷ switches ∷ n ∷ 0 ∷ 0 ∷ out
 
-abbrev pub finishedAt : ℕ → ℕ → ℕ → ℕ → List ℕ → List ℕ
-finishedAt joins switches n x out = 0 ∷ joins ∷ switches ∷ n ∷ x ∷ 0 ∷ out
+abbrev pub completedAt : ℕ → ℕ → ℕ → ℕ → List ℕ → List ℕ
+completedAt joins switches n x out = 0 ∷ joins ∷ switches ∷ n ∷ x ∷ 0 ∷ out
 
 abbrev pub written : ℕ → List ℕ → List ℕ
 written n out = six (done n 0) ++ out
@@ -158,21 +150,21 @@ rec k l n rest = k ∷ l ∷ n ∷ 0 ∷ rest
 -- the ten starred lines, in document 01's order
 abbrev pub starred : List Case
 starred =
-    record { steps = layOut gives laidOut 0 ∷ complete Lowest [] gives finished 0 0 0 [] ∷ []; edges = [] }
+    record { steps = layOut gives laidOut 0 ∷ complete Lowest [] gives completed 0 0 0 [] ∷ []; edges = [] }
     ∷ record {
-      steps = take 0 (rec 1 1 2 []) gives taken 1 ∷ layOut gives laidOut 2 ∷ complete Lowest (sevens 8) gives finished 1 0 8 (join 0 1 []) ∷ [];
+      steps = take 0 (rec 1 1 2 []) gives taken 1 ∷ layOut gives laidOut 2 ∷ complete Lowest (sevens 8) gives completed 1 0 8 (join 0 1 []) ∷ [];
       edges = 0 ∷ 1 ∷ [];
     }
     ∷ record {
       steps =
           take 0 (rec 1 3 1 (rec 2 2 2 (rec 2 3 2 []))) gives taken 1 ∷ layOut gives laidOut 4
-          ∷ complete Lowest (sevens 32) gives finished 4 0 32 (join 0 3 (join 1 2 (join 1 3 (join 2 3 [])))) ∷ [];
+          ∷ complete Lowest (sevens 32) gives completed 4 0 32 (join 0 3 (join 1 2 (join 1 3 (join 2 3 [])))) ∷ [];
       edges = 0 ∷ 3 ∷ 1 ∷ 2 ∷ 1 ∷ 3 ∷ 2 ∷ 3 ∷ [];
     }
     ∷ record {
       steps =
           take 0 (rec 2 2 8 []) gives taken 1 ∷ layOut gives laidOut 4
-          ∷ complete Lowest (sevens 33) gives finished 4 2 32 (join 0 1 (join 0 2 (joinBy 0 3 0 1 2 (joinBy 0 2 0 3 1 (7 ∷ []))))) ∷ [];
+          ∷ complete Lowest (sevens 33) gives completed 4 2 32 (join 0 1 (join 0 2 (joinBy 0 3 0 1 2 (joinBy 0 2 0 3 1 (7 ∷ []))))) ∷ [];
       edges = 0 ∷ 2 ∷ 0 ∷ 3 ∷ 1 ∷ 2 ∷ 1 ∷ 3 ∷ [];
     }
     ∷ record {
@@ -187,13 +179,13 @@ starred =
     ∷ record {
       steps =
           take 0 (rec 2 2 6 []) gives taken 1 ∷ layOut gives laidOut 3
-          ∷ complete Lowest (sevens 24) gives finished 3 0 24 (join 0 1 (join 0 2 (join 1 2 []))) ∷ [];
+          ∷ complete Lowest (sevens 24) gives completed 3 0 24 (join 0 1 (join 0 2 (join 1 2 []))) ∷ [];
       edges = 0 ∷ 1 ∷ 0 ∷ 2 ∷ 1 ∷ 2 ∷ [];
     }
     ∷ record {
       steps =
           take 0 (rec 2 3 6 []) gives taken 1 ∷ layOut gives laidOut 5
-          ∷ complete Lowest (sevens 48) gives finished 6 0 48 (join 0 3 (join 0 4 (join 1 3 (join 1 4 (join 2 3 (join 2 4 [])))))) ∷ [];
+          ∷ complete Lowest (sevens 48) gives completed 6 0 48 (join 0 3 (join 0 4 (join 1 3 (join 1 4 (join 2 3 (join 2 4 [])))))) ∷ [];
       edges = 0 ∷ 3 ∷ 0 ∷ 4 ∷ 1 ∷ 3 ∷ 1 ∷ 4 ∷ 2 ∷ 3 ∷ 2 ∷ 4 ∷ [];
     }
     ∷ []
@@ -217,15 +209,15 @@ moved =
       steps =
           take 0 (rec 1 1 6 []) gives taken 1 ∷ complete Lowest [] gives no 3 0 0 ∷ layOut gives laidOut 6
           ∷ complete Lowest (sevens 23) gives noInto 18 (sevens 23)
-          ∷ complete Lowest (sevens 25) gives finished 3 3 24 (join 0 1 (joinBy 0 2 0 3 1 (joinByTwo 0 1 0 4 2 1 5 3 (7 ∷ [])))) ∷ [];
+          ∷ complete Lowest (sevens 25) gives completed 3 3 24 (join 0 1 (joinBy 0 2 0 3 1 (joinByTwo 0 1 0 4 2 1 5 3 (7 ∷ [])))) ∷ [];
       edges = 0 ∷ 1 ∷ 2 ∷ 4 ∷ 3 ∷ 5 ∷ [];
     }
     -- room for the missing edges is enough, and none is needed where none is missing
     ∷ record {
       steps =
           take 0 (rec 1 1 4 []) gives taken 1 ∷ layOut gives laidOut 4 ∷ add 0 1 gives joined
-          ∷ complete Lowest (sevens 7) gives noInto 18 (sevens 7) ∷ complete Lowest (sevens 8) gives finished 1 1 8 (joinBy 0 2 0 3 1 [])
-          ∷ complete Lowest [] gives finished 0 0 0 [] ∷ complete Lowest (sevens 1) gives finished 0 0 0 (sevens 1) ∷ [];
+          ∷ complete Lowest (sevens 7) gives noInto 18 (sevens 7) ∷ complete Lowest (sevens 8) gives completed 1 1 8 (joinBy 0 2 0 3 1 [])
+          ∷ complete Lowest [] gives completed 0 0 0 [] ∷ complete Lowest (sevens 1) gives completed 0 0 0 (sevens 1) ∷ [];
       edges = 0 ∷ 2 ∷ 1 ∷ 3 ∷ [];
     }
     ∷ []
@@ -234,14 +226,14 @@ moved =
 abbrev pub MovedHold : Type 0
 MovedHold = allHold moved ≡ true
 
--- shuffled finishing (document 02, P7): (2,2)=8 from x = 0, where a byte too few is 18 and what is behind the records stays
+-- shuffled completing (document 02, P7): (2,2)=8 from x = 0, where a byte too few is 18 and what is behind the records stays
 abbrev pub picked : List Case
 picked =
     record {
       steps =
           take 0 (rec 2 2 8 []) gives taken 1 ∷ layOut gives laidOut 4
           ∷ complete (Picked 0) (sevens 31) gives noInto 18 (sevens 31)
-          ∷ complete (Picked 0) (sevens 33) gives finishedAt 4 1 32 2868466484 (join 0 3 (join 0 2 (joinBy 0 1 0 2 3 (join 1 3 (7 ∷ []))))) ∷ [];
+          ∷ complete (Picked 0) (sevens 33) gives completedAt 4 1 32 2868466484 (join 0 3 (join 0 2 (joinBy 0 1 0 2 3 (join 1 3 (7 ∷ []))))) ∷ [];
       edges = 0 ∷ 1 ∷ 0 ∷ 2 ∷ 1 ∷ 3 ∷ 2 ∷ 3 ∷ [];
     }
     ∷ []

@@ -1,12 +1,12 @@
--- `options::choice_of` meets its contract.
+-- `options::request_of` meets its contract.
 -- Assumes nothing.
 use native.Mathlib.Omega.{arith}
 use borrow.Author.Tests.{le-leb, lt-leb, ne-eqb}
-use Rattle.options.proofs.choice_of.Statement.{statement}
-use Rattle.options.proofs.choice_of.Tie as tie
+use Rattle.options.proofs.request_of.Statement.{statement}
+use Rattle.options.proofs.request_of.Tie as tie
 
-pub choice-of-spec : {M : Type 1} → statement M
-choice-of-spec =
+pub request-of-spec : {M : Type 1} → statement M
+request-of-spec =
     tie.close (tie.spec
     (λ c. rw (le-leb (c .before .before .before .before .args .count) 1 (omega arith)))  -- returns
     (λ c κs. tt)  -- one-word-requires
