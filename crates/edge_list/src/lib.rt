@@ -5,16 +5,23 @@ ghost use lib.ListN.{length};
 ghost use lib.Seq.{sets};
 ghost use Rattle.answer.specs.declared.Verdict.the-variants.{Go};
 ghost use Rattle.adjacency.specs.Adjacency.{adjacencySize, side};
+ghost use Rattle.state.specs.State.{stateOf};
 ghost use Rattle.state.specs.Checks.{phaseVerdict};
-ghost use Rattle.edge_list.specs.List.{listBytes, listLaid, listAnswer, listOutput};
+ghost use Rattle.state.specs.Inner.Opened.{laidFront, Opened};
+ghost use Rattle.edge_list.specs.List.{listBytes, listAnswer, listOutput};
 use adjacency::SIDE;
+use adjacency::edges_held;
 use answer::Cause;
 use answer::Verdict;
 use answer::WrittenAnswer;
 use answer::refuse;
 use edge_lists::put_row;
-use state::laid_vertices;
-use state::phase_check;
+use layout::MAX_VERTICES;
+use layout::vertex_count;
+use state::laid_check;
+use state::open;
+use table::cells::CELLS;
+use table::class::MAX_CLASSES;
 
 // All edges, row by row.
 fn put_list(adjacency: &[u8], n: usize, output: &mut [u8]) -> usize
@@ -30,26 +37,48 @@ fn put_list(adjacency: &[u8], n: usize, output: &mut [u8]) -> usize
 }
 
 // On a valid laid state: the check 18, then the list.
-fn list_laid(journal: &[u8], adjacency: &[u8], output: &mut [u8]) -> WrittenAnswer
-    requires { ⌜ phaseVerdict 1 (now journal) (now adjacency) ≡ Go ⌝ }
-    ensures { λ r. ⌜ r ≡ listLaid (now (journal .entry)) (now (adjacency .entry)) (length (now (output .entry))) ⌝ }
-    ensures { λ _. ⌜ now (output .exit) ≡ listOutput (listLaid (now (journal .entry)) (now (adjacency .entry)) (length (now (output .entry)))) (now (journal .entry)) (now (adjacency .entry)) (now (output .entry)) ⌝ }
+fn list_laid(
+    journal: &[u8],
+    adjacency: &[u8],
+    cells: &[u32; CELLS],
+    counts: &[usize; MAX_CLASSES],
+    held: &[usize; MAX_VERTICES],
+    output: &mut [u8],
+) -> WrittenAnswer
+    requires { ⌜ (phaseVerdict 1 (stateOf (now journal) (now adjacency)) ≡ Go) × Opened (stateOf (now journal) (now adjacency)) (now cells) (now counts) (now held) ⌝ }
+    ensures { λ r. ⌜ r ≡ listAnswer (stateOf (now (journal .entry)) (now (adjacency .entry))) (length (now (output .entry))) ⌝ }
+    ensures { λ _. ⌜ now (output .exit) ≡ listOutput (stateOf (now (journal .entry)) (now (adjacency .entry))) (now (output .entry)) ⌝ }
 {
-    let n = laid_vertices(journal);
-    let bytes = 2 * adjacency::edge_count(adjacency, n);
+    let n = vertex_count(cells, counts);
+    let bytes = 2 * edges_held(held, n);
     if output.len() < bytes {
         return WrittenAnswer::Refused(refuse(Cause::OutputTooShort, 0, 0));
     }
     WrittenAnswer::Written(put_list(adjacency, n, output))
 }
 
-pub fn edge_list(journal: &[u8], adjacency: &[u8], output: &mut [u8]) -> WrittenAnswer
-    ensures { λ r. ⌜ r ≡ listAnswer (now (journal .entry)) (now (adjacency .entry)) (length (now (output .entry))) ⌝ }
-    ensures { λ _. ⌜ now (output .exit) ≡ listOutput (listAnswer (now (journal .entry)) (now (adjacency .entry)) (length (now (output .entry)))) (now (journal .entry)) (now (adjacency .entry)) (now (output .entry)) ⌝ }
+// Behind the front: the laid matrix, then as above.
+fn list_checked(journal: &[u8], adjacency: &[u8], output: &mut [u8]) -> WrittenAnswer
+    requires { ⌜ laidFront (stateOf (now journal) (now adjacency)) ≡ Go ⌝ }
+    ensures { λ r. ⌜ r ≡ listAnswer (stateOf (now (journal .entry)) (now (adjacency .entry))) (length (now (output .entry))) ⌝ }
+    ensures { λ _. ⌜ now (output .exit) ≡ listOutput (stateOf (now (journal .entry)) (now (adjacency .entry))) (now (output .entry)) ⌝ }
 {
-    let verdict = phase_check(journal, adjacency, 1);
+    let mut cells = [0u32; CELLS];
+    let mut counts = [0usize; MAX_CLASSES];
+    let mut held = [0usize; MAX_VERTICES];
+    if !open(journal, adjacency, &mut cells, &mut counts, &mut held) {
+        return WrittenAnswer::Refused(refuse(Cause::InvalidState, 0, 0));
+    }
+    list_laid(journal, adjacency, &cells, &counts, &held, output)
+}
+
+pub fn edge_list(journal: &[u8], adjacency: &[u8], output: &mut [u8]) -> WrittenAnswer
+    ensures { λ r. ⌜ r ≡ listAnswer (stateOf (now (journal .entry)) (now (adjacency .entry))) (length (now (output .entry))) ⌝ }
+    ensures { λ _. ⌜ now (output .exit) ≡ listOutput (stateOf (now (journal .entry)) (now (adjacency .entry))) (now (output .entry)) ⌝ }
+{
+    let verdict = laid_check(journal, adjacency);
     match verdict {
         Verdict::Stop(r) => WrittenAnswer::Refused(r),
-        Verdict::Go => list_laid(journal, adjacency, output),
+        Verdict::Go => list_checked(journal, adjacency, output),
     }
 }

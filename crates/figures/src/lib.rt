@@ -1,33 +1,43 @@
 // Figures.
 ghost use mathlib.Core.Path.{_≡_};
-ghost use mathlib.Core.Bool.{true, false};
-ghost use Prim.Native.Nat.{_≤_};
-ghost use lib.ListN.{length};
-ghost use Rattle.graph.specs.Tests.{vertices};
-ghost use Rattle.layout.specs.Layout.{mostVertices};
-ghost use Rattle.journal.specs.Journal.{journalSize, journalOk, tableOf};
-ghost use Rattle.adjacency.specs.Adjacency.{adjacencySize};
+ghost use mathlib.Core.Bool.{false};
+ghost use Rattle.answer.specs.declared.Verdict.the-variants.{Go};
+ghost use Rattle.journal.specs.Journal.{phase};
+ghost use Rattle.state.specs.State.{stateOf};
+ghost use Rattle.state.specs.Checks.{phaseVerdict};
+ghost use Rattle.state.specs.Inner.Opened.{frontVerdict, Opened};
 ghost use Rattle.figures.specs.Figures.{figuresAnswer, figuresOf};
+use adjacency::edges_held;
+use answer::Cause;
 use answer::Figures;
 use answer::FiguresAnswer;
 use answer::Verdict;
+use answer::refuse;
 use journal::block_count;
 use journal::phase_of;
-use state::state_check;
-use state::sum_table;
+use layout::MAX_VERTICES;
+use layout::edges_wanted;
+use layout::vertex_count;
+use state::front_check;
+use state::open;
 use table::cells::CELLS;
+use table::class::MAX_CLASSES;
 
 // The figures of a laid state.
-fn figures_laid(journal: &[u8], adjacency: &[u8]) -> Figures
-    requires { ⌜ (length (now journal) ≡ journalSize) × (length (now adjacency) ≡ adjacencySize) × (journalOk (now journal) ≡ true) × (vertices (tableOf (now journal)) ≤ mostVertices) ⌝ }
-    ensures { λ r. ⌜ r ≡ figuresOf false (now (journal .entry)) (now (adjacency .entry)) ⌝ }
+fn figures_laid(
+    journal: &[u8],
+    adjacency: &[u8],
+    cells: &[u32; CELLS],
+    counts: &[usize; MAX_CLASSES],
+    held: &[usize; MAX_VERTICES],
+) -> Figures
+    requires { ⌜ (phaseVerdict 1 (stateOf (now journal) (now adjacency)) ≡ Go) × Opened (stateOf (now journal) (now adjacency)) (now cells) (now counts) (now held) ⌝ }
+    ensures { λ r. ⌜ r ≡ figuresOf false (stateOf (now (journal .entry)) (now (adjacency .entry))) ⌝ }
 {
-    let mut cells = [0u32; CELLS];
-    let counts = sum_table(journal, &mut cells);
-    let vertices = layout::vertex_count(&cells, &counts);
+    let vertices = vertex_count(cells, counts);
     let blocks = block_count(journal);
-    let wanted = layout::edges_wanted(&cells);
-    let laid = adjacency::edge_count(adjacency, vertices);
+    let wanted = edges_wanted(cells);
+    let laid = edges_held(held, vertices);
     Figures {
         phase: 1,
         blocks,
@@ -37,10 +47,24 @@ fn figures_laid(journal: &[u8], adjacency: &[u8]) -> Figures
     }
 }
 
-pub fn figures(journal: &[u8], adjacency: &[u8]) -> FiguresAnswer
-    ensures { λ r. ⌜ r ≡ figuresAnswer (now (journal .entry)) (now (adjacency .entry)) ⌝ }
+// Behind the front, in phase 1: the laid matrix, then as above.
+fn figures_checked(journal: &[u8], adjacency: &[u8]) -> FiguresAnswer
+    requires { ⌜ (frontVerdict (stateOf (now journal) (now adjacency)) ≡ Go) × (phase (now journal) ≡ 1) ⌝ }
+    ensures { λ r. ⌜ r ≡ figuresAnswer (stateOf (now (journal .entry)) (now (adjacency .entry))) ⌝ }
 {
-    let verdict = state_check(journal, adjacency);
+    let mut cells = [0u32; CELLS];
+    let mut counts = [0usize; MAX_CLASSES];
+    let mut held = [0usize; MAX_VERTICES];
+    if !open(journal, adjacency, &mut cells, &mut counts, &mut held) {
+        return FiguresAnswer::Refused(refuse(Cause::InvalidState, 0, 0));
+    }
+    FiguresAnswer::Reported(figures_laid(journal, adjacency, &cells, &counts, &held))
+}
+
+pub fn figures(journal: &[u8], adjacency: &[u8]) -> FiguresAnswer
+    ensures { λ r. ⌜ r ≡ figuresAnswer (stateOf (now (journal .entry)) (now (adjacency .entry))) ⌝ }
+{
+    let verdict = front_check(journal, adjacency);
     match verdict {
         Verdict::Stop(r) => FiguresAnswer::Refused(r),
         Verdict::Go => {
@@ -53,7 +77,7 @@ pub fn figures(journal: &[u8], adjacency: &[u8]) -> FiguresAnswer
                     laid: 0,
                 });
             }
-            FiguresAnswer::Reported(figures_laid(journal, adjacency))
+            figures_checked(journal, adjacency)
         }
     }
 }

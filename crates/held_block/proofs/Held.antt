@@ -14,6 +14,7 @@ use Rattle.answer.specs.declared.LengthAnswer.the-variants.{Length, Refused}
 use Rattle.answer.proofs.Checks.{unless-passed, unless-stopped-passed}
 use Rattle.journal.specs.Journal.{mostBlocks, blocks, slotLength, blockAt}
 use Rattle.journal.proofs.Facts.{journal-facts, length-block, slot-most}
+use Rattle.state.specs.State.{State}
 use Rattle.state.specs.Checks.{stateVerdict}
 use Rattle.state.specs.Valid.{lengthsOk, valid}
 use Rattle.state.proofs.Checks.{state-passed, state-go}
@@ -27,28 +28,28 @@ IsLength (Refused r) = ⊥
 refused-no-length : (r : Refusal) (n : ℕ) → Refused r ≡ Length n → ⊥
 refused-no-length r n e = subst IsLength (sym e) tt
 
-pub record LengthFacts (j g : List ℕ) (number : ℕ) : Type 0 where
-  pub lengths : lengthsOk j g ≡ true
-  pub sound : valid j g ≡ true
-  pub low : number < blocks j
+pub record LengthFacts (s : State) (number : ℕ) : Type 0 where
+  pub lengths : lengthsOk s ≡ true
+  pub is-valid : valid s ≡ true
+  pub low : number < blocks (s .journal)
 
-pub length-facts : (j g : List ℕ) (number n : ℕ) → lengthAnswer j g number ≡ Length n → LengthFacts j g number
-length-facts j g number n e =
-    let s = unless-stopped-passed (stateVerdict j g) Refused _ (Length n) (λ r. refused-no-length r n) e in
-    let k = unless-passed (ltb number (blocks j)) _ _ (Length n) (refused-no-length _ n) (s .1) in
-    let p = state-passed j g (s .0) in
-    record { lengths = p .0; sound = p .1; low = ltb-true number (blocks j) (k .0) }
+pub length-facts : (s : State) (number n : ℕ) → lengthAnswer s number ≡ Length n → LengthFacts s number
+length-facts s number n e =
+    let v = unless-stopped-passed (stateVerdict s) Refused _ (Length n) (λ r. refused-no-length r n) e in
+    let k = unless-passed (ltb number (blocks (s .journal))) _ _ (Length n) (refused-no-length _ n) (v .1) in
+    let p = state-passed s (v .0) in
+    record { lengths = p .0; is-valid = p .1; low = ltb-true number (blocks (s .journal)) (k .0) }
 
 -- a block of a valid state is read back as it stands in the journal, and its length is the block's
-pub read-back : (j g : List ℕ) (number : ℕ) → LengthFacts j g number
-    → (lengthAnswer j g number ≡ Length (length (blockAt j number))) × (heldPart (lengthAnswer j g number) j number ≡ blockAt j number)
-read-back j g number f = (answer ∙ ap Length (sym sized), rw answer)
+pub read-back : (s : State) (number : ℕ) → LengthFacts s number
+    → (lengthAnswer s number ≡ Length (length (blockAt (s .journal) number))) × (heldPart s number ≡ blockAt (s .journal) number)
+read-back s number f = (answer ∙ ap Length (sym sized), rw answer)
   where
-    answer : lengthAnswer j g number ≡ Length (slotLength j number)
-    answer = rw (state-go j g (f .lengths) (f .sound), lt-ltb number (blocks j) (f .low))
+    answer : lengthAnswer s number ≡ Length (slotLength (s .journal) number)
+    answer = rw (state-go s (f .lengths) (f .is-valid), lt-ltb number (blocks (s .journal)) (f .low))
 
-    sized : length (blockAt j number) ≡ slotLength j number
+    sized : length (blockAt (s .journal) number) ≡ slotLength (s .journal) number
     sized =
-        let ok = journal-facts j (valid-journal j g (f .sound)) in
+        let ok = journal-facts (s .journal) (valid-journal s (f .is-valid)) in
         let m : number < mostBlocks = omega (arith, ok .blocks-le, f .low) in
-        length-block j number (lengths-journal j g (f .lengths)) m (slot-most j ok number m)
+        length-block (s .journal) number (lengths-journal s (f .lengths)) m (slot-most (s .journal) ok number m)

@@ -1,6 +1,7 @@
 // Reading a held block back.
 ghost use mathlib.Core.Path.{_≡_};
 ghost use Rattle.slices.specs.Slices.{further};
+ghost use Rattle.state.specs.State.{stateOf};
 ghost use Rattle.held_block.specs.Held.{lengthAnswer, heldPart, heldFrom};
 use answer::Cause;
 use answer::LengthAnswer;
@@ -13,7 +14,7 @@ use state::state_check;
 
 // The length of held block `number`, or why there is none.
 pub fn held_block_length(journal: &[u8], adjacency: &[u8], number: usize) -> LengthAnswer
-    ensures { λ r. ⌜ r ≡ lengthAnswer (now (journal .entry)) (now (adjacency .entry)) number ⌝ }
+    ensures { λ r. ⌜ r ≡ lengthAnswer (stateOf (now (journal .entry)) (now (adjacency .entry))) number ⌝ }
 {
     let verdict = state_check(journal, adjacency);
     match verdict {
@@ -29,8 +30,8 @@ pub fn held_block_length(journal: &[u8], adjacency: &[u8], number: usize) -> Len
 
 // Held block `number`, the part of the journal itself; an empty part where there is none.
 pub fn held_block<'a, 'b>(journal: &'a [u8], adjacency: &'b [u8], number: usize) -> &'a [u8]
-    ensures { λ r. ⌜ r .ptr ≡ further (journal .entry .ptr) (heldFrom (lengthAnswer (now (journal .entry)) (now (adjacency .entry)) number) number) ⌝ }
-    ensures { λ r. ⌜ now r ≡ heldPart (lengthAnswer (now (journal .entry)) (now (adjacency .entry)) number) (now (journal .entry)) number ⌝ }
+    ensures { λ r. ⌜ r .ptr ≡ further (journal .entry .ptr) (heldFrom (stateOf (now (journal .entry)) (now (adjacency .entry))) number) ⌝ }
+    ensures { λ r. ⌜ now r ≡ heldPart (stateOf (now (journal .entry)) (now (adjacency .entry))) number ⌝ }
 {
     let answer = held_block_length(journal, adjacency, number);
     match answer {

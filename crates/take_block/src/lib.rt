@@ -4,7 +4,8 @@ ghost use mathlib.Core.Bool.{true};
 ghost use Prim.Native.Nat.{_<_};
 ghost use lib.ListN.{length};
 ghost use Rattle.journal.specs.Journal.{journalSize, blocks, journalOk};
-ghost use Rattle.take_block.specs.Take.{takeHeld, takeNew, takeNumbered, takeOnValid, takeAnswer, takeJournal};
+ghost use Rattle.state.specs.State.{stateOf};
+ghost use Rattle.take_block.specs.Take.{takeHeld, takeNew, takeNumbered, takeOnValid, takeAnswer, takeAfter};
 use answer::Cause;
 use answer::TakeAnswer;
 use answer::Verdict;
@@ -73,7 +74,7 @@ fn take_on_valid(journal: &[u8], number: usize, block: &[u8]) -> TakeAnswer
 
 // What taking answers; nothing is written yet.
 fn take_check(journal: &[u8], adjacency: &[u8], number: usize, block: &[u8]) -> TakeAnswer
-    ensures { λ r. ⌜ r ≡ takeAnswer (now (journal .entry)) (now (adjacency .entry)) number (now (block .entry)) ⌝ }
+    ensures { λ r. ⌜ r ≡ takeAnswer (stateOf (now (journal .entry)) (now (adjacency .entry))) number (now (block .entry)) ⌝ }
 {
     let verdict = state_check(journal, adjacency);
     match verdict {
@@ -83,8 +84,8 @@ fn take_check(journal: &[u8], adjacency: &[u8], number: usize, block: &[u8]) -> 
 }
 
 pub fn take_block(journal: &mut [u8], adjacency: &[u8], number: usize, block: &[u8]) -> TakeAnswer
-    ensures { λ r. ⌜ r ≡ takeAnswer (now (journal .entry)) (now (adjacency .entry)) number (now (block .entry)) ⌝ }
-    ensures { λ _. ⌜ now (journal .exit) ≡ takeJournal (takeAnswer (now (journal .entry)) (now (adjacency .entry)) number (now (block .entry))) (now (journal .entry)) (now (block .entry)) ⌝ }
+    ensures { λ r. ⌜ r ≡ takeAnswer (stateOf (now (journal .entry)) (now (adjacency .entry))) number (now (block .entry)) ⌝ }
+    ensures { λ _. ⌜ now (journal .exit) ≡ takeAfter (stateOf (now (journal .entry)) (now (adjacency .entry))) number (now (block .entry)) .journal ⌝ }
 {
     let answer = take_check(journal, adjacency, number, block);
     match answer {

@@ -1,4 +1,4 @@
--- `clearing::clear` meets its contract.
+-- `clear::clear` meets its contract.
 -- Assumes nothing.
 use mathlib.Core.Path.{refl, sym, ap, _∙_}
 use borrow.Author.Needs.{needs}

@@ -1,77 +1,62 @@
--- `listing::list_laid` meets its contract: twice the number of edges is the length of the list.
-use mathlib.Core.Path.{refl, sym, ap, _∙_}
-use Prim.Native.Nat.{ℕ, _*_}
+-- `edge_list::list_laid` meets its contract: twice the number of edges is the length of the list.
+-- Assumes nothing.
+use mathlib.Core.Path.{refl, ap, _∙_}
+use Prim.Native.Nat.{ℕ}
 use native.Mathlib.Omega.{arith}
 use borrow.Author.Needs.{needs}
 use borrow.Author.Tests.{le-leb, lt-leb}
 use lib.ListN.{length}
 use lib.Seq.{sets}
 use Rattle.answer.specs.declared.WrittenAnswer.the-variants.{Written, Refused}
-use Rattle.graph.specs.Graph.{edges}
-use Rattle.adjacency.specs.Adjacency.{edge}
-use Rattle.edge_list.specs.List.{listBytes}
-use Rattle.edge_lists.proofs.Listing.{list-length, edges-few}
+use Rattle.state.specs.State.{stateOf}
 use Rattle.state.proofs.Checks.{phase-facts}
+use Rattle.edge_list.specs.List.{listBytes}
+use Rattle.edge_list.proofs.List.{laid-vertices, laid-few, held-few, list-bytes, counted-few}
 use Rattle.edge_list.proofs.list_laid.Statement.{statement}
 use Rattle.edge_list.proofs.list_laid.Tie as tie
 
 pub list-laid-spec : {M : Type 1} → statement M
 list-laid-spec =
     tie.close (tie.spec
+    (λ c κs. let o = c .before .before .before .pre .1 in (o .most, o .counted))  -- vertex-count-requires
     (λ c κs.
-    let s = c .before .before .before in
-    let f = phase-facts 1 (s .args .journal .now) (s .args .adjacency .now) (s .pre) in
-    (f .0 .journal-length, f .0 .journal-ok))  -- laid-vertices-requires
-    (λ c κs.
-    let s = c .before .before .before .before in
-    let f = phase-facts 1 (s .args .journal .now) (s .args .adjacency .now) (s .pre) in
-    (f .0 .adjacency-length, rw (c .laid-vertices .ensures) (f .0 .laid (f .1) .vertices-le)))  -- edge-count-requires
+    let b = c .before .before .before .before in
+    let s = stateOf (b .args .journal .now) (b .args .adjacency .now) in
+    (laid-few s (b .pre .0) (b .pre .1) (c .vertex-count .ensures), held-few s (b .pre .0) (b .pre .1) (c .vertex-count .ensures)))  -- edges-held-requires
     (λ c.
-    let l = c .before in
-    let s = l .before .before .before .before in
-    let f = phase-facts 1 (s .args .journal .now) (s .args .adjacency .now) (s .pre) in
-    let d = f .0 .laid (f .1) in
-    let g = s .args .adjacency .now in
-    let n = l .laid-vertices .ensures in
-    omega (arith, c .edge-count .ensures ∙ ap (λ (m : ℕ). edges m (edge g)) n, edges-few _ (edge g) (d .vertices-le) (d .partial .simple)))  -- mul-bytes
+    let v = c .before in
+    let b = v .before .before .before .before in
+    let s = stateOf (b .args .journal .now) (b .args .adjacency .now) in
+    omega (arith, counted-few s (b .pre .0) (b .pre .1) (v .vertex-count .ensures) (c .edges-held .ensures)))  -- mul-bytes
     (λ c κs. tt)  -- refuse-requires
     (λ c.
     let i = c .before in
-    let m = i .before in
-    let l = m .before in
-    let s = l .before .before .before .before in
-    let f = phase-facts 1 (s .args .journal .now) (s .args .adjacency .now) (s .pre) in
-    let d = f .0 .laid (f .1) in
-    let g = s .args .adjacency .now in
-    let e = m .edge-count .ensures ∙ ap (λ (n : ℕ). edges n (edge g)) (l .laid-vertices .ensures) in
-    let b = list-length _ (edge g) (d .partial .simple) ∙ ap (λ (x : ℕ). 2 * x) (sym e) in
-    rw (lt-leb _ _ (rw (← b) at (i .if1 .taken))) (ap Refused (c .refuse .ensures), refl))  -- returns
+    let v = i .before .before in
+    let b = v .before .before .before .before in
+    let s = stateOf (b .args .journal .now) (b .args .adjacency .now) in
+    let e = list-bytes s (b .pre .0) (b .pre .1) (v .vertex-count .ensures) (i .before .edges-held .ensures) in
+    rw (b .pre .0, lt-leb _ _ (rw (← e) at (i .if1 .taken))) (ap Refused (c .refuse .ensures), refl))  -- returns
     (λ c κs.
     let i = c .before in
-    let m = i .before in
-    let l = m .before in
-    let s = l .before .before .before .before in
-    let f = phase-facts 1 (s .args .journal .now) (s .args .adjacency .now) (s .pre) in
-    let d = f .0 .laid (f .1) in
-    let g = s .args .adjacency .now in
-    let n = l .laid-vertices .ensures in
-    let e = m .edge-count .ensures ∙ ap (λ (n : ℕ). edges n (edge g)) n in
-    let b = ap (λ (n : ℕ). length (listBytes n g)) n ∙ list-length _ (edge g) (d .partial .simple) in
-    (f .0 .adjacency-length, rw n (d .vertices-le), omega arith))  -- put-list-requires
+    let v = i .before .before in
+    let b = v .before .before .before .before in
+    let g = b .args .adjacency .now in
+    let s = stateOf (b .args .journal .now) g in
+    let n = v .vertex-count .ensures in
+    let e = ap (λ (n : ℕ). length (listBytes n g)) (laid-vertices s (b .pre .0) (b .pre .1) n)
+    ∙ list-bytes s (b .pre .0) (b .pre .1) n (i .before .edges-held .ensures) in
+    (phase-facts 1 s (b .pre .0) .0 .adjacency-length, laid-few s (b .pre .0) (b .pre .1) n, omega (arith, e, i .if1 .left)))  -- put-list-requires
     (λ c. search needs)  -- same-length
     (λ c.
     let p = c .before .before in
     let i = p .before .before in
-    let m = i .before in
-    let l = m .before in
-    let s = l .before .before .before .before in
-    let f = phase-facts 1 (s .args .journal .now) (s .args .adjacency .now) (s .pre) in
-    let d = f .0 .laid (f .1) in
-    let g = s .args .adjacency .now in
-    let n = l .laid-vertices .ensures in
-    let e = m .edge-count .ensures ∙ ap (λ (n : ℕ). edges n (edge g)) n in
-    let b = list-length _ (edge g) (d .partial .simple) ∙ ap (λ (x : ℕ). 2 * x) (sym e) in
-    rw (le-leb _ _ (rw (← b) at (i .if1 .left))) (
+    let v = i .before .before in
+    let b = v .before .before .before .before in
+    let g = b .args .adjacency .now in
+    let s = stateOf (b .args .journal .now) g in
+    let n = laid-vertices s (b .pre .0) (b .pre .1) (v .vertex-count .ensures) in
+    let e = list-bytes s (b .pre .0) (b .pre .1) (v .vertex-count .ensures) (i .before .edges-held .ensures) in
+    rw (b .pre .0, le-leb _ _ (rw (← e) at (i .if1 .left))) (
       ap Written (p .put-list .ensures .0 ∙ ap (λ (n : ℕ). length (listBytes n g)) n),
-      p .put-list .ensures .1 ∙ ap (λ (n : ℕ). sets (s .args .output .now) 0 (listBytes n g)) n,
+      p .put-list .ensures .1 ∙ ap (λ (n : ℕ). sets (b .args .output .now) 0 (listBytes n g)) n,
     )))  -- returns-2

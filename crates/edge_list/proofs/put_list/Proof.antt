@@ -1,4 +1,4 @@
--- `listing::put_list` meets its contract: the rows up to v are written.
+-- `edge_list::put_list` meets its contract: the rows up to v are written.
 use mathlib.Core.Path.{_≡_, refl}
 use Prim.Native.Nat.{_≤_, _-_}
 use native.Mathlib.Nat.{zero-add, add-sub-cancel-left}
@@ -39,7 +39,13 @@ put-list-spec =
     let n = s .args .n in
     let v = l .loop .v in
     let m = catTo-part (λ x. rowBytes n (edge g x) x) n v (t .loop-test .taken) in
-    rw (add-sub-cancel-left, row-bytes g n v (s .pre .0) (s .pre .1) (t .loop-test .taken), row-length g n v (s .pre .0) (s .pre .1) (t .loop-test .taken), l .loop .inv .2, length-sets)
+    rw (
+      add-sub-cancel-left,
+      row-bytes g n v (s .pre .0) (s .pre .1) (t .loop-test .taken),
+      row-length g n v (s .pre .0) (s .pre .1) (t .loop-test .taken),
+      l .loop .inv .2,
+      length-sets,
+    )
     (t .loop-test .taken, s .pre .1, omega arith))  -- put-row-requires
     (λ c. omega arith)  -- add-v
     (λ c. omega arith)  -- loop-less
@@ -48,7 +54,8 @@ put-list-spec =
     let t = p .before .before .before in
     let l = t .before in
     let s = l .before .before .before in
-    let e = rw (add-sub-cancel-left, row-bytes (s .args .adjacency .now) (s .args .n) (l .loop .v) (s .pre .0) (s .pre .1) (t .loop-test .taken)) at (p .put-row .ensures) in (
+    let r = row-bytes (s .args .adjacency .now) (s .args .n) (l .loop .v) (s .pre .0) (s .pre .1) (t .loop-test .taken) in
+    let e = rw (add-sub-cancel-left, r) at (p .put-row .ensures) in (
       omega arith,
       simp (catTo-more, length-append) (omega (arith, e .0)),
       simp (catTo-more, sets-append, zero-add) (rw (← (l .loop .inv .2), ← (l .loop .inv .1)) (e .1)),

@@ -1,4 +1,4 @@
--- `reading_back::held_block` meets its contract.
+-- `held_block::held_block` meets its contract.
 -- Assumes nothing.
 use mathlib.Core.Path.{refl, sym, _∙_}
 use Prim.Native.Nat.{_<_}
@@ -7,6 +7,7 @@ use borrow.Author.Needs.{needs}
 use Rattle.slices.proofs.Part.{further-none}
 use Rattle.journal.specs.Journal.{mostBlocks}
 use Rattle.journal.proofs.Facts.{journal-facts, slot-most}
+use Rattle.state.specs.State.{stateOf}
 use Rattle.state.proofs.Facts.{lengths-journal, valid-journal}
 use Rattle.held_block.proofs.Held.{length-facts}
 use Rattle.held_block.proofs.held_block.Statement.{statement}
@@ -21,10 +22,11 @@ held-block-spec =
     let l = c .before .before in
     let a = l .before .before .before .args in
     let j = a .journal .now in
-    let h = length-facts j (a .adjacency .now) (a .number) _ (sym (l .held-block-length .ensures) ∙ c .enum-told .given .1) in
-    let f = journal-facts j (valid-journal j (a .adjacency .now) (h .sound)) in
+    let s = stateOf j (a .adjacency .now) in
+    let h = length-facts s (a .number) _ (sym (l .held-block-length .ensures) ∙ c .enum-told .given .1) in
+    let f = journal-facts j (valid-journal s (h .is-valid)) in
     let m : a .number < mostBlocks = omega (arith, f .blocks-le, h .low) in
-    (lengths-journal j (a .adjacency .now) (h .lengths), m, slot-most j f (a .number) m))  -- block-part-requires
+    (lengths-journal s (h .lengths), m, slot-most j f (a .number) m))  -- block-part-requires
     (λ c. search needs)  -- enum-told-2
     (λ c. search needs)  -- slice-aggregate-result
     (λ c.

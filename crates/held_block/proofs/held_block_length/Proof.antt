@@ -1,4 +1,4 @@
--- `reading_back::held_block_length` meets its contract.
+-- `held_block::held_block_length` meets its contract.
 -- Assumes nothing.
 use mathlib.Core.Path.{sym, ap, _∙_}
 use native.Mathlib.Omega.{arith}
@@ -6,6 +6,7 @@ use borrow.Author.Needs.{needs}
 use borrow.Author.Tests.{lt-ltb, le-ltb}
 use Rattle.answer.specs.declared.LengthAnswer.the-variants.{Length, Refused}
 use Rattle.journal.proofs.Facts.{journal-facts}
+use Rattle.state.specs.State.{stateOf}
 use Rattle.state.proofs.Checks.{state-facts}
 use Rattle.held_block.proofs.held_block_length.Statement.{statement}
 use Rattle.held_block.proofs.held_block_length.Tie as tie
@@ -19,7 +20,7 @@ held-block-length-spec =
     (λ c κs.
     let s = c .before .before in
     let a = s .before .before .before .args in
-    state-facts (a .journal .now) (a .adjacency .now) (sym (s .state-check .ensures) ∙ c .enum-told .given .1) .journal-length)  -- block-count-requires
+    state-facts (stateOf (a .journal .now) (a .adjacency .now)) (sym (s .state-check .ensures) ∙ c .enum-told .given .1) .journal-length)  -- block-count-requires
     (λ c κs. tt)  -- refuse-requires
     (λ c.
     let n = c .before in
@@ -34,7 +35,7 @@ held-block-length-spec =
     let m = c .before .before in
     let s = m .before .before in
     let a = s .before .before .before .args in
-    let f = state-facts (a .journal .now) (a .adjacency .now) (sym (s .state-check .ensures) ∙ m .enum-told .given .1) in
+    let f = state-facts (stateOf (a .journal .now) (a .adjacency .now)) (sym (s .state-check .ensures) ∙ m .enum-told .given .1) in
     (f .journal-length, omega (arith, journal-facts (a .journal .now) (f .journal-ok) .blocks-le)))  -- slot-length-requires
     (λ c. let v = c .before in rw (← (v .before .before .state-check .ensures), v .verdict .given .1))  -- returns-2
     (λ c.

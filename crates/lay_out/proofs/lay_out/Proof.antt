@@ -1,7 +1,8 @@
--- `laying_out::lay_out` meets its contract.
+-- `lay_out::lay_out` meets its contract.
 -- Assumes nothing.
 use mathlib.Core.Path.{refl, sym, _∙_}
 use borrow.Author.Needs.{needs}
+use Rattle.state.specs.State.{stateOf}
 use Rattle.state.proofs.Facts.{lengths-journal}
 use Rattle.lay_out.proofs.LayOut.{lay-out-facts}
 use Rattle.lay_out.proofs.lay_out.Statement.{statement}
@@ -16,8 +17,9 @@ lay-out-spec =
     let k = c .before .before in
     let t = k .before .before in
     let a = t .before .before .before .before .args in
-    let f = lay-out-facts (a .journal .now) (a .adjacency .now) _ (sym (t .lay-out-check .ensures) ∙ k .answer .given .1) in
-    lengths-journal (a .journal .now) (a .adjacency .now) (f .lengths))  -- set-laid-requires
+    let s = stateOf (a .journal .now) (a .adjacency .now) in
+    let f = lay-out-facts s _ (sym (t .lay-out-check .ensures) ∙ k .answer .given .1) in
+    lengths-journal s (f .lengths))  -- set-laid-requires
     (λ c. search needs)  -- enum-known-answer-2
     (λ c. search needs)  -- same-length
     (λ c.

@@ -1,7 +1,8 @@
--- `laying_out::lay_out_check` meets its contract.
+-- `lay_out::lay_out_check` meets its contract.
 -- Assumes nothing.
 use mathlib.Core.Path.{sym, _∙_}
 use borrow.Author.Needs.{needs}
+use Rattle.state.specs.State.{stateOf}
 use Rattle.state.proofs.Checks.{phase-facts}
 use Rattle.lay_out.proofs.lay_out_check.Statement.{statement}
 use Rattle.lay_out.proofs.lay_out_check.Tie as tie
@@ -15,7 +16,7 @@ lay-out-check-spec =
     (λ c κs.
     let s = c .before .before in
     let a = s .before .before .before .args in
-    let f = phase-facts _ (a .journal .now) (a .adjacency .now) (sym (s .phase-check .ensures) ∙ c .enum-told .given .1) in
+    let f = phase-facts _ (stateOf (a .journal .now) (a .adjacency .now)) (sym (s .phase-check .ensures) ∙ c .enum-told .given .1) in
     (f .0 .journal-length, f .0 .journal-ok))  -- lay-out-table-requires
     (λ c. let v = c .before in rw (← (v .before .before .phase-check .ensures), v .verdict .given .1))  -- returns
     (λ c.

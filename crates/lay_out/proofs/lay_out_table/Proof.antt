@@ -1,4 +1,4 @@
--- `laying_out::lay_out_table` meets its contract.
+-- `lay_out::lay_out_table` meets its contract.
 -- Assumes nothing.
 use mathlib.Core.Path.{refl, sym, ap, _∙_}
 use borrow.Author.Needs.{needs}
@@ -14,7 +14,7 @@ use Rattle.lay_out.proofs.lay_out_table.Tie as tie
 pub lay-out-table-spec : {M : Type 1} → statement M
 lay-out-table-spec =
     tie.close (tie.spec
-    (λ c κs. let s = c .before .before in (s .pre .0, s .pre .1, refl))  -- sum-table-requires
+    (λ c κs. let s = c .before .before .before in (s .pre .0, s .pre .1, refl, refl))  -- sum-table-requires
     (λ c κs. let t = c .before .before .sum-table .ensures in (t .1, t .2))  -- layout-check-requires
     (λ c. search needs)  -- enum-known-verdict
     (λ c. search needs)  -- enum-told
@@ -25,7 +25,7 @@ lay-out-table-spec =
     let v = c .before in
     let l = v .before .before in
     let t = l .before .before .before in
-    let j = t .before .before .before .args .journal .now in
+    let j = t .before .before .before .before .args .journal .now in
     sym
     (ap (λ (w : Verdict). laidOut w (vertices (tableOf j)))
     (ap layoutVerdict (sym (t .sum-table .ensures .0)) ∙ sym (l .layout-check .ensures) ∙ v .verdict .given .1)))  -- returns
@@ -33,7 +33,7 @@ lay-out-table-spec =
     let m = c .before .before .before in
     let l = m .before .before in
     let t = l .before .before .before in
-    let j = t .before .before .before .args .journal .now in
+    let j = t .before .before .before .before .args .journal .now in
     let said = t .sum-table .ensures .0 in
     ap LaidOut (c .vertex-count .ensures ∙ ap vertices said)
     ∙ sym

@@ -1,9 +1,10 @@
--- `taking::take_block` meets its contract.
+-- `take_block::take_block` meets its contract.
 -- Assumes nothing.
 use mathlib.Core.Path.{refl, sym, _∙_}
 use borrow.Author.Needs.{needs}
 use lib.ListN.{length}
 use Rattle.journal.proofs.Facts.{length-most, well-formed-length}
+use Rattle.state.specs.State.{stateOf}
 use Rattle.state.proofs.Facts.{lengths-journal}
 use Rattle.take_block.proofs.Take.{taken-facts}
 use Rattle.take_block.proofs.take_block.Statement.{statement}
@@ -19,9 +20,10 @@ take-block-spec =
     let t = k .before .before in
     let a = t .before .before .before .before .before .args in
     let b = a .block .now in
-    let f = taken-facts (a .journal .now) (a .adjacency .now) (a .number) b _ (sym (t .take-check .ensures) ∙ k .answer .given .1) in
+    let s = stateOf (a .journal .now) (a .adjacency .now) in
+    let f = taken-facts s (a .number) b _ (sym (t .take-check .ensures) ∙ k .answer .given .1) in
     let most = length-most (length b) (well-formed-length b (f .good)) in
-    (lengths-journal (a .journal .now) (a .adjacency .now) (f .lengths), f .room, most))  -- store-block-requires
+    (lengths-journal s (f .lengths), f .room, most))  -- store-block-requires
     (λ c. search needs)  -- enum-told
     (λ c. search needs)  -- enum-known-answer-2
     (λ c. search needs)  -- same-length

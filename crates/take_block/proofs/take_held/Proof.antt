@@ -1,4 +1,4 @@
--- `taking::take_held` meets its contract.
+-- `take_block::take_held` meets its contract.
 -- Assumes nothing.
 use mathlib.Core.Path.{sym, ap, _∙_}
 use Prim.Native.Nat.{_<_}

@@ -1,4 +1,4 @@
--- `taking::take_new` meets its contract.
+-- `take_block::take_new` meets its contract.
 -- Assumes nothing.
 use mathlib.Core.Path.{ap}
 use Prim.Native.Nat.{ℕ, _+_}

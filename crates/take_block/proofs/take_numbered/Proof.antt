@@ -1,4 +1,4 @@
--- `taking::take_numbered` meets its contract.
+-- `take_block::take_numbered` meets its contract.
 -- Assumes nothing.
 use mathlib.Core.Path.{ap}
 use native.Mathlib.Omega.{arith}

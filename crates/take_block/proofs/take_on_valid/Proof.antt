@@ -1,4 +1,4 @@
--- `taking::take_on_valid` meets its contract.
+-- `take_block::take_on_valid` meets its contract.
 -- Assumes nothing.
 use mathlib.Core.Path.{sym, ap, _∙_}
 use borrow.Author.Tests.{not-true, not-false, eq-eqb, ne-eqb}
