@@ -1,12 +1,11 @@
 -- Adding an edge, on the definitions: what an answer Added rests on, and that an open pair of a valid laid state is always added.
 -- Assumes nothing.
 use mathlib.Core.Path.{_≡_, sym, ap, subst, _∙_}
-use mathlib.Core.Bool.{true, not}
 use mathlib.Core.List.{List}
 use Prim.Native.Nat.{ℕ, _+_}
-use lib.Dec.{eqb, ltb}
+use lib.Dec.{eqb}
 use lib.ListN.{length}
-use borrow.Author.Tests.{lt-ltb, eq-eqb, ne-eqb, ltb-true, eqb-true, eqb-false, not-true}
+use borrow.Author.Tests.{lt-ltb, eq-eqb, ltb-true, eqb-true}
 use Rattle.answer.specs.declared.Refusal.{Refusal}
 use Rattle.answer.specs.declared.switches.Switches.{Switches}
 use Rattle.answer.specs.declared.switches.Switches.the-variants.{None}
@@ -19,117 +18,116 @@ use Rattle.graph.specs.Tests.{mostClasses, classDegree}
 use Rattle.graph.specs.Switch.{Joined}
 use Rattle.graph.specs.Theorems.{AfterJoin}
 use Rattle.graph.proofs.Join.{join-works}
-use Rattle.journal.specs.Journal.{phase, jdmOf}
+use Rattle.journal.specs.Journal.{jdmOf}
 use Rattle.adjacency.specs.Adjacency.{adjacencySize, edge}
-use Rattle.state.specs.Checks.{phaseVerdict}
-use Rattle.state.specs.Valid.{lengthsOk, valid}
+use Rattle.adjacency.proofs.Facts.{ZeroOutside}
+use Rattle.state.specs.State.{State, withMatrix}
+use Rattle.state.specs.Checks.{phaseVerdict, pairVerdict}
+use Rattle.state.specs.Valid.{ValidLaid}
 use Rattle.state.specs.Laid.{vertexCount, classAt, cellAt, isShort}
-use Rattle.state.proofs.Facts.{edgeTotal, StateFacts, Laid, valid-facts}
-use Rattle.state.proofs.Checks.{phase-passed, phase-go}
+use Rattle.state.proofs.Facts.{edgeTotal, StateFacts, Laid, valid-facts, lengths-both}
+use Rattle.state.proofs.Checks.{laid-passed, laid-goes, pair-passed, pair-goes}
 use Rattle.state.proofs.Graph.{laid-valid}
 use Rattle.joining.specs.Join.{joinBytes, joinSwitches}
 use Rattle.joining.proofs.Bytes.{join-bytes, join-length, join-outside}
 use Rattle.add_edge.specs.Add.{addAnswer}
 
 -- what the checks of an added edge said
-pub record AddFacts (j g : List ℕ) (v w : ℕ) : Type 0 where
-  pub lengths : lengthsOk j g ≡ true
-  pub sound : valid j g ≡ true
-  pub phased : phase j ≡ 1
-  pub pair : Open (vertexCount j) (classAt j) (jdmOf j) (edge g) v w
+pub record AddFacts (s : State) (v w : ℕ) : Type 0 where
+  pub state : ValidLaid s
+  pub pair : Open (vertexCount s) (classAt s) (jdmOf (s .journal)) (edge (s .adjacency)) v w
 
 abbrev IsAdded : AddAnswer → Type 0
-IsAdded (Added s) = Unit {0}
+IsAdded (Added x) = Unit {0}
 IsAdded (Refused r) = ⊥
 
-refused-not-added : (s : Switches) (r : Refusal) → Refused r ≡ Added s → ⊥
-refused-not-added s r e = subst IsAdded (sym e) tt
+refused-not-added : (x : Switches) (r : Refusal) → Refused r ≡ Added x → ⊥
+refused-not-added x r e = subst IsAdded (sym e) tt
 
-module _ (j g : List ℕ) (v w : ℕ) where
-  pub added-facts : (s : Switches) → addAnswer j g v w ≡ Added s → AddFacts j g v w × (s ≡ joinSwitches (vertexCount j) (classAt j) g v w)
-  added-facts s e =
-      let no = refused-not-added s in
-      let p = unless-stopped-passed (phaseVerdict 1 j g) Refused _ (Added s) no e in
-      let q = phase-passed 1 j g (p .0) in
-      let a = unless-passed (ltb v (vertexCount j)) _ _ (Added s) (no _) (p .1) in
-      let b = unless-passed (ltb w (vertexCount j)) _ _ (Added s) (no _) (a .1) in
-      let d = unless-passed (not (eqb v w)) _ _ (Added s) (no _) (b .1) in
-      let u = unless-passed (eqb (edge g v w) 0) _ _ (Added s) (no _) (d .1) in
-      let h = unless-passed (isShort j g (classAt j v) (classAt j w)) _ _ (Added s) (no _) (u .1) in (
+module _ (s : State) (v w : ℕ) where
+  pub added-facts : (x : Switches) → addAnswer s v w ≡ Added x
+      → AddFacts s v w × (x ≡ joinSwitches (vertexCount s) (classAt s) (s .adjacency) v w)
+  added-facts x e =
+      let no = refused-not-added x in
+      let p = unless-stopped-passed (phaseVerdict 1 s) Refused _ (Added x) no e in
+      let q = unless-stopped-passed (pairVerdict (vertexCount s) v w) Refused _ (Added x) no (p .1) in
+      let d = pair-passed (vertexCount s) v w (q .0) in
+      let u = unless-passed (eqb (edge (s .adjacency) v w) 0) _ _ (Added x) (no _) (q .1) in
+      let h = unless-passed (isShort s (classAt s v) (classAt s w)) _ _ (Added x) (no _) (u .1) in (
         record {
-          lengths = q .0;
-          sound = q .1;
-          phased = q .2;
+          state = laid-passed s (p .0);
           pair =
               record {
-                first = ltb-true v (vertexCount j) (a .0);
-                second = ltb-true w (vertexCount j) (b .0);
-                distinct = eqb-false v w (not-true (eqb v w) (d .0));
-                unlinked = eqb-true (edge g v w) 0 (u .0);
-                short = ltb-true (cellAt j g (classAt j v) (classAt j w)) (jdmOf j (classAt j v) (classAt j w)) (h .0);
+                first = d .0;
+                second = d .1;
+                distinct = d .2;
+                unlinked = eqb-true (edge (s .adjacency) v w) 0 (u .0);
+                short = ltb-true (cellAt s (classAt s v) (classAt s w)) (jdmOf (s .journal) (classAt s v) (classAt s w)) (h .0);
               };
         },
         ap made (sym (h .1)),
       )
     where
       made : AddAnswer → Switches
-      made (Added x) = x
+      made (Added y) = y
       made (Refused r) = None
 
-  pub facts-added : AddFacts j g v w → addAnswer j g v w ≡ Added (joinSwitches (vertexCount j) (classAt j) g v w)
+  pub facts-added : AddFacts s v w → addAnswer s v w ≡ Added (joinSwitches (vertexCount s) (classAt s) (s .adjacency) v w)
   facts-added f =
       rw (
-        phase-go 1 j g (f .lengths) (f .sound) (f .phased),
-        lt-ltb v (vertexCount j) (f .pair .first),
-        lt-ltb w (vertexCount j) (f .pair .second),
-        ne-eqb v w (f .pair .distinct),
-        eq-eqb (edge g v w) 0 (f .pair .unlinked),
-        lt-ltb (cellAt j g (classAt j v) (classAt j w)) (jdmOf j (classAt j v) (classAt j w)) (f .pair .short),
+        laid-goes s (f .state),
+        pair-goes (vertexCount s) v w (f .pair .first) (f .pair .second) (f .pair .distinct),
+        eq-eqb (edge (s .adjacency) v w) 0 (f .pair .unlinked),
+        lt-ltb (cellAt s (classAt s v) (classAt s w)) (jdmOf (s .journal) (classAt s v) (classAt s w)) (f .pair .short),
       )
 
   -- after it
-  pub record AddWorks (g′ : List ℕ) : Type 0 where
-    pub lengths : lengthsOk j g′ ≡ true
-    pub sound : valid j g′ ≡ true
-    pub linked : edge g′ v w ≡ 1
-    pub one-more : edgeTotal j g′ ≡ edgeTotal j g + 1
-    pub cells : (k l : ℕ) → cellAt j g′ k l ≡ cellAt j g k l + atEdge (classAt j v) (classAt j w) k l
+  pub record AddWorks (s′ : State) : Type 0 where
+    pub state : ValidLaid s′
+    pub linked : edge (s′ .adjacency) v w ≡ 1
+    pub one-more : edgeTotal s′ ≡ edgeTotal s + 1
+    pub cells : (k l : ℕ) → cellAt s′ k l ≡ cellAt s k l + atEdge (classAt s v) (classAt s w) k l
 
   -- An unlinked pair whose cell is short is added: the state stays valid, the pair is linked, there is exactly one edge more, and every other
   -- cell is as it was.
-  pub add-works : AddFacts j g v w → AddWorks (joinBytes (vertexCount j) (classAt j) g v w)
+  pub add-works : AddFacts s v w → AddWorks (withMatrix s (joinBytes (vertexCount s) (classAt s) (s .adjacency) v w))
   add-works f =
       record {
-        lengths = Rattle.state.proofs.Facts.lengths-both j g′ (facts .journal-length) sized;
-        sound = laid-valid j g laid g′ (f .phased) (facts .journal-ok) sized (a .partial) outside;
+        state =
+            record {
+              lengths = lengths-both (withMatrix s g′) (facts .journal-length) sized;
+              is-valid = laid-valid s laid g′ (f .state .phased) (facts .journal-ok) sized (a .partial) outside;
+              phased = f .state .phased;
+            };
         linked = a .linked;
         one-more = a .one-more;
         cells = a .cells;
       }
     where
-      n : ℕ
-      n = vertexCount j
+      facts : StateFacts s
+      facts = valid-facts s (f .state .lengths) (f .state .is-valid)
 
-      facts : StateFacts j g
-      facts = valid-facts j g (f .lengths) (f .sound)
-
-      laid : Laid j g
-      laid = facts .laid (f .phased)
+      laid : Laid s
+      laid = facts .laid (f .state .phased)
 
       g′ : List ℕ
-      g′ = joinBytes (vertexCount j) (classAt j) g v w
+      g′ = joinBytes (vertexCount s) (classAt s) (s .adjacency) v w
 
-      jo : Joined (vertexCount j) (classAt j) classDegree (edge g) v w (edge g′)
-      jo = join-bytes (vertexCount j) (classAt j) (jdmOf j) g v w (facts .adjacency-length) (laid .vertices-le) (laid .target) (laid .partial) (f .pair)
+      jo : Joined (vertexCount s) (classAt s) classDegree (edge (s .adjacency)) v w (edge g′)
+      jo =
+          join-bytes (vertexCount s) (classAt s) (jdmOf (s .journal)) (s .adjacency) v w (facts .adjacency-length) (laid .vertices-le) (laid .target)
+          (laid .partial) (f .pair)
 
-      a : AfterJoin (vertexCount j) mostClasses (classAt j) classDegree (jdmOf j) (edge g) v w (jo .twice) (edge g′)
-      a = join-works (vertexCount j) mostClasses (classAt j) classDegree (jdmOf j) (edge g) v w (laid .target) (laid .partial) (f .pair) (edge g′) jo
+      a : AfterJoin (vertexCount s) mostClasses (classAt s) classDegree (jdmOf (s .journal)) (edge (s .adjacency)) v w (jo .twice) (edge g′)
+      a =
+          join-works (vertexCount s) mostClasses (classAt s) classDegree (jdmOf (s .journal)) (edge (s .adjacency)) v w (laid .target) (laid .partial)
+          (f .pair) (edge g′) jo
 
       sized : length g′ ≡ adjacencySize
-      sized = join-length (vertexCount j) (classAt j) g v w ∙ facts .adjacency-length
+      sized = join-length (vertexCount s) (classAt s) (s .adjacency) v w ∙ facts .adjacency-length
 
-      outside : Rattle.adjacency.proofs.Facts.ZeroOutside (vertexCount j) g′
+      outside : ZeroOutside (vertexCount s) g′
       outside x y xs ys o =
-          join-outside (vertexCount j) (classAt j) (jdmOf j) g v w (facts .adjacency-length) (laid .vertices-le) (laid .target) (laid .partial) (f .pair)
-          x y xs ys o
+          join-outside (vertexCount s) (classAt s) (jdmOf (s .journal)) (s .adjacency) v w (facts .adjacency-length) (laid .vertices-le) (laid .target)
+          (laid .partial) (f .pair) x y xs ys o
           ∙ laid .outside x y xs ys o

@@ -17,11 +17,12 @@ use Rattle.layout.specs.Inner.Arrays.{countIn, tableIn, Counts}
 use Rattle.layout.proofs.Counted.{counted-total}
 use Rattle.journal.specs.Journal.{tableOf}
 use Rattle.adjacency.specs.Adjacency.{edge}
+use Rattle.state.specs.State.{State}
 use Rattle.classes.specs.Inner.Block.{startsOf, Numbered, classFrom, blockSum, BlockOf}
 use Rattle.joining.specs.Join.{joinBytes, joinSwitches}
 use Rattle.joining.specs.Inner.Work.{Joinable, Placed}
 use Rattle.classes.proofs.Blocks.{start-rises, start-most, class-only, block-cell, table-numbered, table-classes}
-use Rattle.add_edge.specs.Add.{addAdjacency}
+use Rattle.add_edge.specs.Add.{afterAdd}
 use Rattle.add_edge.specs.Inner.Work.{Unlinked, addedAdjacency}
 
 pub starts-few : (c : List ℕ) {counts : List ℕ} → Counts c counts → vertices (tableIn c (countIn counts 0)) ≤ mostVertices
@@ -29,7 +30,7 @@ pub starts-few : (c : List ℕ) {counts : List ℕ} → Counts c counts → vert
 starts-few c {counts} ed few = rw (counted-total c counts ed) few
 
 -- c: the table's cells; s: the starts of its classes
-module _ (c : List ℕ) {counts s g : List ℕ} {v w : ℕ} (u : Unlinked (tableIn c (countIn counts 0)) g v w) (ed : Counts c counts)
+module _ (c : List ℕ) {counts s g held : List ℕ} {v w : ℕ} (u : Unlinked (tableIn c (countIn counts 0)) g held v w) (ed : Counts c counts)
     (es : s ≡ startsOf counts) where
   abbrev t : DegreeTable
   t = tableIn c (countIn counts 0)
@@ -103,7 +104,7 @@ module _ (c : List ℕ) {counts s g : List ℕ} {v w : ℕ} (u : Unlinked (table
     pub switches-read : joinSwitches n (classFrom s) g v w ≡ joinSwitches (vertices t) (vertexClass t) g v w
     switches-read = ap₂ (λ (m : ℕ) (cls : ℕ → ℕ). joinSwitches m cls g v w) en (table-classes c ed es)
 
--- on the table of a journal
-pub adjacency-of : (a : AddAnswer) (j g : List ℕ) (v w : ℕ) → addedAdjacency a (tableOf j) g v w ≡ addAdjacency a j g v w
-adjacency-of (Added s) j g v w = refl
-adjacency-of (Refused r) j g v w = refl
+-- on the table of a state's journal
+pub adjacency-of : (a : AddAnswer) (s : State) (v w : ℕ) → addedAdjacency a (tableOf (s .journal)) (s .adjacency) v w ≡ afterAdd a s v w .adjacency
+adjacency-of (Added x) s v w = refl
+adjacency-of (Refused r) s v w = refl

@@ -5,14 +5,16 @@ ghost use lib.Dec.{ltb};
 ghost use lib.ListN.{length, getD};
 ghost use Rattle.answer.specs.Refusals.{refusal};
 ghost use Rattle.answer.specs.declared.Cause.the-variants.{CellNotShort};
-ghost use Rattle.graph.specs.Tests.{mostClasses};
+ghost use Rattle.graph.specs.Tests.{mostClasses, vertices};
 ghost use Rattle.table.specs.Inner.Cells.{matrixOf, AtMost, cellSumMost};
 ghost use Rattle.answer.specs.declared.Verdict.the-variants.{Go};
 ghost use Rattle.layout.specs.Inner.Arrays.{countIn, tableIn, Counts};
 ghost use Rattle.adjacency.specs.Adjacency.{adjacencySize, edge};
+ghost use Rattle.state.specs.State.{stateOf};
 ghost use Rattle.state.specs.Checks.{phaseVerdict};
+ghost use Rattle.state.specs.Inner.Opened.{laidFront, Opened};
 ghost use Rattle.classes.specs.Inner.Block.{blockSum, BlockOf};
-ghost use Rattle.add_edge.specs.Add.{addLaid, addAnswer, addAdjacency};
+ghost use Rattle.add_edge.specs.Add.{addAnswer, addAfter};
 ghost use Rattle.add_edge.specs.Inner.Work.{Unlinked, addUnlinked, addedAdjacency};
 use adjacency::edge_at;
 use answer::AddAnswer;
@@ -25,10 +27,12 @@ use classes::block_sum;
 use classes::class_at;
 use classes::starts;
 use joining::End;
-use joining::once::join_once;
+use joining::join;
+use layout::MAX_VERTICES;
 use layout::vertex_count;
-use state::phase_check;
-use state::sum_table;
+use state::laid_check;
+use state::open;
+use state::pair_check;
 use table::cells::CELLS;
 use table::cells::cell;
 use table::class::MAX_CLASSES;
@@ -61,15 +65,17 @@ fn full_cell(k: usize, l: usize) -> Refusal
     refuse(Cause::CellNotShort, l, k)
 }
 
-// On two unlinked vertices: the check 16, then the switches and the edge.
+// On two unlinked vertices, among n: the check 16, then the switches and the edge.
 fn add_unlinked(
     adjacency: &mut [u8],
+    held: &mut [usize; MAX_VERTICES],
     cells: &[u32; CELLS],
     counts: &[usize; MAX_CLASSES],
+    n: usize,
     v: usize,
     w: usize,
 ) -> AddAnswer
-    requires { ⌜ Unlinked (tableIn (now cells) (countIn (now counts) 0)) (now adjacency) v w × AtMost cellSumMost (now cells) × Counts (now cells) (now counts) ⌝ }
+    requires { ⌜ Unlinked (tableIn (now cells) (countIn (now counts) 0)) (now adjacency) (now held) v w × AtMost cellSumMost (now cells) × Counts (now cells) (now counts) × (n ≡ vertices (tableIn (now cells) (countIn (now counts) 0))) ⌝ }
     ensures { λ r. ⌜ r ≡ addUnlinked (tableIn (now (cells .entry)) (countIn (now (counts .entry)) 0)) (now (adjacency .entry)) v w ⌝ }
     ensures { λ _. ⌜ now (adjacency .exit) ≡ (let t = tableIn (now (cells .entry)) (countIn (now (counts .entry)) 0) in addedAdjacency (addUnlinked t (now (adjacency .entry)) v w) t (now (adjacency .entry)) v w) ⌝ }
 {
@@ -79,7 +85,6 @@ fn add_unlinked(
     if !is_short(adjacency, cells, &s, k, l) {
         return AddAnswer::Refused(full_cell(k, l));
     }
-    let n = vertex_count(cells, counts);
     let x = End {
         at: v,
         class: k,
@@ -90,40 +95,60 @@ fn add_unlinked(
         class: l,
         low: s[l],
     };
-    AddAnswer::Added(join_once(adjacency, &s, n, x, y))
+    let done = join(adjacency, held, &s, n, x, y);
+    let switches = done.switches;
+    AddAnswer::Added(switches)
 }
 
 // On a valid laid state: the checks 13 to 15, then the pair.
-fn add_laid(journal: &[u8], adjacency: &mut [u8], v: usize, w: usize) -> AddAnswer
-    requires { ⌜ phaseVerdict 1 (now journal) (now adjacency) ≡ Go ⌝ }
-    ensures { λ r. ⌜ r ≡ addLaid (now (journal .entry)) (now (adjacency .entry)) v w ⌝ }
-    ensures { λ _. ⌜ now (adjacency .exit) ≡ addAdjacency (addLaid (now (journal .entry)) (now (adjacency .entry)) v w) (now (journal .entry)) (now (adjacency .entry)) v w ⌝ }
+fn add_laid(
+    journal: &[u8],
+    adjacency: &mut [u8],
+    cells: &[u32; CELLS],
+    counts: &[usize; MAX_CLASSES],
+    held: &mut [usize; MAX_VERTICES],
+    v: usize,
+    w: usize,
+) -> AddAnswer
+    requires { ⌜ (phaseVerdict 1 (stateOf (now journal) (now adjacency)) ≡ Go) × Opened (stateOf (now journal) (now adjacency)) (now cells) (now counts) (now held) ⌝ }
+    ensures { λ r. ⌜ r ≡ addAnswer (stateOf (now (journal .entry)) (now (adjacency .entry))) v w ⌝ }
+    ensures { λ _. ⌜ now (adjacency .exit) ≡ addAfter (stateOf (now (journal .entry)) (now (adjacency .entry))) v w .adjacency ⌝ }
+{
+    let n = vertex_count(cells, counts);
+    let verdict = pair_check(n, v, w);
+    match verdict {
+        Verdict::Stop(r) => AddAnswer::Refused(r),
+        Verdict::Go => {
+            if edge_at(adjacency, v, w) != 0 {
+                return AddAnswer::Refused(refuse(Cause::EdgePresent, 0, 0));
+            }
+            add_unlinked(adjacency, held, cells, counts, n, v, w)
+        }
+    }
+}
+
+// Behind the front: the laid matrix, then the pair.
+fn add_checked(journal: &[u8], adjacency: &mut [u8], v: usize, w: usize) -> AddAnswer
+    requires { ⌜ laidFront (stateOf (now journal) (now adjacency)) ≡ Go ⌝ }
+    ensures { λ r. ⌜ r ≡ addAnswer (stateOf (now (journal .entry)) (now (adjacency .entry))) v w ⌝ }
+    ensures { λ _. ⌜ now (adjacency .exit) ≡ addAfter (stateOf (now (journal .entry)) (now (adjacency .entry))) v w .adjacency ⌝ }
 {
     let mut cells = [0u32; CELLS];
-    let d = sum_table(journal, &mut cells);
-    let n = vertex_count(&cells, &d);
-    if n <= v {
-        return AddAnswer::Refused(refuse(Cause::NoSuchVertex, 0, 0));
+    let mut counts = [0usize; MAX_CLASSES];
+    let mut held = [0usize; MAX_VERTICES];
+    if !open(journal, adjacency, &mut cells, &mut counts, &mut held) {
+        return AddAnswer::Refused(refuse(Cause::InvalidState, 0, 0));
     }
-    if n <= w {
-        return AddAnswer::Refused(refuse(Cause::NoSuchVertex, 0, 0));
-    }
-    if v == w {
-        return AddAnswer::Refused(refuse(Cause::SameVertex, 0, 0));
-    }
-    if edge_at(adjacency, v, w) != 0 {
-        return AddAnswer::Refused(refuse(Cause::EdgePresent, 0, 0));
-    }
-    add_unlinked(adjacency, &cells, &d, v, w)
+    add_laid(journal, adjacency, &cells, &counts, &mut held, v, w)
 }
 
 pub fn add_edge(journal: &[u8], adjacency: &mut [u8], v: usize, w: usize) -> AddAnswer
-    ensures { λ r. ⌜ r ≡ addAnswer (now (journal .entry)) (now (adjacency .entry)) v w ⌝ }
-    ensures { λ _. ⌜ now (adjacency .exit) ≡ addAdjacency (addAnswer (now (journal .entry)) (now (adjacency .entry)) v w) (now (journal .entry)) (now (adjacency .entry)) v w ⌝ }
+    ensures { λ r. ⌜ r ≡ addAnswer (stateOf (now (journal .entry)) (now (adjacency .entry))) v w ⌝ }
+    ensures { λ _. ⌜ now (adjacency .exit) ≡ addAfter (stateOf (now (journal .entry)) (now (adjacency .entry))) v w .adjacency ⌝ }
 {
-    let verdict = phase_check(journal, adjacency, 1);
+    let verdict = laid_check(journal, adjacency);
     match verdict {
         Verdict::Stop(r) => AddAnswer::Refused(r),
-        Verdict::Go => add_laid(journal, adjacency, v, w),
+        Verdict::Go => add_checked(journal, adjacency, v, w),
     }
 }

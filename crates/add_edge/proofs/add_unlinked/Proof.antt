@@ -1,4 +1,4 @@
--- `adding::add_unlinked` meets its contract.
+-- `add_edge::add_unlinked` meets its contract.
 -- Assumes nothing.
 use mathlib.Core.Path.{refl, ap, ap₂, _∙_}
 use Prim.Native.Nat.{ℕ, min, max}
@@ -49,30 +49,28 @@ add-unlinked-spec =
     let lw = class-read cells u ed es (s .args .w) (y .class-at2 .ensures) in
     rw (short-read cells u ed es kd ld _ kv lw (h .is-short .ensures) ∙ not-true _ (i .if1 .taken))
     (ap Refused (c .full-cell .ensures ∙ ap₂ (λ (a b : ℕ). refusal CellNotShort (min a b) (max a b)) kv lw), refl))  -- returns
-    (λ c κs. let p = c .before .before .before .before .before .before .before .before .before .before .pre in (p .1, p .2))  -- vertex-count-requires
     (λ c.
-    let x = c .before .before .before .before .before .before .before in
+    let x = c .before .before .before .before .before .before in
     let t = x .before .before in
     let s = t .before .before in
-    omega (arith, class-few (s .args .cells .now) (s .pre .0) (s .pre .2) (t .starts .ensures) (s .args .v) (x .class-at .ensures) (s .pre .0 .first)))  -- mul-t21
+    omega (arith, class-few (s .args .cells .now) (s .pre .0) (s .pre .2) (t .starts .ensures) (s .args .v) (x .class-at .ensures) (s .pre .0 .first)))  -- mul-t24
     (λ c.
-    let x = c .before .before .before .before .before .before .before in
+    let x = c .before .before .before .before .before .before in
     let t = x .before .before in
     let s = t .before .before in
-    omega (arith, class-few (s .args .cells .now) (s .pre .0) (s .pre .2) (t .starts .ensures) (s .args .v) (x .class-at .ensures) (s .pre .0 .first)))  -- array-read-t24
+    omega (arith, class-few (s .args .cells .now) (s .pre .0) (s .pre .2) (t .starts .ensures) (s .args .v) (x .class-at .ensures) (s .pre .0 .first)))  -- array-read-t27
     (λ c.
-    let y = c .before .before .before .before .before in
+    let y = c .before .before .before .before in
     let t = y .before .before .before .before in
     let s = t .before .before in
-    omega (arith, class-few (s .args .cells .now) (s .pre .0) (s .pre .2) (t .starts .ensures) (s .args .w) (y .class-at2 .ensures) (s .pre .0 .second)))  -- mul-t21-2
+    omega (arith, class-few (s .args .cells .now) (s .pre .0) (s .pre .2) (t .starts .ensures) (s .args .w) (y .class-at2 .ensures) (s .pre .0 .second)))  -- mul-t24-2
     (λ c.
-    let y = c .before .before .before .before .before in
+    let y = c .before .before .before .before in
     let t = y .before .before .before .before in
     let s = t .before .before in
-    omega (arith, class-few (s .args .cells .now) (s .pre .0) (s .pre .2) (t .starts .ensures) (s .args .w) (y .class-at2 .ensures) (s .pre .0 .second)))  -- array-read-t24-2
+    omega (arith, class-few (s .args .cells .now) (s .pre .0) (s .pre .2) (t .starts .ensures) (s .args .w) (y .class-at2 .ensures) (s .pre .0 .second)))  -- array-read-t27-2
     (λ c κs.
-    let n = c .before .before in
-    let i = n .before in
+    let i = c .before .before .before in
     let h = i .before in
     let y = h .before .before .before in
     let x = y .before .before in
@@ -89,16 +87,16 @@ add-unlinked-spec =
     let kv = class-read cells u ed es (s .args .v) kx in
     let lw = class-read cells u ed es (s .args .w) ly in
     let e = short-read cells u ed es kd ld _ kv lw (h .is-short .ensures) ∙ not-false _ (i .if1 .left) in
-    rw (n .vertex-count .ensures) (
+    rw (s .pre .3) (
       joinable cells u ed es (ltb-true _ _ e),
+      u .degrees-held,
       placed cells u ed es (s .args .v) kx (u .first) (s .args .w),
       placed cells u ed es (s .args .w) ly (u .second) (s .args .v),
-    ))  -- join-once-requires
+    ))  -- join-requires
     (λ c. search needs)  -- same-length-2
     (λ c.
     let j = c .before .before in
-    let n = j .before .before .before in
-    let i = n .before in
+    let i = j .before .before .before .before in
     let h = i .before in
     let y = h .before .before .before in
     let x = y .before .before in
@@ -116,6 +114,6 @@ add-unlinked-spec =
     let lw = class-read cells u ed es (s .args .w) ly in
     let e = short-read cells u ed es kd ld _ kv lw (h .is-short .ensures) ∙ not-false _ (i .if1 .left) in
     rw e (
-      ap Added (j .join-once .ensures .0 ∙ switches-read cells u ed es (n .vertex-count .ensures)),
-      j .join-once .ensures .1 ∙ join-read cells u ed es (n .vertex-count .ensures),
+      ap Added (j .join .ensures .0 .0 ∙ switches-read cells u ed es (s .pre .3)),
+      j .join .ensures .1 .0 ∙ join-read cells u ed es (s .pre .3),
     )))  -- returns-2

@@ -1,4 +1,4 @@
--- `adding::full_cell` meets its contract.
+-- `add_edge::full_cell` meets its contract.
 use mathlib.Core.Path.{_≡_, ap₂, _∙_}
 use Prim.Native.Nat.{min, max}
 use native.Mathlib.Omega.{arith}

@@ -1,4 +1,4 @@
--- `adding::is_short` meets its contract.
+-- `add_edge::is_short` meets its contract.
 -- Assumes nothing.
 use mathlib.Core.Path.{ap₂}
 use native.Mathlib.Omega.{arith}

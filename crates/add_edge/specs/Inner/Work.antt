@@ -1,4 +1,4 @@
--- What the code of adding works with: two unlinked vertices of a graph for a table t.
+-- What the code of adding works with: two unlinked vertices of a graph for a table t, and the degrees beside it.
 -- Assumes nothing.
 use mathlib.Core.Path.{_≡_}
 use mathlib.Core.List.{List}
@@ -14,14 +14,16 @@ use Rattle.graph.specs.Target.{Target, Partial}
 use Rattle.graph.specs.Tests.{mostClasses, vertices, vertexClass, classDegree}
 use Rattle.layout.specs.Layout.{mostVertices}
 use Rattle.adjacency.specs.Adjacency.{adjacencySize, edge}
+use Rattle.adjacency.specs.Inner.Degrees.{degreesOf}
 use Rattle.joining.specs.Join.{joinBytes, joinSwitches}
 
--- g is a partial graph of the table t, and v and w are two vertices that it does not link
-pub record Unlinked (t : DegreeTable) (g : List ℕ) (v w : ℕ) : Type 0 where
+-- g is a partial graph of the table t, with these degrees, and v and w are two vertices that it does not link
+pub record Unlinked (t : DegreeTable) (g held : List ℕ) (v w : ℕ) : Type 0 where
   pub sized : length g ≡ adjacencySize
   pub few : vertices t ≤ mostVertices
   pub target : Target (vertices t) mostClasses (vertexClass t) classDegree (t .cells)
   pub partial : Partial (vertices t) mostClasses (vertexClass t) classDegree (t .cells) (edge g)
+  pub degrees-held : held ≡ degreesOf (vertices t) g
   pub first : v < vertices t
   pub second : w < vertices t
   pub distinct : v ≡ w → ⊥
