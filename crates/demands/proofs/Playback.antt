@@ -100,15 +100,12 @@ completing-plays f s out checked room =
 adding-plays : (s : State) (v w : ℕ) (x : Switches) → addAnswer s v w ≡ Added x
     → play (addedRecord v w x) (s .adjacency) ≡ fits (addAfter s v w .adjacency)
 adding-plays s v w x e =
-    play-more [] 0 v w x g refl
-    ∙ ap (playJoin v w x) (play-none g)
-    ∙ ap (λ (y : Switches). playJoin v w y (fits g)) (added-facts s v w x e .1)
-    ∙ join-plays (vertexCount s) (classAt s) (jdmOf (s .journal)) g v w (facts .adjacency-length) (laid .vertices-le) (laid .target) (laid .partial) (f .pair)
+    play-more [] 0 v w x (s .adjacency) refl
+    ∙ ap (playJoin v w x) (play-none (s .adjacency))
+    ∙ ap (λ (y : Switches). playJoin v w y (fits (s .adjacency))) (added-facts s v w x e .1)
+    ∙ join-plays (vertexCount s) (classAt s) (jdmOf (s .journal)) (s .adjacency) v w (facts .adjacency-length) (laid .vertices-le) (laid .target) (laid .partial) (f .pair)
     ∙ sym (ap (λ (a : AddAnswer). fits (afterAdd a s v w .adjacency)) e)
   where
-    abbrev g : List ℕ
-    g = s .adjacency
-
     f : AddFacts s v w
     f = added-facts s v w x e .0
 

@@ -13,7 +13,7 @@ use Rattle.finite.specs.Range.{allTo, foldTo}
 use Rattle.finite.proofs.All.{and-left, and-right, and-false, allTo-fails}
 use Rattle.finite.proofs.Fold.{foldTo-more, foldTo-after}
 use Rattle.options.specs.declared.Number.the-variants.{Value, NoNumber}
-use Rattle.options.specs.Options.{isDigit, withDigit, valueOf, numberEnd, isNumber, numberOf}
+use Rattle.options.specs.Options.{isDigit, withDigit, valueOf, numberEnd, isNumber, wordNumber}
 
 pub digit-range : (b : ℕ) → isDigit b ≡ true → (48 ≤ b) × (b ≤ 57)
 digit-range b h = (leb-true 48 b (and-left (leb 48 b) (leb b 57) h), leb-true b 57 (and-right (leb 48 b) (leb b 57) h))
@@ -38,17 +38,17 @@ module _ (word : List ℕ) where
       let q : i + suc k ≡ i + k + 1 = omega arith in
       rw q (omega (arith, value-grows i k, foldTo-more (withDigit word) 0 (i + k)))
 
-  pub none-empty : length word ≡ 0 → NoNumber ≡ numberOf word
+  pub none-empty : length word ≡ 0 → NoNumber ≡ wordNumber word
   none-empty e = rw (lt-leb 1 (length word) (omega arith))
 
-  pub none-other : (i : ℕ) → i < length word → digitAt i ≡ false → NoNumber ≡ numberOf word
+  pub none-other : (i : ℕ) → i < length word → digitAt i ≡ false → NoNumber ≡ wordNumber word
   none-other i l e = rw (allTo-fails digitAt (length word) i l e, and-false (leb 1 (length word)))
 
-  pub none-large : (i : ℕ) → i ≤ length word → numberEnd ≤ valueTo i → NoNumber ≡ numberOf word
+  pub none-large : (i : ℕ) → i ≤ length word → numberEnd ≤ valueTo i → NoNumber ≡ wordNumber word
   none-large i l h =
       let q : i + (length word - i) ≡ length word = omega arith in
       let g : valueTo i ≤ valueOf word = rw q at (value-grows i (length word - i)) in
       rw (le-ltb (valueOf word) numberEnd (omega arith), and-false (leb 1 (length word) && allTo (length word) digitAt))
 
-  pub some : (length word ≡ 0 → ⊥) → allTo (length word) digitAt ≡ true → valueOf word < numberEnd → Value (valueOf word) ≡ numberOf word
+  pub some : (length word ≡ 0 → ⊥) → allTo (length word) digitAt ≡ true → valueOf word < numberEnd → Value (valueOf word) ≡ wordNumber word
   some filled digits small = rw (le-leb 1 (length word) (omega arith), digits, lt-ltb (valueOf word) numberEnd small)

@@ -44,8 +44,8 @@ numberEnd = 4294967296
 abbrev pub isNumber : List ℕ → Bool
 isNumber word = leb 1 (length word) && allTo (length word) (λ i. isDigit (getD word i 0)) && ltb (valueOf word) numberEnd
 
-abbrev pub numberOf : List ℕ → Number
-numberOf word = cond (isNumber word) (Value (valueOf word)) NoNumber
+abbrev pub wordNumber : List ℕ → Number
+wordNumber word = cond (isNumber word) (Value (valueOf word)) NoNumber
 
 -- the form, shuffled from the word's number on
 abbrev pub shuffledBy : Form → Number → Request
@@ -58,13 +58,13 @@ oneWord first = cond (sameBytes first graph6Word) (Show Graph6 Lowest) Usage
 
 -- `--shuffle X`
 abbrev pub twoWords : List ℕ → List ℕ → Request
-twoWords first second = cond (sameBytes first shuffleWord) (shuffledBy Lines (numberOf second)) Usage
+twoWords first second = cond (sameBytes first shuffleWord) (shuffledBy Lines (wordNumber second)) Usage
 
 -- both, in either order
 abbrev pub threeWords : List ℕ → List ℕ → List ℕ → Request
 threeWords first second third =
-    cond (sameBytes first graph6Word && sameBytes second shuffleWord) (shuffledBy Graph6 (numberOf third))
-    (cond (sameBytes first shuffleWord && sameBytes third graph6Word) (shuffledBy Graph6 (numberOf second)) Usage)
+    cond (sameBytes first graph6Word && sameBytes second shuffleWord) (shuffledBy Graph6 (wordNumber third))
+    (cond (sameBytes first shuffleWord && sameBytes third graph6Word) (shuffledBy Graph6 (wordNumber second)) Usage)
 
 -- of so many arguments, the program's name among them, and the three behind the name
 abbrev pub requestOf : ℕ → List ℕ → List ℕ → List ℕ → Request

@@ -1,7 +1,7 @@
 // What the program's arguments ask for.
 ghost use mathlib.Core.Path.{_≡_};
 ghost use Prim.Native.Nat.{_-_};
-ghost use Rattle.options.specs.Options.{isDigit, numberOf, shuffledBy, oneWord, twoWords, threeWords, requestOf};
+ghost use Rattle.options.specs.Options.{isDigit, wordNumber, shuffledBy, oneWord, twoWords, threeWords, requestOf};
 use answer::Choice;
 use slices::same_bytes;
 use slices::wide;
@@ -34,8 +34,8 @@ fn is_digit(b: u8) -> bool
 }
 
 // A word's number. It stops where the number is too large, so that no word is too long to be read.
-fn number_of(word: &[u8]) -> Number
-    ensures { λ r. ⌜ r ≡ numberOf (now (word .entry)) ⌝ }
+fn word_number(word: &[u8]) -> Number
+    ensures { λ r. ⌜ r ≡ wordNumber (now (word .entry)) ⌝ }
 {
     if word.len() == 0 {
         return Number::NoNumber;
@@ -55,9 +55,9 @@ fn number_of(word: &[u8]) -> Number
 
 // The form, shuffled from a word's number on.
 fn shuffled_by(form: Form, word: &[u8]) -> Request
-    ensures { λ r. ⌜ r ≡ shuffledBy form (numberOf (now (word .entry))) ⌝ }
+    ensures { λ r. ⌜ r ≡ shuffledBy form (wordNumber (now (word .entry))) ⌝ }
 {
-    let number = number_of(word);
+    let number = word_number(word);
     match number {
         Number::Value(x) => Request::Show(form, Choice::Picked(x)),
         Number::NoNumber => Request::Usage,

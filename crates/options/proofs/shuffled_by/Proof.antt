@@ -9,13 +9,13 @@ use Rattle.options.proofs.shuffled_by.Tie as tie
 pub shuffled-by-spec : {M : Type 1} → statement M
 shuffled-by-spec =
     tie.close (tie.spec
-    (λ c κs. tt)  -- number-of-requires
+    (λ c κs. tt)  -- word-number-requires
     (λ c. search needs)  -- enum-known-number
     (λ c. search needs)  -- enum-told
     (λ c.
     let k = c .before in
     let n = k .before .before in
-    ap (shuffledBy (n .before .before .args .form)) (sym (k .number .given .1) ∙ n .number-of .ensures))  -- returns
+    ap (shuffledBy (n .before .before .args .form)) (sym (k .number .given .1) ∙ n .word-number .ensures))  -- returns
     (λ c.
     let n = c .before .before in
-    ap (shuffledBy (n .before .before .args .form)) (sym (c .enum-told .given .1) ∙ n .number-of .ensures)))  -- returns-2
+    ap (shuffledBy (n .before .before .args .form)) (sym (c .enum-told .given .1) ∙ n .word-number .ensures)))  -- returns-2

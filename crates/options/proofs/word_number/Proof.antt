@@ -1,4 +1,4 @@
--- `options::number_of` meets its contract: so far there were digits alone, and their number is below 2^32.
+-- `options::word_number` meets its contract: so far there were digits alone, and their number is below 2^32.
 -- Assumes nothing.
 use mathlib.Core.Path.{_≡_, refl, sym, ap, _∙_}
 use mathlib.Core.Bool.{true}
@@ -11,8 +11,8 @@ use Rattle.finite.proofs.All.{allTo-none, allTo-more, and-both}
 use Rattle.finite.proofs.Fold.{foldTo-none, foldTo-more}
 use Rattle.options.specs.Options.{numberEnd, withDigit}
 use Rattle.options.proofs.Digits.{digit-range, digitAt, valueTo, value-next, none-empty, none-other, none-large, some}
-use Rattle.options.proofs.number_of.Statement.{statement}
-use Rattle.options.proofs.number_of.Tie as tie
+use Rattle.options.proofs.word_number.Statement.{statement}
+use Rattle.options.proofs.word_number.Tie as tie
 
 abbrev Inv-loop : tie.InvT-loop
 Inv-loop word value₀ i₀ i-end value i =
@@ -21,8 +21,8 @@ Inv-loop word value₀ i₀ i-end value i =
 abbrev μ-loop : tie.MeasureT-loop
 μ-loop word value₀ i₀ i-end value i = length word - i
 
-pub number-of-spec : {M : Type 1} → statement M
-number-of-spec =
+pub word-number-spec : {M : Type 1} → statement M
+word-number-spec =
     tie.close (tie.spec Inv-loop μ-loop
     (λ c. none-empty (c .before .before .args .word .now) (c .if1 .taken))  -- returns
     (λ c. (omega arith, sym (foldTo-none _ _), omega arith, allTo-none _))  -- loop-holds
