@@ -7,7 +7,7 @@ use mathlib.Core.Logic.{_⊎_, inl, inr}
 use Prim.Native.Nat.{ℕ, _+_, _*_, _/_}
 use native.Mathlib.Omega.{arith}
 use lib.Dec.{eqb, ltb}
-use lib.ListN.{length, replicate}
+use lib.ListN.{length}
 use Rattle.finite.specs.Range.{bit, sumTo, catTo}
 use Rattle.finite.proofs.Sum.{sumTo-none, sumTo-more}
 use Rattle.finite.proofs.Fold.{catTo-cong, foldTo-keeps}
@@ -24,19 +24,20 @@ use Rattle.answer.specs.declared.CompleteAnswer.{CompleteAnswer}
 use Rattle.answer.specs.declared.CompleteAnswer.the-variants.{Completed, Refused as CompleteRefused}
 use Rattle.answer.specs.declared.Choice.{Choice}
 use Rattle.table.specs.Block.{blockCell, blockIsolated, plus}
-use Rattle.journal.specs.Journal.{journalSize, phase, blocks, tableOf, laid}
+use Rattle.journal.specs.Journal.{phase, blocks, tableOf}
 use Rattle.journal.proofs.Store.{phase-stored, blocks-stored, table-stored}
-use Rattle.journal.proofs.Laid.{table-laid, phase-laid}
-use Rattle.adjacency.specs.Adjacency.{adjacencySize, edge}
-use Rattle.state.specs.Valid.{lengthsOk, valid}
+use Rattle.journal.proofs.Laid.{phase-laid}
+use Rattle.adjacency.specs.Adjacency.{edge}
+use Rattle.state.specs.State.{State, withMatrix, cleared}
+use Rattle.state.specs.Valid.{lengthsOk, valid, ValidLaid}
 use Rattle.state.specs.Laid.{vertexCount}
 use Rattle.state.proofs.Facts.{lengths-journal, valid-journal}
-use Rattle.take_block.specs.Take.{takeAnswer, takeJournal}
-use Rattle.lay_out.specs.LayOut.{layOutAnswer, layOutJournal}
+use Rattle.take_block.specs.Take.{takeAnswer, afterTake}
+use Rattle.lay_out.specs.LayOut.{layOutAnswer, layOutAfter}
 use Rattle.clear.specs.Clear.{ClearedState}
 use Rattle.clear.proofs.Cleared.{cleared-state}
 use Rattle.take_block.proofs.Take.{taken-facts, held-facts, take-lengths, take-valid}
-use Rattle.lay_out.proofs.LayOut.{LaidOutFacts, lay-out-facts, lay-out-lengths, lay-out-valid}
+use Rattle.lay_out.proofs.LayOut.{LaidOutFacts, lay-out-facts, lay-out-same-table, lay-out-lengths, lay-out-valid}
 use Rattle.edge_lists.specs.EdgeList.{graphOf, edgeBytes, rowBytes}
 use Rattle.edge_lists.proofs.Listing.{list-length}
 use Rattle.edge_lists.proofs.Listed.{list-graph}
@@ -44,9 +45,9 @@ use Rattle.edge_lists.proofs.Pairs.{cat-sized, one-sized}
 use Rattle.edge_list.specs.List.{listBytes}
 use Rattle.graph6.proofs.Text.{text-cong}
 use Rattle.graph6_write.specs.Write.{writeText}
-use Rattle.complete.specs.Complete.{Ran, ranAnswer, ranAfter}
-use Rattle.complete.proofs.Entry.{CompleteFacts, completed-facts, facts-completed, missing-most}
-use Rattle.complete_shuffled.specs.Outcome.{outcome}
+use Rattle.complete.specs.Complete.{Ran, afterRan}
+use Rattle.complete.proofs.Entry.{completed-facts, facts-completed, missing-most}
+use Rattle.complete_shuffled.specs.Outcome.{outcome, choiceAnswer}
 use Rattle.complete_shuffled.proofs.Works.{outcome-works}
 use Rattle.text.specs.Text.{newline, refusedLine, headLine, edgeLines}
 use Rattle.text.proofs.Lines.{lines-cat, lines-one}
@@ -88,147 +89,145 @@ tableTo input i =
       isolated = sumTo i (λ i. blockIsolated (blockIn input i));
     }
 
--- i blocks went into the journal j
-record Reached (g input : List ℕ) (i : ℕ) (j : List ℕ) : Type 0 where
-  lengths : lengthsOk j g ≡ true
-  sound : valid j g ≡ true
-  taking : phase j ≡ 0
-  numbered : blocks j ≡ i
-  table : tableOf j ≡ tableTo input i
+-- i blocks went, and left the state s
+record Reached (input : List ℕ) (i : ℕ) (s : State) : Type 0 where
+  lengths : lengthsOk s ≡ true
+  is-valid : valid s ≡ true
+  taking : phase (s .journal) ≡ 0
+  numbered : blocks (s .journal) ≡ i
+  table : tableOf (s .journal) ≡ tableTo input i
 
-module _ (g input : List ℕ) where
-  reached-next : (i : ℕ) (s : Taking) → (s .verdict ≡ Go → Reached g input i (s .journal)) → takeNext g input i s .verdict ≡ Go
-      → Reached g input (i + 1) (takeNext g input i s .journal)
-  reached-next i s before = go (s .verdict) refl
+module _ (input : List ℕ) where
+  reached-next : (i : ℕ) (t : Taking) → (t .verdict ≡ Go → Reached input i (t .state)) → takeNext input i t .verdict ≡ Go
+      → Reached input (i + 1) (takeNext input i t .state)
+  reached-next i t before = go (t .verdict) refl
     where
-      took : Reached g input i (s .journal) → (a : TakeAnswer) → takeAnswer (s .journal) g i (blockIn input i) ≡ a → takeVerdict a ≡ Go
-          → Reached g input (i + 1) (takeJournal a (s .journal) (blockIn input i))
+      took : Reached input i (t .state) → (a : TakeAnswer) → takeAnswer (t .state) i (blockIn input i) ≡ a → takeVerdict a ≡ Go
+          → Reached input (i + 1) (afterTake a (t .state) (blockIn input i))
       took r (Taken m) e v =
-          let f = taken-facts (s .journal) g i (blockIn input i) m e in
-          let size = lengths-journal (s .journal) g (f .lengths) in
-          let ok = valid-journal (s .journal) g (f .sound) in
+          let s = t .state in
+          let f = taken-facts s i (blockIn input i) m e in
+          let size = lengths-journal s (f .lengths) in
+          let ok = valid-journal s (f .is-valid) in
           record {
-            lengths = rw e at (take-lengths (s .journal) g i (blockIn input i) (r .lengths));
-            sound = rw e at (take-valid (s .journal) g i (blockIn input i) (r .sound));
+            lengths = rw e at (take-lengths s i (blockIn input i) (r .lengths));
+            is-valid = rw e at (take-valid s i (blockIn input i) (r .is-valid));
             taking = phase-stored (s .journal) (blockIn input i) size ok (f .room) (f .good) ∙ r .taking;
             numbered = blocks-stored (s .journal) (blockIn input i) size ok (f .room) (f .good) ∙ ap (λ (m : ℕ). m + 1) (r .numbered);
             table =
                 table-stored (s .journal) (blockIn input i) size ok (f .room) (f .good)
-                ∙ ap (λ (t : DegreeTable). plus t (blockIn input i)) (r .table)
+                ∙ ap (λ (u : DegreeTable). plus u (blockIn input i)) (r .table)
                 ∙ same-table (λ k l. sym (sumTo-more (λ i. blockCell (blockIn input i) k l) i)) (sym (sumTo-more (λ i. blockIsolated (blockIn input i)) i));
           }
-      took r Held e v = absurd (omega (arith, held-facts (s .journal) g i (blockIn input i) e .low, r .numbered))
+      took r Held e v = absurd (omega (arith, held-facts (t .state) i (blockIn input i) e .low, r .numbered))
       took r (Refused q) e v = absurd (subst IsGo (sym v) tt)
 
-      go : (v : Verdict) → s .verdict ≡ v → takeNext g input i s .verdict ≡ Go → Reached g input (i + 1) (takeNext g input i s .journal)
+      go : (v : Verdict) → t .verdict ≡ v → takeNext input i t .verdict ≡ Go → Reached input (i + 1) (takeNext input i t .state)
       go Go p h =
           rw p
-          (took (before p) (takeAnswer (s .journal) g i (blockIn input i)) refl (rw p at h))
+          (took (before p) (takeAnswer (t .state) i (blockIn input i)) refl (rw p at h))
       go (Stop r) p h = let z : Stop r ≡ Go = rw p at h in absurd (subst IsGo (sym z) tt)
 
-  reached-all : (j : List ℕ) → ClearedState j g → takeAll j g input .verdict ≡ Go → Reached g input (blocksIn input) (takeAll j g input .journal)
-  reached-all j c =
-      foldTo-keeps (λ i s. s .verdict ≡ Go → Reached g input i (s .journal)) (takeNext g input) (record { journal = j; verdict = Go }) (blocksIn input)
+  reached-all : (s : State) → ClearedState s → takeAll s input .verdict ≡ Go → Reached input (blocksIn input) (takeAll s input .state)
+  reached-all s c =
+      foldTo-keeps (λ i t. t .verdict ≡ Go → Reached input i (t .state)) (takeNext input) (record { state = s; verdict = Go }) (blocksIn input)
       (λ e. record {
         lengths = c .lengths;
-        sound = c .sound;
+        is-valid = c .is-valid;
         taking = c .taking;
         numbered = c .no-blocks;
         table =
             c .no-table
             ∙ same-table (λ k l. sym (sumTo-none (λ i. blockCell (blockIn input i) k l))) (sym (sumTo-none (λ i. blockIsolated (blockIn input i))));
       })
-      (λ i s l before. reached-next i s before)
+      (λ i t l before. reached-next i t before)
 
 -- the text of a state shows its graph
-state-shown : (form : Form) (n switches : ℕ) (j g : List ℕ) → n ≡ vertexCount j → Simple (vertexCount j) (edge g)
-    → stateText form n switches j g ≡ shown form (vertexCount j) switches g
-state-shown Lines n switches j g count simple =
-    let d = length (listBytes (vertexCount j) g) / 2 in
-    let q : d ≡ edges (vertexCount j) (edge g) = omega (arith, list-length (vertexCount j) (edge g) simple) in
-    ap (λ (n : ℕ). headLine n d switches ++ edgeLines (listBytes (vertexCount j) g)) count
-    ∙ ap (λ (m : ℕ). headLine (vertexCount j) m switches ++ edgeLines (listBytes (vertexCount j) g)) q
-    ∙ ap (λ (t : List ℕ). headLine (vertexCount j) (edges (vertexCount j) (edge g)) switches ++ t) (lines-list (vertexCount j) g)
-state-shown Graph6 n switches j g count simple =
-    ap (λ (n : ℕ). writeText (listBytes (vertexCount j) g) n ++ newline) count
+state-shown : (form : Form) (n switches : ℕ) (s : State) → n ≡ vertexCount s → Simple (vertexCount s) (edge (s .adjacency))
+    → stateText form n switches s ≡ shown form (vertexCount s) switches (s .adjacency)
+state-shown Lines n switches s count simple =
+    let g = s .adjacency in
+    let d = length (listBytes (vertexCount s) g) / 2 in
+    let q : d ≡ edges (vertexCount s) (edge g) = omega (arith, list-length (vertexCount s) (edge g) simple) in
+    ap (λ (n : ℕ). headLine n d switches ++ edgeLines (listBytes (vertexCount s) g)) count
+    ∙ ap (λ (m : ℕ). headLine (vertexCount s) m switches ++ edgeLines (listBytes (vertexCount s) g)) q
+    ∙ ap (λ (t : List ℕ). headLine (vertexCount s) (edges (vertexCount s) (edge g)) switches ++ t) (lines-list (vertexCount s) g)
+state-shown Graph6 n switches s count simple =
+    let g = s .adjacency in
+    ap (λ (n : ℕ). writeText (listBytes (vertexCount s) g) n ++ newline) count
     ∙ ap (λ (t : List ℕ). t ++ newline)
-    (text-cong (vertexCount j) (edge g) (graphOf (listBytes (vertexCount j) g)) (list-graph (vertexCount j) (edge g) simple))
+    (text-cong (vertexCount s) (edge g) (graphOf (listBytes (vertexCount s) g)) (list-graph (vertexCount s) (edge g) simple))
 
 -- a completed state's text
-module _ (finish : Choice) (j g : List ℕ) (n joins switches written : ℕ) (count : n ≡ vertexCount j)
-    (e : ranAnswer (outcome finish j g) j g recordsMost ≡ Completed joins switches written) where
-  built : (form : Form) → Built form (tableOf j) (stateText form n switches j (outcome finish j g .adjacency))
+module _ (choice : Choice) (s : State) (n joins switches written : ℕ) (count : n ≡ vertexCount s)
+    (e : choiceAnswer choice s recordsMost ≡ Completed joins switches written) where
+  built : (form : Form) → Built form (tableOf (s .journal)) (stateText form n switches (withMatrix s (outcome choice s .adjacency)))
   built form =
-      let w = outcome-works finish j g (completed-facts j g (outcome finish j g) recordsMost joins switches written e .facts) in
-      let h = outcome finish j g .adjacency in
+      let w = outcome-works choice s (completed-facts s (outcome choice s) recordsMost joins switches written e .facts) in
+      let x = withMatrix s (outcome choice s .adjacency) in
       record {
-        journal = j;
-        adjacency = h;
+        state = x;
         switches = switches;
         table = refl;
         simple = w .simple;
         has-table = w .table;
         has-isolated = w .no-edge;
-        says = state-shown form n switches j h count (w .simple);
+        says = state-shown form n switches x count (w .simple);
       }
 
 -- refused, or built
 abbrev Told : Form → DegreeTable → List ℕ → Type 0
 Told form t text = ((r : Refusal) × (text ≡ refusedLine r)) ⊎ Built form t text
 
-told-completed : (form : Form) (finish : Choice) (j g : List ℕ) (n : ℕ) → n ≡ vertexCount j
-    → Told form (tableOf j) (laidText form finish (LaidOut n) j g)
-told-completed form finish j g n count = go (ranAnswer (outcome finish j g) j g recordsMost) refl
+told-completed : (form : Form) (choice : Choice) (s : State) (n : ℕ) → n ≡ vertexCount s
+    → Told form (tableOf (s .journal)) (laidText form choice (LaidOut n) s)
+told-completed form choice s n count = go (choiceAnswer choice s recordsMost) refl
   where
-    go : (a : CompleteAnswer) → ranAnswer (outcome finish j g) j g recordsMost ≡ a
-        → Told form (tableOf j) (completedText form a n j (ranAfter a (outcome finish j g) g))
-    go (Completed joins switches written) e = inr (built finish j g n joins switches written count e form)
+    go : (a : CompleteAnswer) → choiceAnswer choice s recordsMost ≡ a
+        → Told form (tableOf (s .journal)) (completedText form a n (afterRan a (outcome choice s) s))
+    go (Completed joins switches written) e = inr (built choice s n joins switches written count e form)
     go (CompleteRefused r) e = inl (r, refl)
 
-told-laid : (form : Form) (finish : Choice) (j g : List ℕ) → Told form (tableOf j) (takenText form finish Go j g)
-told-laid form finish j g = go (layOutAnswer j g) refl
+told-laid : (form : Form) (choice : Choice) (s : State) → Told form (tableOf (s .journal)) (takenText form choice Go s)
+told-laid form choice s = go (layOutAnswer s) refl
   where
-    go : (a : LayOutAnswer) → layOutAnswer j g ≡ a → Told form (tableOf j) (laidText form finish a (layOutJournal a j) g)
+    go : (a : LayOutAnswer) → layOutAnswer s ≡ a → Told form (tableOf (s .journal)) (laidText form choice a (layOutAfter s))
     go (LaidOut n) e =
-        subst (λ (t : DegreeTable). Told form t (laidText form finish (LaidOut n) (laid j) g)) (table-laid j)
-        (told-completed form finish (laid j) g n (laid-count j g n e))
+        subst (λ (t : DegreeTable). Told form t (laidText form choice (LaidOut n) (layOutAfter s))) (lay-out-same-table s (layOutAnswer s))
+        (told-completed form choice (layOutAfter s) n (laid-count s n e))
     go (LayOutRefused r) e = inl (r, refl)
 
-told : (form : Form) (finish : Choice) (j g input : List ℕ) → ClearedState j g → Told form (inputTable input) (textFrom form finish j g input)
-told form finish j g input c = go (takeAll j g input .verdict) refl
+told : (form : Form) (choice : Choice) (s : State) (input : List ℕ) → ClearedState s → Told form (inputTable input) (textFrom form choice s input)
+told form choice s input c = go (takeAll s input .verdict) refl
   where
-    go : (v : Verdict) → takeAll j g input .verdict ≡ v → Told form (inputTable input) (takenText form finish v (takeAll j g input .journal) g)
+    go : (v : Verdict) → takeAll s input .verdict ≡ v → Told form (inputTable input) (takenText form choice v (takeAll s input .state))
     go Go e =
-        subst (λ (t : DegreeTable). Told form t (takenText form finish Go (takeAll j g input .journal) g)) (reached-all g input j c e .table)
-        (told-laid form finish (takeAll j g input .journal) g)
+        subst (λ (t : DegreeTable). Told form t (takenText form choice Go (takeAll s input .state))) (reached-all input s c e .table)
+        (told-laid form choice (takeAll s input .state))
     go (Stop r) e = inl (r, refl)
 
 pub program-says : ProgramSays
-program-says form finish input = told form finish (replicate journalSize 0) (replicate adjacencySize 0) input cleared-state
+program-says form choice input = told form choice cleared input cleared-state
 
 -- completing a laid state is not refused: no layout has more edges than there is room for
-laid-completes : (finish : Choice) (j g : List ℕ) (n : ℕ) → layOutAnswer j g ≡ LaidOut n
-    → let j′ = layOutJournal (layOutAnswer j g) j in
-    (joins switches written : ℕ) × (ranAnswer (outcome finish j′ g) j′ g recordsMost ≡ Completed joins switches written)
-laid-completes finish j g n e =
-    (r .joins, r .switches, length (r .records), facts-completed j′ g r recordsMost f (omega (arith, missing-most j′ g f)))
+laid-completes : (choice : Choice) (s : State) (n : ℕ) → layOutAnswer s ≡ LaidOut n
+    → (joins switches written : ℕ) × (choiceAnswer choice (layOutAfter s) recordsMost ≡ Completed joins switches written)
+laid-completes choice s n e =
+    (r .joins, r .switches, length (r .records), facts-completed (layOutAfter s) r recordsMost f (omega (arith, missing-most (layOutAfter s) f)))
   where
-    j′ : List ℕ
-    j′ = layOutJournal (layOutAnswer j g) j
-
     r : Ran
-    r = outcome finish j′ g
+    r = outcome choice (layOutAfter s)
 
-    was : LaidOutFacts j g
-    was = lay-out-facts j g n e
+    was : LaidOutFacts s
+    was = lay-out-facts s n e
 
-    f : CompleteFacts j′ g
+    f : ValidLaid (layOutAfter s)
     f =
         record {
-          lengths = lay-out-lengths j g (layOutAnswer j g) (was .lengths);
-          sound = lay-out-valid j g (was .lengths) (was .sound);
-          phased = rw e (phase-laid j (lengths-journal j g (was .lengths)));
+          lengths = lay-out-lengths s (layOutAnswer s) (was .lengths);
+          is-valid = lay-out-valid s (was .lengths) (was .is-valid);
+          phased = rw e (phase-laid (s .journal) (lengths-journal s (was .lengths)));
         }
 
 pub completes-always : CompletesAlways
-completes-always finish input n went e = laid-completes finish (takeAll (replicate journalSize 0) (replicate adjacencySize 0) input .journal) (replicate adjacencySize 0) n e
+completes-always choice input n went e = laid-completes choice (takeAll cleared input .state) n e

@@ -6,7 +6,7 @@ use Prim.Native.Nat.{ℕ, zero, suc, _+_, _-_, _*_, _≤_, _<_, min}
 use native.Mathlib.Numerals.{add-one}
 use native.Mathlib.Decide.{decLt}
 use native.Mathlib.Omega.{arith}
-use lib.ListN.{length, take, drop, replicate, length-take}
+use lib.ListN.{length, take, drop, length-take}
 use lib.Seq.{take-all, getD-take, ext-getD}
 use Rattle.finite.proofs.Fold.{foldTo-none, foldTo-more}
 use Rattle.answer.specs.declared.Verdict.{Verdict}
@@ -14,8 +14,8 @@ use Rattle.answer.specs.declared.Verdict.the-variants.{Go, Stop}
 use Rattle.answer.specs.declared.Choice.{Choice}
 use Rattle.slices.proofs.Part.{length-part, getD-part}
 use Rattle.table.specs.Block.{blockMost}
-use Rattle.journal.specs.Journal.{mostBlocks, journalSize}
-use Rattle.adjacency.specs.Adjacency.{adjacencySize}
+use Rattle.journal.specs.Journal.{mostBlocks}
+use Rattle.state.specs.State.{State, cleared}
 use Rattle.runner.specs.Program.{blocksIn, blockIn, Taking, takeNext, takeAll, takenText, textFrom, inputMost}
 use Rattle.options.specs.declared.Form.{Form}
 use Rattle.runner.specs.Theorems.{ReadsEnough}
@@ -32,48 +32,48 @@ part-in n k m l h fits =
     let r : p < n = omega arith in
     getD-part n k (take m l) p r ∙ getD-take m l (k + p) 0 (omega arith) ∙ sym (getD-part n k l p r))
 
-module _ (j g input : List ℕ) (long : inputMost < length input) where
+module _ (s : State) (input : List ℕ) (long : inputMost < length input) where
   same-block : (i : ℕ) → i < mostBlocks + 1 → blockIn (take inputMost input) i ≡ blockIn input i
   same-block i h = part-in blockMost (blockMost * i) inputMost input (omega arith) (omega arith)
 
-  same-next : (i : ℕ) (s : Taking) → i < mostBlocks + 1 → takeNext g (take inputMost input) i s ≡ takeNext g input i s
-  same-next i s h = rw (same-block i h)
+  same-next : (i : ℕ) (t : Taking) → i < mostBlocks + 1 → takeNext (take inputMost input) i t ≡ takeNext input i t
+  same-next i t h = rw (same-block i h)
 
-  same-after : (i : ℕ) → i ≤ mostBlocks + 1 → after j g (take inputMost input) i ≡ after j g input i
+  same-after : (i : ℕ) → i ≤ mostBlocks + 1 → after s (take inputMost input) i ≡ after s input i
   same-after zero h =
-      foldTo-none (takeNext g (take inputMost input)) (record { journal = j; verdict = Go })
-      ∙ sym (foldTo-none (takeNext g input) (record { journal = j; verdict = Go }))
+      foldTo-none (takeNext (take inputMost input)) (record { state = s; verdict = Go })
+      ∙ sym (foldTo-none (takeNext input) (record { state = s; verdict = Go }))
   same-after (suc i) h =
       rw (← (add-one i))
-      (foldTo-more (takeNext g (take inputMost input)) (record { journal = j; verdict = Go }) i
-      ∙ ap (takeNext g (take inputMost input) i) (same-after i (omega arith))
-      ∙ same-next i (after j g input i) (omega arith)
-      ∙ sym (foldTo-more (takeNext g input) (record { journal = j; verdict = Go }) i))
+      (foldTo-more (takeNext (take inputMost input)) (record { state = s; verdict = Go }) i
+      ∙ ap (takeNext (take inputMost input) i) (same-after i (omega arith))
+      ∙ same-next i (after s input i) (omega arith)
+      ∙ sym (foldTo-more (takeNext input) (record { state = s; verdict = Go }) i))
 
   -- block 64 is refused, and the refusal stays
-  same-all : takeAll j g input ≡ takeAll j g (take inputMost input)
-  same-all = go (after j g input (mostBlocks + 1) .verdict) refl
+  same-all : takeAll s input ≡ takeAll s (take inputMost input)
+  same-all = go (after s input (mostBlocks + 1) .verdict) refl
     where
       size : length (take inputMost input) ≡ inputMost
       size = length-take inputMost input ∙ (omega arith)
 
-      go : (v : Verdict) → after j g input (mostBlocks + 1) .verdict ≡ v → takeAll j g input ≡ takeAll j g (take inputMost input)
-      go Go e = absurd (full j g input e)
+      go : (v : Verdict) → after s input (mostBlocks + 1) .verdict ≡ v → takeAll s input ≡ takeAll s (take inputMost input)
+      go Go e = absurd (full s input e)
       go (Stop r) e =
           let p : blocksIn input ≡ mostBlocks + 1 + (blocksIn input - (mostBlocks + 1)) = omega arith in
           let q : mostBlocks + 1 ≡ blocksIn (take inputMost input) = omega (arith, size) in
-          ap (after j g input) p
-          ∙ stays j g input (mostBlocks + 1) (blocksIn input - (mostBlocks + 1)) (after j g input (mostBlocks + 1)) r e refl
+          ap (after s input) p
+          ∙ stays s input (mostBlocks + 1) (blocksIn input - (mostBlocks + 1)) (after s input (mostBlocks + 1)) r e refl
           ∙ sym (same-after (mostBlocks + 1) (omega arith))
-          ∙ ap (after j g (take inputMost input)) q
+          ∙ ap (after s (take inputMost input)) q
 
--- from any journal and matrix
-enough : (form : Form) (finish : Choice) (j g input : List ℕ) → textFrom form finish j g input ≡ textFrom form finish j g (take inputMost input)
-enough form finish j g input = go (decLt inputMost (length input))
+-- from any state
+enough : (form : Form) (choice : Choice) (s : State) (input : List ℕ) → textFrom form choice s input ≡ textFrom form choice s (take inputMost input)
+enough form choice s input = go (decLt inputMost (length input))
   where
-    go : Dec (inputMost < length input) → textFrom form finish j g input ≡ textFrom form finish j g (take inputMost input)
-    go (yes h) = ap (λ (s : Taking). takenText form finish (s .verdict) (s .journal) g) (same-all j g input h)
-    go (no h) = ap (textFrom form finish j g) (sym (take-all inputMost input (omega arith)))
+    go : Dec (inputMost < length input) → textFrom form choice s input ≡ textFrom form choice s (take inputMost input)
+    go (yes h) = ap (λ (t : Taking). takenText form choice (t .verdict) (t .state)) (same-all s input h)
+    go (no h) = ap (textFrom form choice s) (sym (take-all inputMost input (omega arith)))
 
 pub reads-enough : ReadsEnough
-reads-enough form finish input = enough form finish (replicate journalSize 0) (replicate adjacencySize 0) input
+reads-enough form choice input = enough form choice cleared input

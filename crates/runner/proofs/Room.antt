@@ -1,7 +1,6 @@
 -- The text has room: no layout has more than 4,000 edges, so that neither its list nor its lines are longer than the arrays that hold them.
 -- Assumes nothing.
 use mathlib.Core.Path.{_≡_, refl, sym, ap, subst, _∙_}
-use mathlib.Core.Bool.{true}
 use mathlib.Core.List.{List}
 use Prim.Native.Nat.{ℕ, _+_, _*_, _/_, _≤_, _<_}
 use native.Mathlib.Omega.{arith}
@@ -19,17 +18,18 @@ use Rattle.answer.specs.declared.WrittenAnswer.{WrittenAnswer}
 use Rattle.answer.specs.declared.WrittenAnswer.the-variants.{Written, Refused as WriteRefused}
 use Rattle.answer.specs.declared.Choice.{Choice}
 use Rattle.slices.proofs.Part.{take-sets}
-use Rattle.journal.specs.Journal.{phase, jdmOf}
-use Rattle.state.specs.Valid.{lengthsOk, valid}
+use Rattle.journal.specs.Journal.{jdmOf}
+use Rattle.state.specs.State.{State, withMatrix}
+use Rattle.state.specs.Valid.{ValidLaid}
 use Rattle.state.specs.Laid.{vertexCount, classAt}
 use Rattle.state.proofs.Facts.{edgeTotal, StateFacts, Laid, valid-facts}
-use Rattle.state.proofs.Checks.{phase-go}
+use Rattle.state.proofs.Checks.{laid-goes}
 use Rattle.graph.specs.Tests.{vertices}
 use Rattle.journal.proofs.Laid.{table-laid}
 use Rattle.adjacency.specs.Adjacency.{edge}
-use Rattle.lay_out.specs.LayOut.{layOutAnswer, layOutJournal}
+use Rattle.lay_out.specs.LayOut.{layOutAnswer, afterLayOut, layOutAfter}
 use Rattle.lay_out.proofs.LayOut.{lay-out-vertices}
-use Rattle.edge_list.specs.List.{listBytes, listAnswer, listOutput}
+use Rattle.edge_list.specs.List.{listBytes, listAnswer, outputListed, listOutput}
 use Rattle.edge_lists.specs.EdgeList.{listVerdict, graphOf}
 use Rattle.edge_lists.proofs.List.{verdict-passed, list-simple}
 use Rattle.edge_lists.proofs.Listing.{list-length}
@@ -37,11 +37,11 @@ use Rattle.edge_lists.proofs.Listed.{list-rising, list-passed}
 use Rattle.graph6.specs.Format.{bodyMost}
 use Rattle.graph6.proofs.Text.{text-most}
 use Rattle.graph6_write.specs.Write.{writeText}
-use Rattle.complete.specs.Complete.{mostEdges, ranAnswer, ranAfter}
+use Rattle.complete.specs.Complete.{mostEdges, afterRan}
 use Rattle.complete.proofs.Cellwise.{room}
 use Rattle.complete.proofs.Works.{few-edges}
 use Rattle.complete.proofs.Entry.{completed-facts}
-use Rattle.complete_shuffled.specs.Outcome.{outcome}
+use Rattle.complete_shuffled.specs.Outcome.{outcome, choiceAnswer}
 use Rattle.complete_shuffled.proofs.Works.{outcome-works}
 use Rattle.text.specs.Text.{newline, edgeLines, headLine, headMost, edgeMost}
 use Rattle.text.proofs.Decimal.{refused-length, head-length, edges-length}
@@ -63,100 +63,100 @@ text-fits-room e n go =
     let p = verdict-passed e n go in
     text-most n (graphOf e) (p .few) (list-simple e n (p .well))
 
-module _ (j g : List ℕ) (lengths : lengthsOk j g ≡ true) (sound : valid j g ≡ true) (phased : phase j ≡ 1) where
-  facts : StateFacts j g
-  facts = valid-facts j g lengths sound
+module _ (s : State) (checked : ValidLaid s) where
+  facts : StateFacts s
+  facts = valid-facts s (checked .lengths) (checked .is-valid)
 
-  laid : Laid j g
-  laid = facts .laid phased
+  laid : Laid s
+  laid = facts .laid (checked .phased)
 
-  edges-most : edgeTotal j g ≤ mostEdges
+  edges-most : edgeTotal s ≤ mostEdges
   edges-most =
-      room (vertexCount j) (classAt j) (jdmOf j) mostEdges (few-edges (vertexCount j) (classAt j) (jdmOf j) (laid .target) (laid .vertices-le)) g
+      room (vertexCount s) (classAt s) (jdmOf (s .journal)) mostEdges (few-edges (vertexCount s) (classAt s) (jdmOf (s .journal)) (laid .target) (laid .vertices-le)) (s .adjacency)
       (record { sized = facts .adjacency-length; few = laid .vertices-le; target = laid .target; partial = laid .partial })
 
-  list-twice : length (listBytes (vertexCount j) g) ≡ 2 * edgeTotal j g
-  list-twice = list-length (vertexCount j) (edge g) (laid .partial .simple)
+  list-twice : length (listBytes (vertexCount s) (s .adjacency)) ≡ 2 * edgeTotal s
+  list-twice = list-length (vertexCount s) (edge (s .adjacency)) (laid .partial .simple)
 
-  pub list-most : length (listBytes (vertexCount j) g) ≤ 2 * mostEdges
+  pub list-most : length (listBytes (vertexCount s) (s .adjacency)) ≤ 2 * mostEdges
   list-most = omega (arith, list-twice, edges-most)
 
   -- the list is written where there is room for 4,000 edges
-  pub list-written : listAnswer j g (2 * mostEdges) ≡ Written (length (listBytes (vertexCount j) g))
-  list-written = rw (phase-go 1 j g lengths sound phased, le-leb (length (listBytes (vertexCount j) g)) (2 * mostEdges) list-most)
+  pub list-written : listAnswer s (2 * mostEdges) ≡ Written (length (listBytes (vertexCount s) (s .adjacency)))
+  list-written = rw (laid-goes s checked, le-leb (length (listBytes (vertexCount s) (s .adjacency))) (2 * mostEdges) list-most)
 
   -- what listing into so long an output answers and leaves
   module _ (empty : List ℕ) (wide : length empty ≡ 2 * mostEdges) (r : WrittenAnswer) (out : List ℕ)
-      (e : (r ≡ listAnswer j g (length empty)) × (out ≡ listOutput (listAnswer j g (length empty)) j g empty)) where
-    answer-written : listAnswer j g (length empty) ≡ Written (length (listBytes (vertexCount j) g))
-    answer-written = ap (λ (k : ℕ). listAnswer j g k) wide ∙ list-written
+      (e : (r ≡ listAnswer s (length empty)) × (out ≡ listOutput s empty)) where
+    answer-written : listAnswer s (length empty) ≡ Written (length (listBytes (vertexCount s) (s .adjacency)))
+    answer-written = ap (λ (k : ℕ). listAnswer s k) wide ∙ list-written
 
     pub never-refused : (q : Refusal) → r ≡ WriteRefused q → ⊥
     never-refused q h = subst IsWritten (sym answer-written ∙ sym (e .0) ∙ h) tt
 
     pub listed : (len : ℕ) → r ≡ Written len
-        → (len ≡ length (listBytes (vertexCount j) g)) × (take len out ≡ listBytes (vertexCount j) g) × (len ≤ length out)
+        → (len ≡ length (listBytes (vertexCount s) (s .adjacency))) × (take len out ≡ listBytes (vertexCount s) (s .adjacency)) × (len ≤ length out)
     listed len h =
-        (same, rw (same, written) (take-sets empty (listBytes (vertexCount j) g) fits), rw (written, length-sets) (omega (arith, same, fits)))
+        (same, rw (same, written) (take-sets empty (listBytes (vertexCount s) (s .adjacency)) fits), rw (written, length-sets) (omega (arith, same, fits)))
       where
-        same : len ≡ length (listBytes (vertexCount j) g)
+        same : len ≡ length (listBytes (vertexCount s) (s .adjacency))
         same = ap count (sym h ∙ e .0 ∙ answer-written)
 
-        written : out ≡ sets empty 0 (listBytes (vertexCount j) g)
-        written = e .1 ∙ ap (λ (a : WrittenAnswer). listOutput a j g empty) answer-written
+        written : out ≡ sets empty 0 (listBytes (vertexCount s) (s .adjacency))
+        written = e .1 ∙ ap (λ (a : WrittenAnswer). outputListed a s empty) answer-written
 
-        fits : length (listBytes (vertexCount j) g) ≤ length empty
+        fits : length (listBytes (vertexCount s) (s .adjacency)) ≤ length empty
         fits = omega (arith, wide, list-most)
 
-  lines-most : length (edgeLines (listBytes (vertexCount j) g)) ≤ edgeMost * mostEdges
+  lines-most : length (edgeLines (listBytes (vertexCount s) (s .adjacency))) ≤ edgeMost * mostEdges
   lines-most =
-      omega (arith, list-twice, edges-most, edges-length (listBytes (vertexCount j) g) small)
+      omega (arith, list-twice, edges-most, edges-length (listBytes (vertexCount s) (s .adjacency)) small)
     where
-      small : (i : ℕ) → i < length (listBytes (vertexCount j) g) / 2
-          → (getD (listBytes (vertexCount j) g) (2 * i) 0 < 1000) × (getD (listBytes (vertexCount j) g) (2 * i + 1) 0 < 1000)
+      small : (i : ℕ) → i < length (listBytes (vertexCount s) (s .adjacency)) / 2
+          → (getD (listBytes (vertexCount s) (s .adjacency)) (2 * i) 0 < 1000) × (getD (listBytes (vertexCount s) (s .adjacency)) (2 * i + 1) 0 < 1000)
       small i l =
-          let r = list-rising (vertexCount j) (edge g) (laid .vertices-le) in
+          let r = list-rising (vertexCount s) (edge (s .adjacency)) (laid .vertices-le) in
           (omega (arith, r .ordered i l, r .vertex i l, laid .vertices-le), omega (arith, r .vertex i l, laid .vertices-le))
 
-  pub lines-fit : headMost + length (edgeLines (listBytes (vertexCount j) g)) ≤ textMost
+  pub lines-fit : headMost + length (edgeLines (listBytes (vertexCount s) (s .adjacency))) ≤ textMost
   lines-fit = omega (arith, lines-most)
 
   -- the list passes the checks 19
-  pub passes : listVerdict (listBytes (vertexCount j) g) (vertexCount j) ≡ Go
-  passes = list-passed (vertexCount j) (edge g) (laid .vertices-le)
+  pub passes : listVerdict (listBytes (vertexCount s) (s .adjacency)) (vertexCount s) ≡ Go
+  passes = list-passed (vertexCount s) (edge (s .adjacency)) (laid .vertices-le)
 
-  state-fits : (form : Form) (n switches : ℕ) → n ≡ vertexCount j → length (stateText form n switches j g) ≤ textMost
+  state-fits : (form : Form) (n switches : ℕ) → n ≡ vertexCount s → length (stateText form n switches s) ≤ textMost
   state-fits Lines n switches count =
-      let e = listBytes (vertexCount j) g in
+      let e = listBytes (vertexCount s) (s .adjacency) in
       omega (arith, lines-fit, length-append (headLine n (length e / 2) switches) (edgeLines e), head-length n (length e / 2) switches)
   state-fits Graph6 n switches count =
-      let e = listBytes (vertexCount j) g in
-      rw count (omega (arith, length-append (writeText e (vertexCount j)) newline, text-fits-room e (vertexCount j) passes))
+      let e = listBytes (vertexCount s) (s .adjacency) in
+      rw count (omega (arith, length-append (writeText e (vertexCount s)) newline, text-fits-room e (vertexCount s) passes))
 
 refused-fits : (r : Refusal) → length (Rattle.text.specs.Text.refusedLine r) ≤ textMost
 refused-fits r = omega (arith, refused-length r)
 
-completed-fits : (form : Form) (finish : Choice) (j g : List ℕ) (n : ℕ) → n ≡ vertexCount j
-    → length (laidText form finish (LaidOut n) j g) ≤ textMost
-completed-fits form finish j g n count = go (ranAnswer (outcome finish j g) j g recordsMost) refl
+completed-fits : (form : Form) (choice : Choice) (s : State) (n : ℕ) → n ≡ vertexCount s → length (laidText form choice (LaidOut n) s) ≤ textMost
+completed-fits form choice s n count = go (choiceAnswer choice s recordsMost) refl
   where
-    go : (a : CompleteAnswer) → ranAnswer (outcome finish j g) j g recordsMost ≡ a
-        → length (completedText form a n j (ranAfter a (outcome finish j g) g)) ≤ textMost
+    go : (a : CompleteAnswer) → choiceAnswer choice s recordsMost ≡ a → length (completedText form a n (afterRan a (outcome choice s) s)) ≤ textMost
     go (Completed joins switches written) e =
-        let f = completed-facts j g (outcome finish j g) recordsMost joins switches written e .facts in
-        let w = outcome-works finish j g f in
-        state-fits j (outcome finish j g .adjacency) (w .lengths) (w .sound) (f .phased) form n switches count
+        let f = completed-facts s (outcome choice s) recordsMost joins switches written e .facts in
+        let w = outcome-works choice s f in
+        state-fits (withMatrix s (outcome choice s .adjacency)) (record { lengths = w .lengths; is-valid = w .is-valid; phased = f .phased }) form n switches
+        count
     go (CompleteRefused r) e = refused-fits r
 
 -- what laying out answers is the N of the state
-pub laid-count : (j g : List ℕ) (n : ℕ) → layOutAnswer j g ≡ LaidOut n → n ≡ vertexCount (layOutJournal (LaidOut n) j)
-laid-count j g n e = lay-out-vertices j g n e ∙ ap vertices (sym (table-laid j))
+pub laid-count : (s : State) (n : ℕ) → layOutAnswer s ≡ LaidOut n → n ≡ vertexCount (layOutAfter s)
+laid-count s n e =
+    lay-out-vertices s n e ∙ ap vertices (sym (table-laid (s .journal))) ∙ ap (λ (a : LayOutAnswer). vertexCount (afterLayOut a s)) (sym e)
 
 -- every text fits
-pub text-fits : (form : Form) (finish : Choice) (v : Verdict) (j g : List ℕ) → length (takenText form finish v j g) ≤ textMost
-text-fits form finish (Stop r) j g = refused-fits r
-text-fits form finish Go j g = go (layOutAnswer j g) refl
+pub text-fits : (form : Form) (choice : Choice) (v : Verdict) (s : State) → length (takenText form choice v s) ≤ textMost
+text-fits form choice (Stop r) s = refused-fits r
+text-fits form choice Go s = go (layOutAnswer s) refl
   where
-    go : (a : LayOutAnswer) → layOutAnswer j g ≡ a → length (laidText form finish a (layOutJournal a j) g) ≤ textMost
-    go (LaidOut n) e = completed-fits form finish (layOutJournal (LaidOut n) j) g n (laid-count j g n e)
+    go : (a : LayOutAnswer) → layOutAnswer s ≡ a → length (laidText form choice a (layOutAfter s)) ≤ textMost
+    go (LaidOut n) e = completed-fits form choice (layOutAfter s) n (laid-count s n e)
     go (LayOutRefused r) e = refused-fits r

@@ -1,6 +1,6 @@
 -- Taking block after block: a refusal stays, and the 65th block is always refused.
 -- Assumes nothing.
-use mathlib.Core.Path.{_≡_, refl, sym, ap, subst, _∙_}
+use mathlib.Core.Path.{_≡_, refl, sym, ap, ap₂, subst, _∙_}
 use mathlib.Core.List.{List}
 use Prim.Native.Nat.{ℕ, zero, suc, _+_, _-_, _*_, _≤_, _<_, min}
 use native.Mathlib.Nat.{add-zero}
@@ -9,7 +9,7 @@ use native.Mathlib.Omega.{arith}
 use lib.ListN.{length, take, drop, length-drop}
 use lib.Seq.{take-all}
 use Rattle.finite.specs.Range.{foldTo}
-use Rattle.finite.proofs.Fold.{foldTo-more}
+use Rattle.finite.proofs.Fold.{foldTo-more, foldTo-keeps}
 use Rattle.answer.specs.declared.Refusal.{Refusal}
 use Rattle.answer.specs.declared.Verdict.{Verdict}
 use Rattle.answer.specs.declared.Verdict.the-variants.{Go, Stop}
@@ -18,8 +18,9 @@ use Rattle.answer.specs.declared.TakeAnswer.the-variants.{Taken, Held, Refused}
 use Rattle.table.specs.Block.{blockMost}
 use Rattle.journal.specs.Journal.{mostBlocks}
 use Rattle.journal.proofs.Facts.{journal-facts}
+use Rattle.state.specs.State.{State, withJournal}
 use Rattle.state.proofs.Facts.{valid-journal}
-use Rattle.take_block.specs.Take.{takeAnswer, takeJournal}
+use Rattle.take_block.specs.Take.{takeAnswer, afterTake, takeAfter}
 use Rattle.take_block.proofs.Take.{taken-facts, held-facts}
 use Rattle.runner.specs.Program.{blocksIn, blockIn, Taking, takeVerdict, takeNext, takeAll}
 
@@ -35,80 +36,106 @@ rest-block input i h =
     take-all (length input - blockMost * i) (drop (blockMost * i) input) (omega (arith, e))
     ∙ sym (take-all blockMost (drop (blockMost * i) input) (omega (arith, e)))
 
--- block 64 and any after it is refused, whatever the journal holds
-pub late-refused : (j g : List ℕ) (i : ℕ) (b : List ℕ) → mostBlocks ≤ i → takeVerdict (takeAnswer j g i b) ≡ Go → ⊥
-late-refused j g i b h e = go (takeAnswer j g i b) refl e
+-- taking leaves the matrix
+take-matrix : (s : State) (i : ℕ) (b : List ℕ) → takeAfter s i b ≡ withJournal s (takeAfter s i b .journal)
+take-matrix s i b = go (takeAnswer s i b)
   where
-    go : (a : TakeAnswer) → takeAnswer j g i b ≡ a → takeVerdict a ≡ Go → ⊥
-    go (Taken m) p q = let f = taken-facts j g i b m p in omega (arith, f .next, f .room)
-    go Held p q = let f = held-facts j g i b p in omega (arith, f .low, journal-facts j (valid-journal j g (f .sound)) .blocks-le)
+    go : (a : TakeAnswer) → afterTake a s b ≡ withJournal s (afterTake a s b .journal)
+    go (Taken m) = refl
+    go Held = refl
+    go (Refused r) = refl
+
+-- block 64 and any after it is refused, whatever the state holds
+pub late-refused : (s : State) (i : ℕ) (b : List ℕ) → mostBlocks ≤ i → takeVerdict (takeAnswer s i b) ≡ Go → ⊥
+late-refused s i b h e = go (takeAnswer s i b) refl e
+  where
+    go : (a : TakeAnswer) → takeAnswer s i b ≡ a → takeVerdict a ≡ Go → ⊥
+    go (Taken m) p q = let f = taken-facts s i b m p in omega (arith, f .next, f .room)
+    go Held p q = let f = held-facts s i b p in omega (arith, f .low, journal-facts (s .journal) (valid-journal s (f .is-valid)) .blocks-le)
     go (Refused r) p q = subst IsGo (sym q) tt
 
-module _ (j₀ g input : List ℕ) where
-  -- the journal and the verdict after i blocks
-  abbrev pub after : ℕ → Taking
-  after i = foldTo i (takeNext g input) (record { journal = j₀; verdict = Go })
+module _ (s₀ : State) (input : List ℕ) where
+  abbrev start : Taking
+  start = record { state = s₀; verdict = Go }
 
-  -- all of i blocks went into the journal j
-  abbrev pub Went : ℕ → List ℕ → Type 0
-  Went i j = after i ≡ record { journal = j; verdict = Go }
+  -- the state and the verdict after i blocks
+  abbrev pub after : ℕ → Taking
+  after i = foldTo i (takeNext input) start
+
+  -- all of i blocks went, and left the state s
+  abbrev pub Went : ℕ → State → Type 0
+  Went i s = after i ≡ record { state = s; verdict = Go }
 
   -- a refusal stays
-  pub stays : (i k : ℕ) (s : Taking) (r : Refusal) → s .verdict ≡ Stop r → after i ≡ s → after (i + k) ≡ s
-  stays i zero s r v e = rw add-zero e
-  stays i (suc k) s r v e =
+  pub stays : (i k : ℕ) (t : Taking) (r : Refusal) → t .verdict ≡ Stop r → after i ≡ t → after (i + k) ≡ t
+  stays i zero t r v e = rw add-zero e
+  stays i (suc k) t r v e =
       let q : i + suc k ≡ i + k + 1 = omega arith in
       rw q
-      (foldTo-more (takeNext g input) (record { journal = j₀; verdict = Go }) (i + k)
-      ∙ ap (takeNext g input (i + k)) (stays i k s r v e)
+      (foldTo-more (takeNext input) start (i + k)
+      ∙ ap (takeNext input (i + k)) (stays i k t r v e)
       ∙ rw v)
 
   -- what taking block i answered and left
-  module _ (i : ℕ) (j : List ℕ) (w : Went i j) (b : List ℕ) (same : b ≡ blockIn input i) (v : Verdict) (j′ : List ℕ)
-      (e : (v ≡ takeVerdict (takeAnswer j g i b)) × (j′ ≡ takeJournal (takeAnswer j g i b) j b)) where
+  module _ (i : ℕ) (s : State) (w : Went i s) (b : List ℕ) (same : b ≡ blockIn input i) (v : Verdict) (j : List ℕ)
+      (e : (v ≡ takeVerdict (takeAnswer s i b)) × (j ≡ takeAfter s i b .journal)) where
     made : List ℕ → Taking
-    made b = record { journal = takeJournal (takeAnswer j g i b) j b; verdict = takeVerdict (takeAnswer j g i b) }
+    made b = record { state = takeAfter s i b; verdict = takeVerdict (takeAnswer s i b) }
 
-    next : after (i + 1) ≡ record { journal = j′; verdict = v }
+    next : after (i + 1) ≡ record { state = withJournal s j; verdict = v }
     unfolding made
     next =
-        foldTo-more (takeNext g input) (record { journal = j₀; verdict = Go }) i
-        ∙ ap (takeNext g input i) w
+        foldTo-more (takeNext input) start i
+        ∙ ap (takeNext input i) w
         ∙ ap made (sym same)
-        ∙ rw (e .0, e .1)
+        ∙ ap₂ (λ (x : State) (y : Verdict). record { state = x; verdict = y }) (take-matrix s i b ∙ ap (withJournal s) (sym (e .1))) (sym (e .0))
 
     -- one more went
-    pub went-next : v ≡ Go → Went (i + 1) j′
-    went-next h = next ∙ ap (λ (v : Verdict). record { journal = j′; verdict = v }) h
+    pub went-next : v ≡ Go → Went (i + 1) (withJournal s j)
+    went-next h = next ∙ ap (λ (v : Verdict). record { state = withJournal s j; verdict = v }) h
 
     -- the first refusal is the answer
     pub first-refusal : i < blocksIn input → (r : Refusal) → v ≡ Stop r
-        → (Stop r ≡ takeAll j₀ g input .verdict) × (j′ ≡ takeAll j₀ g input .journal)
+        → (Stop r ≡ takeAll s₀ input .verdict) × (j ≡ takeAll s₀ input .state .journal)
     first-refusal l r h =
         let q : blocksIn input ≡ i + 1 + (blocksIn input - (i + 1)) = omega arith in
-        let x : takeAll j₀ g input ≡ record { journal = j′; verdict = v } =
-        ap after q ∙ stays (i + 1) (blocksIn input - (i + 1)) (record { journal = j′; verdict = v }) r h next in
-        (sym (ap (λ (s : Taking). s .verdict) x ∙ h), sym (ap (λ (s : Taking). s .journal) x))
+        let x : takeAll s₀ input ≡ record { state = withJournal s j; verdict = v } =
+        ap after q ∙ stays (i + 1) (blocksIn input - (i + 1)) (record { state = withJournal s j; verdict = v }) r h next in
+        (sym (ap (λ (t : Taking). t .verdict) x ∙ h), sym (ap (λ (t : Taking). t .state .journal) x))
 
   -- no 65 blocks go
   pub full : after (mostBlocks + 1) .verdict ≡ Go → ⊥
   full e = go (after mostBlocks .verdict) refl
     where
-      last : takeNext g input mostBlocks (after mostBlocks) .verdict ≡ Go
-      last = ap (λ (s : Taking). s .verdict) (sym (foldTo-more (takeNext g input) (record { journal = j₀; verdict = Go }) mostBlocks)) ∙ e
+      last : takeNext input mostBlocks (after mostBlocks) .verdict ≡ Go
+      last = ap (λ (t : Taking). t .verdict) (sym (foldTo-more (takeNext input) start mostBlocks)) ∙ e
 
       go : (v : Verdict) → after mostBlocks .verdict ≡ v → ⊥
-      go Go p = late-refused (after mostBlocks .journal) g mostBlocks (blockIn input mostBlocks) (omega arith) (rw p at last)
+      go Go p = late-refused (after mostBlocks .state) mostBlocks (blockIn input mostBlocks) (omega arith) (rw p at last)
       go (Stop r) p = let z : Stop r ≡ Go = rw p at last in subst IsGo (sym z) tt
 
   -- where all went that there are, or 65 of them, all went
-  pub all-went : (i : ℕ) (j : List ℕ) → i ≡ min (blocksIn input) (mostBlocks + 1) → Went i j
-      → (Go ≡ takeAll j₀ g input .verdict) × (j ≡ takeAll j₀ g input .journal)
-  all-went i j e w = go (decLt (blocksIn input) (mostBlocks + 1))
+  pub all-went : (i : ℕ) (s : State) → i ≡ min (blocksIn input) (mostBlocks + 1) → Went i s
+      → (Go ≡ takeAll s₀ input .verdict) × (s .journal ≡ takeAll s₀ input .state .journal)
+  all-went i s e w = go (decLt (blocksIn input) (mostBlocks + 1))
     where
-      go : Dec (blocksIn input < mostBlocks + 1) → (Go ≡ takeAll j₀ g input .verdict) × (j ≡ takeAll j₀ g input .journal)
+      go : Dec (blocksIn input < mostBlocks + 1) → (Go ≡ takeAll s₀ input .verdict) × (s .journal ≡ takeAll s₀ input .state .journal)
       go (yes h) =
           let q : blocksIn input ≡ i = omega arith in
           let x = ap after q ∙ w in
-          (sym (ap (λ (s : Taking). s .verdict) x), sym (ap (λ (s : Taking). s .journal) x))
-      go (no h) = let q : mostBlocks + 1 ≡ i = omega arith in absurd (full (ap (λ (k : ℕ). after k .verdict) q ∙ ap (λ (s : Taking). s .verdict) w))
+          (sym (ap (λ (t : Taking). t .verdict) x), sym (ap (λ (t : Taking). t .state .journal) x))
+      go (no h) = let q : mostBlocks + 1 ≡ i = omega arith in absurd (full (ap (λ (k : ℕ). after k .verdict) q ∙ ap (λ (t : Taking). t .verdict) w))
+
+  -- the matrix is that of the start
+  pub taken-matrix : takeAll s₀ input .state ≡ withJournal s₀ (takeAll s₀ input .state .journal)
+  taken-matrix =
+      foldTo-keeps (λ i t. t .state ≡ withJournal s₀ (t .state .journal)) (takeNext input) start (blocksIn input) refl
+      (λ i t l e. kept i t e (t .verdict) refl)
+    where
+      kept : (i : ℕ) (t : Taking) → t .state ≡ withJournal s₀ (t .state .journal) → (v : Verdict) → t .verdict ≡ v
+          → takeNext input i t .state ≡ withJournal s₀ (takeNext input i t .state .journal)
+      kept i t e Go p =
+          rw p
+          (take-matrix (t .state) i (blockIn input i)
+          ∙ ap (λ (x : State). withJournal x (takeAfter (t .state) i (blockIn input i) .journal)) e)
+      kept i t e (Stop r) p = rw p e

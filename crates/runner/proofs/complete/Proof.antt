@@ -4,6 +4,7 @@ use Prim.Native.Nat.{ℕ}
 use native.Mathlib.Omega.{arith}
 use borrow.Author.Needs.{needs}
 use lib.ListN.{length-replicate}
+use Rattle.state.specs.State.{stateOf}
 use Rattle.runner.specs.Program.{recordsMost}
 use Rattle.runner.proofs.Said.{says, says-line, said-refused, said-completed, completed-laid}
 use Rattle.runner.proofs.complete.Statement.{statement}
@@ -12,8 +13,8 @@ use Rattle.runner.proofs.complete.Tie as tie
 pub complete-spec : {M : Type 1} → statement M
 complete-spec =
     tie.close (tie.spec
-    (λ c. search needs)  -- slice-aggregate-finish-by
-    (λ c κs. tt)  -- finish-by-requires
+    (λ c. search needs)  -- slice-aggregate-complete-by
+    (λ c κs. tt)  -- complete-by-requires
     (λ c. search needs)  -- enum-known-answer
     (λ c κs. omega arith)  -- put-refused-requires
     (λ c. search needs)  -- enum-known-answer-2
@@ -22,10 +23,10 @@ complete-spec =
     let l = k .before .before .before .before .before in
     let s = l .before .before .before .before .before .before in
     let a = s .args in
-    let e = l .finish-by .ensures in
-    let f = completed-laid (a .form) (a .finish) (a .journal .now) (a .adjacency .now) (a .n) _ (length-replicate {A = ℕ} recordsMost 0) _ _ (e .0) (e .1)
+    let e = l .complete-by .ensures in
+    let f = completed-laid (a .form) (a .choice) (stateOf (a .journal .now) (a .adjacency .now)) (a .n) _ (length-replicate {A = ℕ} recordsMost 0) _ _ (e .0) (e .1)
     _ _ _ (k .answer2 .given .1) in
-    (f .0, f .1, f .2, s .pre .0, s .pre .1))  -- put-state-requires
+    (f, s .pre .0, s .pre .1))  -- put-state-requires
     (λ c. search needs)  -- same-length
     (λ c. search needs)  -- same-length-2
     (λ c.
@@ -33,9 +34,9 @@ complete-spec =
     let k = p .before .before .before in
     let l = k .before .before .before .before .before in
     let a = l .before .before .before .before .before .before .args in
-    let e = l .finish-by .ensures in
+    let e = l .complete-by .ensures in
     says-line _ _ (a .output .now) _ _
-    (said-refused (a .form) (a .finish) (a .journal .now) (a .adjacency .now) (a .n) _ (length-replicate {A = ℕ} recordsMost 0) _ _ (e .0) (e .1) _ (k .answer .given .1))
+    (said-refused (a .form) (a .choice) (stateOf (a .journal .now) (a .adjacency .now)) (a .n) _ (length-replicate {A = ℕ} recordsMost 0) _ _ (e .0) (e .1) _ (k .answer .given .1))
     (p .put-refused .ensures))  -- returns
     (λ c. search needs)  -- same-length-3
     (λ c. search needs)  -- same-length-4
@@ -44,8 +45,8 @@ complete-spec =
     let k = p .before .before .before .before in
     let l = k .before .before .before .before .before in
     let a = l .before .before .before .before .before .before .args in
-    let e = l .finish-by .ensures in
+    let e = l .complete-by .ensures in
     says _ _ (a .output .now) _ _
-    (said-completed (a .form) (a .finish) (a .journal .now) (a .adjacency .now) (a .n) _ (length-replicate {A = ℕ} recordsMost 0) _ _ (e .0) (e .1)
+    (said-completed (a .form) (a .choice) (stateOf (a .journal .now) (a .adjacency .now)) (a .n) _ (length-replicate {A = ℕ} recordsMost 0) _ _ (e .0) (e .1)
     _ _ _ (k .answer2 .given .1))
     (p .put-state .ensures)))  -- returns-2

@@ -1,19 +1,19 @@
--- `runner::finish_by` meets its contract.
+-- `runner::complete_by` meets its contract.
 -- Assumes nothing.
 use borrow.Author.Needs.{needs}
 use lib.ListN.{length}
-use Rattle.complete.specs.Complete.{completed, ranAnswer}
+use Rattle.state.specs.State.{stateOf}
+use Rattle.complete.specs.Complete.{ranAnswer}
 use Rattle.complete_shuffled.specs.Shuffle.{shuffled}
-use Rattle.runner.proofs.Said.{ended}
-use Rattle.runner.proofs.finish_by.Statement.{statement}
-use Rattle.runner.proofs.finish_by.Tie as tie
+use Rattle.runner.proofs.complete_by.Statement.{statement}
+use Rattle.runner.proofs.complete_by.Tie as tie
 
-pub finish-by-spec : {M : Type 1} → statement M
-finish-by-spec =
+pub complete-by-spec : {M : Type 1} → statement M
+complete-by-spec =
     tie.close (tie.spec
     (λ c. search needs)  -- enum-told
     (λ c κs. tt)  -- complete-requires
-    (λ c. search needs)  -- enum-known-finish
+    (λ c. search needs)  -- enum-known-choice
     (λ c κs. tt)  -- complete-shuffled-requires
     (λ c κs. tt)  -- without-x-requires
     (λ c. search needs)  -- same-length
@@ -21,20 +21,15 @@ finish-by-spec =
     (λ c.
     let p = c .before .before .before .before in
     let k = p .before .before .before in
-    let a = k .before .before .before .before .before .args in
-    let j = a .journal .now in
-    let g = a .adjacency .now in
-    rw (k .enum-told .given .1) (ended (completed j g) j g (length (a .records .now)) _ _ (p .complete .ensures .0) (p .complete .ensures .1 .0)))  -- returns
+    rw (k .enum-told .given .1) (p .complete .ensures .0, p .complete .ensures .1 .0))  -- returns
     (λ c. search needs)  -- same-length-3
     (λ c. search needs)  -- same-length-4
     (λ c.
     let s = c .before .before .before .before .before in
     let k = s .before .before .before .before in
     let a = k .before .before .before .before .before .args in
-    let j = a .journal .now in
-    let g = a .adjacency .now in
+    let st = stateOf (a .journal .now) (a .adjacency .now) in
     let m = length (a .records .now) in
-    let r = shuffled j g (k .finish .given .0 .0) in
-    rw (k .finish .given .1)
-    (ended (r .ran) j g m _ _ (c .without-x .ensures (r .x) (ranAnswer (r .ran) j g m) (s .complete-shuffled .ensures .0))
-    (s .complete-shuffled .ensures .1 .0))))  -- returns-2
+    let r = shuffled st (k .choice .given .0 .0) in
+    rw (k .choice .given .1)
+    (c .without-x .ensures (r .x) (ranAnswer (r .ran) st m) (s .complete-shuffled .ensures .0), s .complete-shuffled .ensures .1 .0)))  -- returns-2

@@ -2,6 +2,7 @@
 -- Assumes nothing.
 use native.Mathlib.Omega.{arith}
 use borrow.Author.Needs.{needs}
+use Rattle.state.specs.State.{stateOf}
 use Rattle.runner.proofs.Said.{says, says-line, said-not-laid, said-laid, laid-n}
 use Rattle.runner.proofs.lay_out.Statement.{statement}
 use Rattle.runner.proofs.lay_out.Tie as tie
@@ -18,7 +19,7 @@ lay-out-spec =
     let l = k .before .before .before .before in
     let s = l .before .before .before .before .before .before in
     let a = s .args in
-    (laid-n (a .form) (a .finish) (a .journal .now) (a .adjacency .now) _ _ (l .lay-out .ensures) _ (k .answer2 .given .1), s .pre))  -- complete-requires
+    (laid-n (a .form) (a .choice) (stateOf (a .journal .now) (a .adjacency .now)) _ _ (l .lay-out .ensures) _ (k .answer2 .given .1), s .pre))  -- complete-requires
     (λ c. search needs)  -- same-length
     (λ c. search needs)  -- same-length-2
     (λ c. search needs)  -- same-length-3
@@ -27,7 +28,7 @@ lay-out-spec =
     let k = p .before .before .before in
     let l = k .before .before .before .before in
     let a = l .before .before .before .before .before .before .args in
-    says-line _ _ (a .output .now) _ _ (said-not-laid (a .form) (a .finish) (a .journal .now) (a .adjacency .now) _ _ (l .lay-out .ensures) _ (k .answer .given .1))
+    says-line _ _ (a .output .now) _ _ (said-not-laid (a .form) (a .choice) (stateOf (a .journal .now) (a .adjacency .now)) _ _ (l .lay-out .ensures) _ (k .answer .given .1))
     (p .put-refused .ensures))  -- returns
     (λ c. search needs)  -- same-length-4
     (λ c. search needs)  -- same-length-5
@@ -37,5 +38,5 @@ lay-out-spec =
     let k = p .before .before .before .before .before in
     let l = k .before .before .before .before in
     let a = l .before .before .before .before .before .before .args in
-    says _ _ (a .output .now) _ _ (said-laid (a .form) (a .finish) (a .journal .now) (a .adjacency .now) _ _ (l .lay-out .ensures) _ (k .answer2 .given .1))
+    says _ _ (a .output .now) _ _ (said-laid (a .form) (a .choice) (stateOf (a .journal .now) (a .adjacency .now)) _ _ (l .lay-out .ensures) _ (k .answer2 .given .1))
     (p .complete .ensures)))  -- returns-2

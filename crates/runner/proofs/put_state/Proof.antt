@@ -4,6 +4,7 @@ use Prim.Native.Nat.{ℕ, _*_}
 use native.Mathlib.Omega.{arith}
 use borrow.Author.Needs.{needs}
 use lib.ListN.{replicate, length-replicate}
+use Rattle.state.specs.State.{stateOf}
 use Rattle.complete.specs.Complete.{mostEdges}
 use Rattle.runner.proofs.Room.{never-refused, listed, passes, lines-fit}
 use Rattle.runner.proofs.put_state.Statement.{statement}
@@ -22,24 +23,24 @@ put-state-spec =
     let l = k .before .before .before in
     let s = l .before .before .before .before .before in
     let a = s .args in
-    listed (a .journal .now) (a .adjacency .now) (s .pre .0) (s .pre .1) (s .pre .2) (replicate (2 * mostEdges) 0) (length-replicate {A = ℕ} (2 * mostEdges) 0) _ _ (l .edge-list .ensures) _ (k .answer2 .given .1) .2)  -- array-share-prefix-list
+    listed (stateOf (a .journal .now) (a .adjacency .now)) (s .pre .0) (replicate (2 * mostEdges) 0) (length-replicate {A = ℕ} (2 * mostEdges) 0) _ _ (l .edge-list .ensures) _ (k .answer2 .given .1) .2)  -- array-share-prefix-list
     (λ c.
     let k = c .before .before .before in
     let l = k .before .before .before in
     let s = l .before .before .before .before .before in
     let a = s .args in
-    let f = listed (a .journal .now) (a .adjacency .now) (s .pre .0) (s .pre .1) (s .pre .2) (replicate (2 * mostEdges) 0) (length-replicate {A = ℕ} (2 * mostEdges) 0) _ _ (l .edge-list .ensures) _ (k .answer2 .given .1) in
+    let f = listed (stateOf (a .journal .now) (a .adjacency .now)) (s .pre .0) (replicate (2 * mostEdges) 0) (length-replicate {A = ℕ} (2 * mostEdges) 0) _ _ (l .edge-list .ensures) _ (k .answer2 .given .1) in
     rw (f .1) (f .0))  -- slice-aggregate-put-form
     (λ c κs.
     let k = c .before .before .before in
     let l = k .before .before .before in
     let s = l .before .before .before .before .before in
     let a = s .args in
-    let f = listed (a .journal .now) (a .adjacency .now) (s .pre .0) (s .pre .1) (s .pre .2) (replicate (2 * mostEdges) 0) (length-replicate {A = ℕ} (2 * mostEdges) 0) _ _ (l .edge-list .ensures) _ (k .answer2 .given .1) in
-    rw (f .1, s .pre .3) (
-      passes (a .journal .now) (a .adjacency .now) (s .pre .0) (s .pre .1) (s .pre .2),
-      s .pre .4,
-      omega (arith, lines-fit (a .journal .now) (a .adjacency .now) (s .pre .0) (s .pre .1) (s .pre .2), s .pre .4),
+    let f = listed (stateOf (a .journal .now) (a .adjacency .now)) (s .pre .0) (replicate (2 * mostEdges) 0) (length-replicate {A = ℕ} (2 * mostEdges) 0) _ _ (l .edge-list .ensures) _ (k .answer2 .given .1) in
+    rw (f .1, s .pre .1) (
+      passes (stateOf (a .journal .now) (a .adjacency .now)) (s .pre .0),
+      s .pre .2,
+      omega (arith, lines-fit (stateOf (a .journal .now) (a .adjacency .now)) (s .pre .0), s .pre .2),
     ))  -- put-form-requires
     (λ c. search needs)  -- same-length
     (λ c.
@@ -47,7 +48,7 @@ put-state-spec =
     let l = k .before .before .before in
     let s = l .before .before .before .before .before in
     let a = s .args in
-    absurd (never-refused (a .journal .now) (a .adjacency .now) (s .pre .0) (s .pre .1) (s .pre .2) (replicate (2 * mostEdges) 0) (length-replicate {A = ℕ} (2 * mostEdges) 0) _ _ (l .edge-list .ensures) _ (k .answer .given .1)))  -- returns
+    absurd (never-refused (stateOf (a .journal .now) (a .adjacency .now)) (s .pre .0) (replicate (2 * mostEdges) 0) (length-replicate {A = ℕ} (2 * mostEdges) 0) _ _ (l .edge-list .ensures) _ (k .answer .given .1)))  -- returns
     (λ c. search needs)  -- same-length-2
     (λ c.
     let p = c .before .before in
@@ -55,5 +56,5 @@ put-state-spec =
     let l = k .before .before .before in
     let s = l .before .before .before .before .before in
     let a = s .args in
-    let f = listed (a .journal .now) (a .adjacency .now) (s .pre .0) (s .pre .1) (s .pre .2) (replicate (2 * mostEdges) 0) (length-replicate {A = ℕ} (2 * mostEdges) 0) _ _ (l .edge-list .ensures) _ (k .answer2 .given .1) in
+    let f = listed (stateOf (a .journal .now) (a .adjacency .now)) (s .pre .0) (replicate (2 * mostEdges) 0) (length-replicate {A = ℕ} (2 * mostEdges) 0) _ _ (l .edge-list .ensures) _ (k .answer2 .given .1) in
     rw (f .1) at (p .put-form .ensures)))  -- returns-2

@@ -1,10 +1,7 @@
 -- `runner::render` meets its contract.
 -- Assumes nothing.
-use Prim.Native.Nat.{ℕ}
 use borrow.Author.Needs.{needs}
-use lib.ListN.{replicate}
-use Rattle.journal.specs.Journal.{journalSize}
-use Rattle.adjacency.specs.Adjacency.{adjacencySize}
+use Rattle.state.specs.State.{cleared}
 use Rattle.runner.specs.Program.{textFrom}
 use Rattle.runner.proofs.Said.{says, says-line, said-stopped, said-taken, says-fits}
 use Rattle.runner.proofs.render.Statement.{statement}
@@ -26,20 +23,16 @@ render-spec =
     let k = c .before .before .before in
     let t = k .before .before .before in
     let a = t .before .before .before .before .args in
-    let j = replicate {A = ℕ} journalSize 0 in
-    let g = replicate {A = ℕ} adjacencySize 0 in
-    says-fits (a .form) (a .finish) j g (a .input .now) (a .output .now) _ _ (search needs)
-    (says-line (textFrom (a .form) (a .finish) j g (a .input .now)) _ (a .output .now) _ _
-    (said-stopped (a .form) (a .finish) j g (a .input .now) _ _ (t .take-all .ensures) _ (k .taken .given .1))
+    says-fits (a .form) (a .choice) cleared (a .input .now) (a .output .now) _ _ (search needs)
+    (says-line (textFrom (a .form) (a .choice) cleared (a .input .now)) _ (a .output .now) _ _
+    (said-stopped (a .form) (a .choice) cleared (a .input .now) _ _ (t .take-all .ensures) _ (k .taken .given .1))
     (c .put-refused .ensures)))  -- returns
     (λ c.
     let p = c .before .before in
     let k = p .before .before .before .before in
     let t = k .before .before .before in
     let a = t .before .before .before .before .args in
-    let j = replicate {A = ℕ} journalSize 0 in
-    let g = replicate {A = ℕ} adjacencySize 0 in
-    says-fits (a .form) (a .finish) j g (a .input .now) (a .output .now) _ _ (search needs)
-    (says (textFrom (a .form) (a .finish) j g (a .input .now)) _ (a .output .now) _ _
-    (said-taken (a .form) (a .finish) j g (a .input .now) _ _ (t .take-all .ensures) (k .enum-told .given .1))
+    says-fits (a .form) (a .choice) cleared (a .input .now) (a .output .now) _ _ (search needs)
+    (says (textFrom (a .form) (a .choice) cleared (a .input .now)) _ (a .output .now) _ _
+    (said-taken (a .form) (a .choice) cleared (a .input .now) _ _ (t .take-all .ensures) (k .enum-told .given .1))
     (p .lay-out .ensures))))  -- returns-2

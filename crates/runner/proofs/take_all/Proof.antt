@@ -6,13 +6,14 @@ use native.Mathlib.Omega.{arith}
 use borrow.Author.Needs.{needs}
 use lib.ListN.{length}
 use Rattle.finite.proofs.Fold.{foldTo-none}
+use Rattle.state.specs.State.{stateOf}
 use Rattle.runner.proofs.Taking.{Went, went-next, first-refusal, all-went}
 use Rattle.runner.proofs.take_all.Statement.{statement}
 use Rattle.runner.proofs.take_all.Tie as tie
 
 abbrev Inv-loop : tie.InvT-loop
 Inv-loop journal₀ adjacency input n number₀ journal number =
-    (number ≤ n) × (length journal ≡ length journal₀) × Went journal₀ adjacency input number journal
+    (number ≤ n) × (length journal ≡ length journal₀) × Went (stateOf journal₀ adjacency) input number (stateOf journal adjacency)
 
 abbrev μ-loop : tie.MeasureT-loop
 μ-loop journal₀ adjacency input n number₀ journal number = n - number
@@ -34,7 +35,7 @@ take-all-spec =
     let b = t .before in
     let l = b .before .before .before in
     let a = l .before .before .before .before .before .before .args in
-    first-refusal (a .journal .now) (a .adjacency .now) (a .input .now) (l .loop .number) (l .loop .journal) (l .loop .inv .2) _ (b .block-in .ensures) _ _
+    first-refusal (stateOf (a .journal .now) (a .adjacency .now)) (a .input .now) (l .loop .number) (stateOf (l .loop .journal) (a .adjacency .now)) (l .loop .inv .2) _ (b .block-in .ensures) _ _
     (t .take-one .ensures) (omega arith) _ (v .verdict .given .1))  -- returns
     (λ c. search needs)  -- enum-told
     (λ c. omega arith)  -- add-number
@@ -46,11 +47,11 @@ take-all-spec =
     let a = l .before .before .before .before .before .before .args in (
       omega arith,
       search needs,
-      went-next (a .journal .now) (a .adjacency .now) (a .input .now) (l .loop .number) (l .loop .journal) (l .loop .inv .2) _ (b .block-in .ensures) _ _
+      went-next (stateOf (a .journal .now) (a .adjacency .now)) (a .input .now) (l .loop .number) (stateOf (l .loop .journal) (a .adjacency .now)) (l .loop .inv .2) _ (b .block-in .ensures) _ _
           (t .take-one .ensures) (c .enum-told .given .1),
     ))  -- loop-again
     (λ c. c .before .loop .inv .1)  -- same-length-2
     (λ c.
     let l = c .before in
     let a = l .before .before .before .before .before .before .args in
-    all-went (a .journal .now) (a .adjacency .now) (a .input .now) (l .loop .number) (l .loop .journal) (omega arith) (l .loop .inv .2)))  -- returns-2
+    all-went (stateOf (a .journal .now) (a .adjacency .now)) (a .input .now) (l .loop .number) (stateOf (l .loop .journal) (a .adjacency .now)) (omega arith) (l .loop .inv .2)))  -- returns-2
