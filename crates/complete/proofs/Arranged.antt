@@ -16,15 +16,15 @@ use Rattle.finite.proofs.Delta.{δ-other}
 use Rattle.finite.proofs.Fold.{foldTo-keeps, foldTo-none}
 use Rattle.finite.proofs.Sum.{sumTo-zero, sumTo-term}
 use Rattle.adjacency.specs.Adjacency.{edge}
-use Rattle.joining.specs.Inner.Work.{degreesOf}
+use Rattle.adjacency.specs.Inner.Degrees.{degreesOf}
 use Rattle.classes.specs.Inner.Block.{Numbered, classFrom, blockSum}
 use Rattle.classes.proofs.Blocks.{start-rises, start-most, class-inside, class-only, block-cell}
 use Rattle.complete.specs.Complete.{Ran}
 use Rattle.complete.specs.Inner.Cellwise.{cellStep, cellMissing, fillCell, fillRow}
 use Rattle.complete.specs.Inner.Cursor.{ClassRange}
 use Rattle.complete.specs.Inner.Search.{Ranged}
-use Rattle.complete.specs.Inner.Work.{Sound, Fillable, Working, Countable, CellOf, cellIn}
-use Rattle.complete.proofs.Sound.{row-sound, rows-sound}
+use Rattle.complete.specs.Inner.Work.{ValidRun, Fillable, Working, Countable, CellOf, cellIn}
+use Rattle.complete.proofs.ValidRuns.{row-valid, rows-valid}
 
 -- a cell that the table has nothing in misses nothing
 pub none-missing : (want have : ℕ) (t : Bool) → want ≡ 0 → 0 ≡ (want - have) / cond t 2 1
@@ -58,12 +58,12 @@ module _ {n : ℕ} {cells starts held : List ℕ} {room : ℕ} {s : Ran} (p : Wo
             record {
               n = n;
               few = p .arranged .few;
-              simple = p .sound .filling .partial .simple;
+              simple = p .is-valid .filling .partial .simple;
               rows = (r .rows .ordered, r .rows .within);
               columns = (r .columns .ordered, r .columns .within);
             };
         within =
-            rw (block-cell (p .arranged .numbered) (edge (s .adjacency)) k l kC lC) (p .sound .filling .partial .within k l kC lC);
+            rw (block-cell (p .arranged .numbered) (edge (s .adjacency)) k l kC lC) (p .is-valid .filling .partial .within k l kC lC);
       }
 
   pub cell-of : CellOf n starts (cellIn starts k l)
@@ -80,7 +80,7 @@ module _ {n : ℕ} {cells starts held : List ℕ} {room : ℕ} {s : Ran} (p : Wo
     fillable =
         record {
           table = matrixOf cells;
-          sound = p .sound;
+          is-valid = p .is-valid;
           missing = omega (arith, missing-count);
           ranged = ranged n starts (p .arranged .numbered) k l kC lC;
           degrees-held = p .degrees-held;
@@ -89,24 +89,24 @@ module _ {n : ℕ} {cells starts held : List ℕ} {room : ℕ} {s : Ran} (p : Wo
     pub cell-filled : (r : Ran) → r ≡ foldTo m (λ i. cellStep n (classFrom starts) k l) s → r ≡ fillCell n (classFrom starts) (matrixOf cells) k l s
     cell-filled r er = er ∙ ap (λ (i : ℕ). foldTo i (λ i. cellStep n (classFrom starts) k l) s) missing-count
 
--- the work goes on from any state that is sound
+-- the work goes on from any run that is valid
 module _ {n : ℕ} {cells starts held : List ℕ} {room : ℕ} {s : Ran} (p : Working n cells starts held room s) where
-  pub working : (x : Ran) → Sound n (classFrom starts) (matrixOf cells) room x → (h : List ℕ) → h ≡ degreesOf n (x .adjacency)
+  pub working : (x : Ran) → ValidRun n (classFrom starts) (matrixOf cells) room x → (h : List ℕ) → h ≡ degreesOf n (x .adjacency)
       → {left : ℕ} → left ≡ room → Working n cells starts h left x
-  working x sound h e er = record { arranged = p .arranged; sound = rw er sound; degrees-held = e }
+  working x v h e er = record { arranged = p .arranged; is-valid = rw er v; degrees-held = e }
 
-  pub working-sized : (x : Ran) → Sound n (classFrom starts) (matrixOf cells) room x → length (x .adjacency) ≡ length (s .adjacency)
-  working-sized x sound = sound .filling .sized ∙ sym (p .sound .filling .sized)
+  pub working-sized : (x : Ran) → ValidRun n (classFrom starts) (matrixOf cells) room x → length (x .adjacency) ≡ length (s .adjacency)
+  working-sized x v = v .filling .sized ∙ sym (p .is-valid .filling .sized)
 
   -- x: the state after the first i cells of row k, and after the first i rows
   module _ (i : ℕ) (x : Ran) where
-    pub cells-sound : (k : ℕ) → k + i ≤ mostClasses → x ≡ foldTo i (λ i. fillCell n (classFrom starts) (matrixOf cells) k (k + i)) s
-        → Sound n (classFrom starts) (matrixOf cells) room x
-    cells-sound k h e = rw e (row-sound n (classFrom starts) (matrixOf cells) room s (p .sound) k i h)
+    pub cells-valid : (k : ℕ) → k + i ≤ mostClasses → x ≡ foldTo i (λ i. fillCell n (classFrom starts) (matrixOf cells) k (k + i)) s
+        → ValidRun n (classFrom starts) (matrixOf cells) room x
+    cells-valid k h e = rw e (row-valid n (classFrom starts) (matrixOf cells) room s (p .is-valid) k i h)
 
-    pub all-sound : i ≤ mostClasses - leastClass → x ≡ foldTo i (λ i. fillRow n (classFrom starts) (matrixOf cells) (leastClass + i)) s
-        → Sound n (classFrom starts) (matrixOf cells) room x
-    all-sound h e = rw e (rows-sound n (classFrom starts) (matrixOf cells) room s (p .sound) i h)
+    pub all-valid : i ≤ mostClasses - leastClass → x ≡ foldTo i (λ i. fillRow n (classFrom starts) (matrixOf cells) (leastClass + i)) s
+        → ValidRun n (classFrom starts) (matrixOf cells) room x
+    all-valid h e = rw e (rows-valid n (classFrom starts) (matrixOf cells) room s (p .is-valid) i h)
 
   -- a class without vertices has no cell to fill
   module _ (k : ℕ) (kC : k < mostClasses) (empty : getD starts k 0 ≡ getD starts (k + 1) 0) where
@@ -120,7 +120,7 @@ module _ {n : ℕ} {cells starts held : List ℕ} {room : ℕ} {s : Ran} (p : Wo
         omega (
           arith,
           sumTo-term mostClasses (matrixOf cells k) l lC,
-          p .sound .filling .target .rows k kC ∙ ap (λ (m : ℕ). classDegree k * m) no-vertices ∙ mul-zero (classDegree k),
+          p .is-valid .filling .target .rows k kC ∙ ap (λ (m : ℕ). classDegree k * m) no-vertices ∙ mul-zero (classDegree k),
         )
 
     pub row-empty : s ≡ fillRow n (classFrom starts) (matrixOf cells) k s

@@ -23,25 +23,24 @@ use Rattle.graph.specs.Tests.{mostClasses, rowSum, Table, classDegree}
 use Rattle.graph.proofs.Complete.{complete-is-exact}
 use Rattle.graph.proofs.Passes.{Passed, passes-passed}
 use Rattle.graph.proofs.Realizability.{has-table, has-isolated}
-use Rattle.journal.specs.Journal.{phase, jdmOf, tableOf, isolatedOf}
+use Rattle.journal.specs.Journal.{jdmOf, tableOf, isolatedOf}
 use Rattle.journal.proofs.Table.{jdm-table}
 use Rattle.adjacency.specs.Adjacency.{edge}
+use Rattle.state.specs.State.{State, withMatrix}
 use Rattle.state.specs.Checks.{phaseVerdict}
-use Rattle.state.specs.Valid.{lengthsOk, valid}
+use Rattle.state.specs.Valid.{lengthsOk, valid, ValidLaid}
 use Rattle.state.specs.Laid.{vertexCount, classAt}
 use Rattle.state.proofs.Facts.{edgeTotal, StateFacts, Laid, valid-facts, lengths-both}
-use Rattle.state.proofs.Checks.{phase-passed, phase-go}
+use Rattle.state.proofs.Checks.{laid-passed, laid-goes}
 use Rattle.state.proofs.Graph.{laid-valid}
 use Rattle.join_records.specs.Record.{joinRecordSize}
 use Rattle.complete.specs.Complete.{Ran, mostEdges, fresh, completed, missing, ranLaid, ranAnswer}
-use Rattle.complete.proofs.Works.{few-edges, Good, Finished, finishes}
+use Rattle.complete.proofs.Works.{few-edges, Good, CompletedRun, completes}
 use Rattle.complete.proofs.Records.{Recorded, completed-length}
 
 -- what the checks of a completed state said
-pub record CompleteFacts (j g : List ℕ) : Type 0 where
-  pub lengths : lengthsOk j g ≡ true
-  pub sound : valid j g ≡ true
-  pub phased : phase j ≡ 1
+abbrev pub CompleteFacts : State → Type 0
+CompleteFacts s = ValidLaid s
 
 abbrev IsCompleted : CompleteAnswer → Type 0
 IsCompleted (Completed joins switches n) = Unit {0}
@@ -50,29 +49,29 @@ IsCompleted (Refused r) = ⊥
 pub refused-not-completed : (joins switches n : ℕ) (r : Refusal) → Refused r ≡ Completed joins switches n → ⊥
 refused-not-completed joins switches n r e = subst IsCompleted (sym e) tt
 
-module _ (j g : List ℕ) where
+module _ (s : State) where
   -- a state that passes the checks 1, 2 and 3
-  pub phase-complete : phaseVerdict 1 j g ≡ Go → CompleteFacts j g
-  phase-complete e = let q = phase-passed 1 j g e in record { lengths = q .0; sound = q .1; phased = q .2 }
+  pub phase-complete : phaseVerdict 1 s ≡ Go → CompleteFacts s
+  phase-complete = laid-passed s
 
   -- the work ends in r, whichever pairs it joins
   module _ (r : Ran) where
     -- what an answer Completed for an output of m bytes says
     pub record CompletedFacts (m joins switches n : ℕ) : Type 0 where
-      pub facts : CompleteFacts j g
-      pub room : joinRecordSize * missing j g ≤ m
+      pub facts : CompleteFacts s
+      pub room : joinRecordSize * missing s ≤ m
       pub joins-are : joins ≡ r .joins
       pub switches-are : switches ≡ r .switches
       pub length-is : n ≡ length (r .records)
 
-    pub completed-facts : (m joins switches n : ℕ) → ranAnswer r j g m ≡ Completed joins switches n → CompletedFacts m joins switches n
+    pub completed-facts : (m joins switches n : ℕ) → ranAnswer r s m ≡ Completed joins switches n → CompletedFacts m joins switches n
     completed-facts m joins switches n e =
         let no = refused-not-completed joins switches n in
-        let p = unless-stopped-passed (phaseVerdict 1 j g) Refused _ (Completed joins switches n) no e in
-        let h = unless-passed (leb (joinRecordSize * missing j g) m) _ _ (Completed joins switches n) (no _) (p .1) in
+        let p = unless-stopped-passed (phaseVerdict 1 s) Refused _ (Completed joins switches n) no e in
+        let h = unless-passed (leb (joinRecordSize * missing s) m) _ _ (Completed joins switches n) (no _) (p .1) in
         record {
           facts = phase-complete (p .0);
-          room = leb-true (joinRecordSize * missing j g) m (h .0);
+          room = leb-true (joinRecordSize * missing s) m (h .0);
           joins-are = cc (h .1);
           switches-are = cc (h .1);
           length-is = cc (h .1);
@@ -80,75 +79,75 @@ module _ (j g : List ℕ) where
 
     -- by the room that an output of m bytes has
     module _ (m : ℕ) where
-      pub laid-roomy : joinRecordSize * missing j g ≤ m → ranLaid r j g m ≡ Completed (r .joins) (r .switches) (length (r .records))
-      laid-roomy h = rw (le-leb (joinRecordSize * missing j g) m h)
+      pub laid-roomy : joinRecordSize * missing s ≤ m → ranLaid r s m ≡ Completed (r .joins) (r .switches) (length (r .records))
+      laid-roomy h = rw (le-leb (joinRecordSize * missing s) m h)
 
-      pub laid-short : m < joinRecordSize * missing j g → ranLaid r j g m ≡ Refused (refusal OutputTooShort 0 0)
-      laid-short h = rw (lt-leb (joinRecordSize * missing j g) m h)
+      pub laid-short : m < joinRecordSize * missing s → ranLaid r s m ≡ Refused (refusal OutputTooShort 0 0)
+      laid-short h = rw (lt-leb (joinRecordSize * missing s) m h)
 
-      pub facts-completed : CompleteFacts j g → joinRecordSize * missing j g ≤ m
-          → ranAnswer r j g m ≡ Completed (r .joins) (r .switches) (length (r .records))
-      facts-completed f h = rw (phase-go 1 j g (f .lengths) (f .sound) (f .phased)) (laid-roomy h)
+      pub facts-completed : CompleteFacts s → joinRecordSize * missing s ≤ m
+          → ranAnswer r s m ≡ Completed (r .joins) (r .switches) (length (r .records))
+      facts-completed f h = rw (laid-goes s f) (laid-roomy h)
 
-      pub short-refused : CompleteFacts j g → m < joinRecordSize * missing j g → ranAnswer r j g m ≡ Refused (refusal OutputTooShort 0 0)
-      short-refused f h = rw (phase-go 1 j g (f .lengths) (f .sound) (f .phased)) (laid-short h)
+      pub short-refused : CompleteFacts s → m < joinRecordSize * missing s → ranAnswer r s m ≡ Refused (refusal OutputTooShort 0 0)
+      short-refused f h = rw (laid-goes s f) (laid-short h)
 
   -- a valid laid state is where a run may begin
-  pub good-start : CompleteFacts j g → Good (vertexCount j) (classAt j) (jdmOf j) (fresh g)
+  pub good-start : CompleteFacts s → Good (vertexCount s) (classAt s) (jdmOf (s .journal)) (fresh (s .adjacency))
   good-start f =
-      let facts = valid-facts j g (f .lengths) (f .sound) in
+      let facts = valid-facts s (f .lengths) (f .is-valid) in
       let laid = facts .laid (f .phased) in
       (record { sized = facts .adjacency-length; few = laid .vertices-le; target = laid .target; partial = laid .partial }, laid .outside)
 
   -- no layout misses more edges than it can have
-  pub missing-most : CompleteFacts j g → missing j g ≤ mostEdges
+  pub missing-most : CompleteFacts s → missing s ≤ mostEdges
   missing-most f =
       let filling = good-start f .0 in
-      omega (arith, few-edges (vertexCount j) (classAt j) (jdmOf j) (filling .target) (filling .few))
+      omega (arith, few-edges (vertexCount s) (classAt s) (jdmOf (s .journal)) (filling .target) (filling .few))
 
   -- after it, in r
   pub record CompleteWorks (r : Ran) : Type 0 where
-    pub lengths : lengthsOk j (r .adjacency) ≡ true
-    pub sound : valid j (r .adjacency) ≡ true
-    pub more : edgeTotal j (r .adjacency) ≡ edgeTotal j g + r .joins
-    pub made : r .joins ≡ missing j g
+    pub lengths : lengthsOk (withMatrix s (r .adjacency)) ≡ true
+    pub is-valid : valid (withMatrix s (r .adjacency)) ≡ true
+    pub more : edgeTotal (withMatrix s (r .adjacency)) ≡ edgeTotal s + r .joins
+    pub made : r .joins ≡ missing s
     pub written : length (r .records) ≡ joinRecordSize * r .joins
-    pub all : sumTo mostClasses (rowSum (jdmOf j)) ≡ 2 * edgeTotal j (r .adjacency)
-    pub simple : Simple (vertexCount j) (edge (r .adjacency))
-    pub table : (k l : ℕ) → ownJdm (vertexCount j) (edge (r .adjacency)) k l ≡ jdmOf j k l
-    pub no-edge : isolated (vertexCount j) (edge (r .adjacency)) ≡ isolatedOf j
-    pub degrees-exact : (v : ℕ) → v < vertexCount j → degree (vertexCount j) (edge (r .adjacency)) v ≡ classAt j v
+    pub all : sumTo mostClasses (rowSum (jdmOf (s .journal))) ≡ 2 * edgeTotal (withMatrix s (r .adjacency))
+    pub simple : Simple (vertexCount s) (edge (r .adjacency))
+    pub table : (k l : ℕ) → ownJdm (vertexCount s) (edge (r .adjacency)) k l ≡ jdmOf (s .journal) k l
+    pub no-edge : isolated (vertexCount s) (edge (r .adjacency)) ≡ isolatedOf (s .journal)
+    pub degrees-exact : (v : ℕ) → v < vertexCount s → degree (vertexCount s) (edge (r .adjacency)) v ≡ classAt s v
 
-  pub finished-works : CompleteFacts j g → (r : Ran) → Finished (vertexCount j) (classAt j) (jdmOf j) g r → Recorded r → CompleteWorks r
-  finished-works f r end recorded =
+  pub completed-works : CompleteFacts s → (r : Ran) → CompletedRun (vertexCount s) (classAt s) (jdmOf (s .journal)) (s .adjacency) r → Recorded r → CompleteWorks r
+  completed-works f r end recorded =
       record {
-        lengths = lengths-both j g′ (facts .journal-length) (end .filling .sized);
-        sound = laid-valid j g laid g′ (f .phased) (facts .journal-ok) (end .filling .sized) (end .filling .partial) (end .outside);
+        lengths = lengths-both (withMatrix s g′) (facts .journal-length) (end .filling .sized);
+        is-valid = laid-valid s laid g′ (f .phased) (facts .journal-ok) (end .filling .sized) (end .filling .partial) (end .outside);
         more = omega (arith, end .counted);
         made = omega (arith, end .counted, end .missing);
         written = recorded;
         all = end .missing;
         simple = end .filling .partial .simple;
-        table = has-table (tableOf j) summed passed (edge g′) (end .filling .partial) (end .full);
-        no-edge = has-isolated (tableOf j) summed passed (edge g′) (end .filling .partial) (end .full);
-        degrees-exact = complete-is-exact (vertexCount j) mostClasses (classAt j) classDegree (jdmOf j) (edge g′) (laid .target) (end .filling .partial) (end .full);
+        table = has-table (tableOf (s .journal)) summed passed (edge g′) (end .filling .partial) (end .full);
+        no-edge = has-isolated (tableOf (s .journal)) summed passed (edge g′) (end .filling .partial) (end .full);
+        degrees-exact = complete-is-exact (vertexCount s) mostClasses (classAt s) classDegree (jdmOf (s .journal)) (edge g′) (laid .target) (end .filling .partial) (end .full);
       }
     where
-      facts : StateFacts j g
-      facts = valid-facts j g (f .lengths) (f .sound)
+      facts : StateFacts s
+      facts = valid-facts s (f .lengths) (f .is-valid)
 
-      laid : Laid j g
+      laid : Laid s
       laid = facts .laid (f .phased)
 
-      summed : Table (jdmOf j)
-      summed = jdm-table j (facts .journal-ok)
+      summed : Table (jdmOf (s .journal))
+      summed = jdm-table (s .journal) (facts .journal-ok)
 
-      passed : Passed (jdmOf j)
-      passed = passes-passed (jdmOf j) .0 (laid .passed)
+      passed : Passed (jdmOf (s .journal))
+      passed = passes-passed (jdmOf (s .journal)) .0 (laid .passed)
 
       g′ : List ℕ
       g′ = r .adjacency
 
-  pub complete-works : CompleteFacts j g → CompleteWorks (completed j g)
+  pub complete-works : CompleteFacts s → CompleteWorks (completed s)
   complete-works f =
-      finished-works f (completed j g) (finishes (vertexCount j) (classAt j) (jdmOf j) g (good-start f .0) (good-start f .1)) (completed-length j g)
+      completed-works f (completed s) (completes (vertexCount s) (classAt s) (jdmOf (s .journal)) (s .adjacency) (good-start f .0) (good-start f .1)) (completed-length s)

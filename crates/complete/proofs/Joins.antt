@@ -6,15 +6,15 @@ use Prim.Native.Nat.{ℕ, _≤_, _<_}
 use native.Mathlib.Omega.{arith}
 use lib.ListN.{length}
 use Rattle.finite.specs.Range.{foldTo}
-use Rattle.joining.specs.Inner.Work.{degreesOf}
+use Rattle.adjacency.specs.Inner.Degrees.{degreesOf}
 use Rattle.complete.specs.Complete.{Ran}
 use Rattle.complete.specs.Inner.Cellwise.{cellStep}
 use Rattle.complete.specs.Inner.Search.{Ranged}
-use Rattle.complete.specs.Inner.Work.{Sound, Resumes, Steppable, Fillable}
+use Rattle.complete.specs.Inner.Work.{ValidRun, Resumes, Steppable, Fillable}
 use Rattle.complete.specs.declared.pair.Cell.{Cell}
 use Rattle.complete.specs.declared.cell.Cursor.{Cursor}
 use Rattle.complete.proofs.Cellwise.{part-short}
-use Rattle.complete.proofs.Sound.{part-sound}
+use Rattle.complete.proofs.ValidRuns.{part-valid}
 
 -- before the first vertices of its classes nothing is left to do in a cell
 pub start-resumes : (n : ℕ) (cls : ℕ → ℕ) (g : List ℕ) (c : Cell) → Ranged n cls c
@@ -39,20 +39,20 @@ start-resumes n cls g c r =
 -- x: the state after i of the joins
 module _ {n : ℕ} {cls : ℕ → ℕ} {c : Cell} {m room : ℕ} {s : Ran} {held₀ : List ℕ} (p : Fillable n cls c m room s held₀)
     (i : ℕ) (x : Ran) (e : x ≡ foldTo i (λ i. cellStep n cls (c .k) (c .l)) s) where
-  fill-sound : i ≤ m → Sound n cls (p .table) room x
-  fill-sound h = rw e (part-sound n cls (p .table) room s (p .sound) (c .k) (c .l) (p .ranged .first) (p .ranged .second) i (omega (arith, p .missing)))
+  fill-valid : i ≤ m → ValidRun n cls (p .table) room x
+  fill-valid h = rw e (part-valid n cls (p .table) room s (p .is-valid) (c .k) (c .l) (p .ranged .first) (p .ranged .second) i (omega (arith, p .missing)))
 
   pub fill-sized : i ≤ m → length (x .adjacency) ≡ length (s .adjacency)
-  fill-sized h = fill-sound h .filling .sized ∙ sym (p .sound .filling .sized)
+  fill-sized h = fill-valid h .filling .sized ∙ sym (p .is-valid .filling .sized)
 
   pub fill-steppable : i < m → (u : Cursor) (held : List ℕ) → Resumes n cls (x .adjacency) c u → held ≡ degreesOf n (x .adjacency)
       → {left : ℕ} → left ≡ room → Steppable n cls c u left x held
   fill-steppable h u held r d er =
       record {
         table = p .table;
-        sound = rw er (fill-sound (omega arith));
+        is-valid = rw er (fill-valid (omega arith));
         short =
-            rw e (part-short n cls (p .table) s (p .sound .filling) (c .k) (c .l) (p .ranged .first) (p .ranged .second) i (omega (arith, p .missing)));
+            rw e (part-short n cls (p .table) s (p .is-valid .filling) (c .k) (c .l) (p .ranged .first) (p .ranged .second) i (omega (arith, p .missing)));
         ranged = p .ranged;
         resumes = r;
         degrees-held = d;

@@ -7,7 +7,7 @@ pub mod Entry
 pub mod Output
 pub mod Cursor
 pub mod Search
-pub mod Sound
+pub mod ValidRuns
 pub mod Step
 pub mod Joins
 pub mod Arranged

@@ -12,6 +12,7 @@ use lib.Seq.{getD-append-add}
 use Rattle.finite.specs.Range.{iterate}
 use Rattle.finite.proofs.Fold.{iterate-keeps}
 use Rattle.journal.specs.Journal.{jdmOf}
+use Rattle.state.specs.State.{State}
 use Rattle.state.specs.Laid.{vertexCount, classAt}
 use Rattle.join_records.specs.Record.{joinRecordSize, joinRecord}
 use Rattle.joining.specs.Join.{joinSwitches}
@@ -76,6 +77,7 @@ module _ (n : ℕ) (cls : ℕ → ℕ) (T : ℕ → ℕ → ℕ) {S : Type 0} (c
         (λ s h t. (next-good n cls T c s (h .0) t, next-recorded s (h .1), next-rises s (h .0) (h .1) (h .2) t))
         .2
 
-pub completed-length : (j g : List ℕ) → Recorded (completed j g)
-completed-length j g =
-    records-length (vertexCount j) (classAt j) (jdmOf j) (lowest-pair (vertexCount j) (classAt j) (jdmOf j)) mostEdges (fresh g) refl
+pub completed-length : (s : State) → Recorded (completed s)
+completed-length s =
+    records-length (vertexCount s) (classAt s) (jdmOf (s .journal)) (lowest-pair (vertexCount s) (classAt s) (jdmOf (s .journal))) mostEdges
+    (fresh (s .adjacency)) refl

@@ -21,10 +21,11 @@ use Rattle.graph.specs.Tests.{mostClasses, classDegree}
 use Rattle.graph.proofs.Resume.{join-degree}
 use Rattle.layout.specs.Layout.{mostVertices}
 use Rattle.adjacency.specs.Adjacency.{edge}
-use Rattle.joining.proofs.Held.{held-is}
+use Rattle.adjacency.proofs.Degrees.{held-is}
 use Rattle.joining.specs.Join.{joinBytes, joinSwitches}
 use Rattle.classes.specs.Inner.Block.{classFrom}
-use Rattle.joining.specs.Inner.Work.{degreesOf, Joinable, Placed, freed}
+use Rattle.adjacency.specs.Inner.Degrees.{degreesOf}
+use Rattle.joining.specs.Inner.Work.{Joinable, Placed, freed}
 use Rattle.joining.proofs.Bytes.{join-bytes}
 use Rattle.complete.specs.Choice.{openW, openV}
 use Rattle.join_records.specs.Record.{joinRecordSize, joinRecord}
@@ -36,7 +37,7 @@ use Rattle.complete.specs.Inner.Work.{Saturated, CellOf, Resumes, Steppa
 use Rattle.complete.specs.declared.pair.Cell.{Cell}
 use Rattle.complete.specs.declared.cell.Cursor.{Cursor}
 use Rattle.complete.proofs.Chosen.{Chosen, chosen}
-use Rattle.complete.proofs.Sound.{joined-room}
+use Rattle.complete.proofs.ValidRuns.{joined-room}
 use Rattle.complete.proofs.Output.{joined-ran}
 use Rattle.complete.proofs.Cursor.{rows-after, columns-after}
 use Rattle.complete.proofs.Search.{Found, found, searchable}
@@ -78,7 +79,7 @@ module _ {n : ℕ} {cls : ℕ → ℕ} {c : Cell} {u : Cursor} {room : ℕ} {s :
   l = c .l
 
   filling : Filling n cls (p .table) (s .adjacency)
-  filling = p .sound .filling
+  filling = p .is-valid .filling
 
   chose : Chosen n cls (p .table) g k l (openV n cls g k l) (openW n cls g k l (openV n cls g k l))
   chose = chosen n cls (p .table) g filling k l (p .ranged .first) (p .ranged .second) (p .short)
@@ -99,7 +100,7 @@ module _ {n : ℕ} {cls : ℕ → ℕ} {c : Cell} {u : Cursor} {room : ℕ} {s :
 
   -- the record fits
   pub step-room : joinRecordSize * s .joins + joinRecordSize ≤ room
-  step-room = joined-room n cls (p .table) room s (p .sound) (openV n cls g k l) (openW n cls g k l (openV n cls g k l)) (chose .pair)
+  step-room = joined-room n cls (p .table) room s (p .is-valid) (openV n cls g k l) (openW n cls g k l (openV n cls g k l)) (chose .pair)
 
   -- v and w: what the search for a pair found; x and y: what those for unsaturated vertices did
   module _ (v w : ℕ) (ev : v ≡ lowest (u .at .v) (c .rows .to) (hasColumn g c)) (ew : v < c .rows .to → w ≡ lowestColumn g c v) where

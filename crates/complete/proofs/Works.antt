@@ -161,7 +161,7 @@ module _ (n : ℕ) (cls : ℕ → ℕ) (T : ℕ → ℕ → ℕ) where
     pub pair : (s : S) → Good (ran s) → isIncomplete n cls T (ran s) ≡ true → Open n cls T (edge (ran s .adjacency)) (v s) (w s)
 
   -- what completing ends in
-  pub record Finished (g : List ℕ) (r : Ran) : Type 0 where
+  pub record CompletedRun (g : List ℕ) (r : Ran) : Type 0 where
     pub filling : Filling n cls T (r .adjacency)
     pub outside : ZeroOutside n (r .adjacency)
     pub full : (k l : ℕ) → k < mostClasses → l < mostClasses → jdm n cls (edge (r .adjacency)) k l ≡ T k l
@@ -200,9 +200,9 @@ module _ (n : ℕ) (cls : ℕ → ℕ) (T : ℕ → ℕ → ℕ) where
           counts = λ s. ap (λ (r : Ran). r .joins) (c .joins s);
         }
 
-    pub finishes-by : (s : S) (g : List ℕ) → c .ran s ≡ fresh g → Filling n cls T g → ZeroOutside n g
-        → Finished g (c .ran (iterate mostEdges short (c .next) s))
-    finishes-by s g start f out =
+    pub completes-by : (s : S) (g : List ℕ) → c .ran s ≡ fresh g → Filling n cls T g → ZeroOutside n g
+        → CompletedRun g (c .ran (iterate mostEdges short (c .next) s))
+    completes-by s g start f out =
         record {
           filling = r .good .0;
           outside = r .good .1;
@@ -223,5 +223,5 @@ module _ (n : ℕ) (cls : ℕ → ℕ) (T : ℕ → ℕ → ℕ) where
   abbrev pub lowest-pair : Chooser Ran
   lowest-pair = record { ran = λ s. s; next = next n cls T; v = nextV; w = nextW; joins = λ s. refl; pair = next-open }
 
-  pub finishes : (g : List ℕ) → Filling n cls T g → ZeroOutside n g → Finished g (run mostEdges n cls T (fresh g))
-  finishes g f out = finishes-by lowest-pair (fresh g) g refl f out
+  pub completes : (g : List ℕ) → Filling n cls T g → ZeroOutside n g → CompletedRun g (run mostEdges n cls T (fresh g))
+  completes g f out = completes-by lowest-pair (fresh g) g refl f out

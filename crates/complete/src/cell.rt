@@ -8,7 +8,7 @@ ghost use Rattle.finite.specs.Range.{lowest, foldTo};
 ghost use Rattle.adjacency.specs.Adjacency.{side};
 ghost use Rattle.classes.specs.Inner.Block.{classFrom};
 ghost use Rattle.join_records.specs.Record.{joinRecordSize, joinRecord};
-ghost use Rattle.joining.specs.Inner.Work.{degreesOf};
+ghost use Rattle.adjacency.specs.Inner.Degrees.{degreesOf};
 ghost use Rattle.complete.specs.Inner.Cellwise.{cellStep};
 ghost use Rattle.complete.specs.Inner.Work.{ran, WroteRecords, Recordable, withJoin, CellOf, Resumes, Steppable, Fillable};
 use crate::pair::Cell;
@@ -70,7 +70,7 @@ pub fn record_join(output: &mut [u8], totals: Totals, v: usize, w: usize, made: 
 }
 
 // The lowest open pair of the cell joined, and its record written. A switch of v may free a column that was passed: the cursor falls to it.
-fn fill_step(
+fn cell_step(
     adjacency: &mut [u8],
     output: &mut [u8],
     held: &mut [usize; MAX_VERTICES],
@@ -112,7 +112,7 @@ fn fill_step(
 }
 
 // m joins in the cell.
-pub fn fill_cell(
+pub fn fill_steps(
     adjacency: &mut [u8],
     output: &mut [u8],
     held: &mut [usize; MAX_VERTICES],
@@ -139,7 +139,7 @@ pub fn fill_cell(
     };
     let mut sum = totals;
     for _ in 0..m {
-        let step = fill_step(adjacency, output, held, starts, n, cell, cursor, sum);
+        let step = cell_step(adjacency, output, held, starts, n, cell, cursor, sum);
         cursor = step.cursor;
         sum = step.totals;
     }

@@ -7,12 +7,12 @@ ghost use lib.ListN.{length};
 ghost use Rattle.graph.specs.Tests.{mostClasses};
 ghost use Rattle.table.specs.Inner.Cells.{matrixOf};
 ghost use Rattle.adjacency.specs.Adjacency.{adjacencySize, edge};
-ghost use Rattle.joining.specs.Inner.Work.{degreesOf};
+ghost use Rattle.adjacency.specs.Inner.Degrees.{degreesOf};
 ghost use Rattle.classes.specs.Inner.Block.{classFrom, blockSum};
 ghost use Rattle.complete.specs.Inner.Cellwise.{fillCell, fillRow, fillAll};
 ghost use Rattle.complete.specs.Inner.Work.{ran, WroteRecords, cellIn, Countable, Working};
 use crate::cell::Totals;
-use crate::cell::fill_cell;
+use crate::cell::fill_steps;
 use crate::pair::Cell;
 use crate::pair::Span;
 use classes::STARTS;
@@ -72,7 +72,7 @@ fn missing(adjacency: &[u8], cells: &[u32; CELLS], c: Cell) -> usize
 }
 
 // Cell (k, l) filled.
-fn complete_cell(
+fn fill_cell(
     adjacency: &mut [u8],
     output: &mut [u8],
     held: &mut [usize; MAX_VERTICES],
@@ -90,11 +90,11 @@ fn complete_cell(
 {
     let c = cell_at(starts, k, l);
     let m = missing(adjacency, cells, c);
-    fill_cell(adjacency, output, held, starts, n, c, m, totals)
+    fill_steps(adjacency, output, held, starts, n, c, m, totals)
 }
 
 // The cells of row k, from the diagonal on. A class without vertices has none to fill.
-fn complete_row(
+fn fill_row(
     adjacency: &mut [u8],
     output: &mut [u8],
     held: &mut [usize; MAX_VERTICES],
@@ -114,13 +114,13 @@ fn complete_row(
     }
     let mut sum = totals;
     for i in 0..MAX_CLASSES - k {
-        sum = complete_cell(adjacency, output, held, cells, starts, n, k, k + i, sum);
+        sum = fill_cell(adjacency, output, held, cells, starts, n, k, k + i, sum);
     }
     sum
 }
 
 // All cells, row by row.
-pub fn complete_rows(
+pub fn fill_all(
     adjacency: &mut [u8],
     output: &mut [u8],
     held: &mut [usize; MAX_VERTICES],
@@ -135,7 +135,7 @@ pub fn complete_rows(
 {
     let mut sum = totals;
     for i in 0..MAX_CLASSES - LEAST_CLASS {
-        sum = complete_row(
+        sum = fill_row(
             adjacency,
             output,
             held,

@@ -3,8 +3,10 @@
 ghost use mathlib.Core.Path.{_≡_};
 ghost use lib.ListN.{length};
 ghost use Rattle.answer.specs.declared.Verdict.the-variants.{Go};
+ghost use Rattle.state.specs.State.{stateOf};
 ghost use Rattle.state.specs.Checks.{phaseVerdict};
-ghost use Rattle.complete.specs.Complete.{completed, ranLaid, ranAfter, ranOutput, completeAnswer, completeAdjacency, completeOutput};
+ghost use Rattle.state.specs.Inner.Opened.{laidFront, Opened};
+ghost use Rattle.complete.specs.Complete.{completeAnswer, completeAfter, completeOutput};
 
 pub mod cell;
 pub mod fill;
@@ -12,47 +14,70 @@ mod pair;
 pub mod start;
 
 use crate::cell::Totals;
-use crate::fill::complete_rows;
+use crate::fill::fill_all;
 use crate::start::begin;
 use answer::Cause;
 use answer::CompleteAnswer;
 use answer::Verdict;
 use answer::refuse;
 use join_records::JOIN_RECORD_BYTES;
-use state::phase_check;
+use layout::MAX_VERTICES;
+use state::laid_check;
+use state::open;
 use table::cells::CELLS;
+use table::class::MAX_CLASSES;
 
 // On a valid laid state: the check 18, then the joins that are missing.
-fn complete_laid(journal: &[u8], adjacency: &mut [u8], output: &mut [u8]) -> CompleteAnswer
-    requires { ⌜ phaseVerdict 1 (now journal) (now adjacency) ≡ Go ⌝ }
-    ensures { λ r. ⌜ r ≡ ranLaid (completed (now (journal .entry)) (now (adjacency .entry))) (now (journal .entry)) (now (adjacency .entry)) (length (now (output .entry))) ⌝ }
-    ensures { λ _. ⌜ now (adjacency .exit) ≡ ranAfter (ranLaid (completed (now (journal .entry)) (now (adjacency .entry))) (now (journal .entry)) (now (adjacency .entry)) (length (now (output .entry)))) (completed (now (journal .entry)) (now (adjacency .entry))) (now (adjacency .entry)) ⌝ }
-    ensures { λ _. ⌜ now (output .exit) ≡ ranOutput (ranLaid (completed (now (journal .entry)) (now (adjacency .entry))) (now (journal .entry)) (now (adjacency .entry)) (length (now (output .entry)))) (completed (now (journal .entry)) (now (adjacency .entry))) (now (output .entry)) ⌝ }
+fn complete_laid(
+    journal: &[u8],
+    adjacency: &mut [u8],
+    cells: &[u32; CELLS],
+    counts: &[usize; MAX_CLASSES],
+    held: &mut [usize; MAX_VERTICES],
+    output: &mut [u8],
+) -> CompleteAnswer
+    requires { ⌜ (phaseVerdict 1 (stateOf (now journal) (now adjacency)) ≡ Go) × Opened (stateOf (now journal) (now adjacency)) (now cells) (now counts) (now held) ⌝ }
+    ensures { λ r. ⌜ r ≡ completeAnswer (stateOf (now (journal .entry)) (now (adjacency .entry))) (length (now (output .entry))) ⌝ }
+    ensures { λ _. ⌜ now (adjacency .exit) ≡ completeAfter (stateOf (now (journal .entry)) (now (adjacency .entry))) (length (now (output .entry))) .adjacency ⌝ }
+    ensures { λ _. ⌜ now (output .exit) ≡ completeOutput (stateOf (now (journal .entry)) (now (adjacency .entry))) (now (output .entry)) ⌝ }
 {
-    let mut cells = [0u32; CELLS];
-    let begun = begin(journal, adjacency, &mut cells);
+    let begun = begin(cells, counts, held);
     if output.len() < JOIN_RECORD_BYTES * begun.missing {
         return CompleteAnswer::Refused(refuse(Cause::OutputTooShort, 0, 0));
     }
-    let counts = begun.counts;
-    let s = classes::starts(&counts);
-    let mut held = begun.held;
+    let starts = classes::starts(counts);
     let none = Totals {
         joins: 0,
         switches: 0,
     };
-    let done = complete_rows(adjacency, output, &mut held, &cells, &s, begun.n, none);
+    let done = fill_all(adjacency, output, held, cells, &starts, begun.n, none);
     CompleteAnswer::Completed(done.joins, done.switches, JOIN_RECORD_BYTES * done.joins)
 }
 
-pub fn complete(journal: &[u8], adjacency: &mut [u8], output: &mut [u8]) -> CompleteAnswer
-    ensures { λ r. ⌜ r ≡ completeAnswer (now (journal .entry)) (now (adjacency .entry)) (length (now (output .entry))) ⌝ }
-    ensures { λ _. ⌜ now (adjacency .exit) ≡ completeAdjacency (completeAnswer (now (journal .entry)) (now (adjacency .entry)) (length (now (output .entry)))) (now (journal .entry)) (now (adjacency .entry)) ⌝ }
-    ensures { λ _. ⌜ now (output .exit) ≡ completeOutput (completeAnswer (now (journal .entry)) (now (adjacency .entry)) (length (now (output .entry)))) (now (journal .entry)) (now (adjacency .entry)) (now (output .entry)) ⌝ }
+// Behind the front: the laid matrix, then as above.
+fn complete_checked(journal: &[u8], adjacency: &mut [u8], output: &mut [u8]) -> CompleteAnswer
+    requires { ⌜ laidFront (stateOf (now journal) (now adjacency)) ≡ Go ⌝ }
+    ensures { λ r. ⌜ r ≡ completeAnswer (stateOf (now (journal .entry)) (now (adjacency .entry))) (length (now (output .entry))) ⌝ }
+    ensures { λ _. ⌜ now (adjacency .exit) ≡ completeAfter (stateOf (now (journal .entry)) (now (adjacency .entry))) (length (now (output .entry))) .adjacency ⌝ }
+    ensures { λ _. ⌜ now (output .exit) ≡ completeOutput (stateOf (now (journal .entry)) (now (adjacency .entry))) (now (output .entry)) ⌝ }
 {
-    let verdict = phase_check(journal, adjacency, 1);
+    let mut cells = [0u32; CELLS];
+    let mut counts = [0usize; MAX_CLASSES];
+    let mut held = [0usize; MAX_VERTICES];
+    if !open(journal, adjacency, &mut cells, &mut counts, &mut held) {
+        return CompleteAnswer::Refused(refuse(Cause::InvalidState, 0, 0));
+    }
+    complete_laid(journal, adjacency, &cells, &counts, &mut held, output)
+}
+
+pub fn complete(journal: &[u8], adjacency: &mut [u8], output: &mut [u8]) -> CompleteAnswer
+    ensures { λ r. ⌜ r ≡ completeAnswer (stateOf (now (journal .entry)) (now (adjacency .entry))) (length (now (output .entry))) ⌝ }
+    ensures { λ _. ⌜ now (adjacency .exit) ≡ completeAfter (stateOf (now (journal .entry)) (now (adjacency .entry))) (length (now (output .entry))) .adjacency ⌝ }
+    ensures { λ _. ⌜ now (output .exit) ≡ completeOutput (stateOf (now (journal .entry)) (now (adjacency .entry))) (now (output .entry)) ⌝ }
+{
+    let verdict = laid_check(journal, adjacency);
     match verdict {
         Verdict::Stop(r) => CompleteAnswer::Refused(r),
-        Verdict::Go => complete_laid(journal, adjacency, output),
+        Verdict::Go => complete_checked(journal, adjacency, output),
     }
 }

@@ -1,39 +1,27 @@
 // What the work on a valid laid state begins with, whichever pairs it joins.
-ghost use mathlib.Core.Path.{_≡_};
-ghost use lib.ListN.{replicate};
-ghost use Rattle.answer.specs.declared.Verdict.the-variants.{Go};
-ghost use Rattle.table.specs.Inner.Cells.{cellsSize};
-ghost use Rattle.state.specs.Checks.{phaseVerdict};
-ghost use Rattle.complete.specs.Inner.Work.{Started};
-use joining::edges_held;
+ghost use Rattle.complete.specs.Inner.Work.{OpenArrays, Started};
+use adjacency::edges_held;
 use layout::MAX_VERTICES;
 use layout::edges_wanted;
 use layout::vertex_count;
-use state::sum_table;
 use table::cells::CELLS;
 use table::class::MAX_CLASSES;
 
-// How many vertices each class has, and how many there are; the degrees that they have so far; and the edges that are missing.
+// How many vertices there are, and how many edges are missing.
 pub struct Start {
-    pub counts: [usize; MAX_CLASSES],
     pub n: usize,
-    pub held: [usize; MAX_VERTICES],
     pub missing: usize,
 }
 
-// The cells of the table, in an array of zeros, and what follows from them and from the matrix.
-pub fn begin(journal: &[u8], adjacency: &[u8], cells: &mut [u32; CELLS]) -> Start
-    requires { ⌜ (phaseVerdict 1 (now journal) (now adjacency) ≡ Go) × (now cells ≡ replicate cellsSize 0) ⌝ }
-    ensures { λ r. ⌜ Started (now (journal .entry)) (now (adjacency .entry)) (now (cells .exit)) r ⌝ }
+pub fn begin(
+    cells: &[u32; CELLS],
+    counts: &[usize; MAX_CLASSES],
+    held: &[usize; MAX_VERTICES],
+) -> Start
+    requires { ⌜ OpenArrays (now cells) (now counts) (now held) ⌝ }
+    ensures { λ r. ⌜ Started (now (cells .entry)) (now (counts .entry)) (now (held .entry)) r ⌝ }
 {
-    let counts = sum_table(journal, cells);
-    let n = vertex_count(cells, &counts);
-    let held = joining::degrees(adjacency, n);
-    let missing = edges_wanted(cells) - edges_held(&held, n);
-    Start {
-        counts,
-        n,
-        held,
-        missing,
-    }
+    let n = vertex_count(cells, counts);
+    let missing = edges_wanted(cells) - edges_held(held, n);
+    Start { n, missing }
 }

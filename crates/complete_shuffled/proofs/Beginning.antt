@@ -47,14 +47,14 @@ module _ {n : ℕ} {cells starts g held : List ℕ} {room : ℕ} (classes : List
   pub begin-countable : Countable n cells starts g
   begin-countable =
       record {
-        sized = p .sound .filling .sized;
+        sized = p .is-valid .filling .sized;
         arranged = p .arranged;
-        simple = p .sound .filling .partial .simple;
-        within = p .sound .filling .partial .within;
+        simple = p .is-valid .filling .partial .simple;
+        within = p .is-valid .filling .partial .within;
       }
 
   pub begin-classed : Classed n classes
-  begin-classed v vn = rw (c v vn) (p .sound .filling .target .classed v vn)
+  begin-classed v vn = rw (c v vn) (p .is-valid .filling .target .classed v vn)
 
   -- the cells are counted, then all rows
   pub begin-shuffling : {have full counts sums : List ℕ} → Counted cellsSize n cells starts g have full
@@ -75,6 +75,6 @@ module _ {n : ℕ} {cells starts g held : List ℕ} {room : ℕ} (classes : List
               behind = λ v h. rw ec (range-else n classes g full v 0 n (replicate side 0) h ∙ getD-zeros side v);
             };
         lows = begin-lows g (p .arranged);
-        sound = p .sound;
+        is-valid = p .is-valid;
         degrees-held = p .degrees-held;
       }

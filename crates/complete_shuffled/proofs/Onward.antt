@@ -15,13 +15,14 @@ use Rattle.adjacency.specs.Adjacency.{side, edge}
 use Rattle.classes.specs.Inner.Block.{classFrom}
 use Rattle.join_records.specs.Record.{joinRecordSize, joinRecord}
 use Rattle.joining.specs.Join.{joinBytes, joinSwitches}
-use Rattle.joining.specs.Inner.Work.{degreesOf, Joinable}
+use Rattle.adjacency.specs.Inner.Degrees.{degreesOf}
+use Rattle.joining.specs.Inner.Work.{Joinable}
 use Rattle.joining.proofs.Untouched.{switches-below}
 use Rattle.open_pairs.specs.Inner.Rows.{Scannable, Summed}
 use Rattle.open_pairs.specs.Inner.Refresh.{Classed, Within}
 use Rattle.complete.specs.Complete.{Ran, joined}
 use Rattle.complete.specs.Inner.Work.{ran, withJoin, Recordable}
-use Rattle.complete.proofs.Sound.{joined-sound, joined-room, join-recordable}
+use Rattle.complete.proofs.ValidRuns.{joined-valid, joined-room, join-recordable}
 use Rattle.complete.proofs.Output.{joined-ran}
 use Rattle.complete_shuffled.specs.Choice.{nextX, pairV, pairW, position, openCount}
 use Rattle.complete_shuffled.specs.Shuffle.{Shuffled, nextShuffled, isShort}
@@ -34,7 +35,7 @@ module _ {n : ℕ} {cells starts classes g have full counts sums low held : List
     (p : Shuffling n cells starts classes g have full counts sums low held (length out) (ran g out (d .totals)))
     (e : isShort n (classFrom starts) (matrixOf cells) (shuffledAt g out d) ≡ true) where
   pub step-some : 0 < openCount n (classFrom starts) (matrixOf cells) g
-  step-some = some-open n (classFrom starts) (matrixOf cells) g (p .sound .filling) e
+  step-some = some-open n (classFrom starts) (matrixOf cells) g (p .is-valid .filling) e
 
   -- v and w: the pair that x picks
   module _ (x v w : ℕ) (ev : v ≡ pairV n (classFrom starts) (matrixOf cells) g (position n (classFrom starts) (matrixOf cells) g x))
@@ -42,7 +43,7 @@ module _ {n : ℕ} {cells starts classes g have full counts sums low held : List
     picks : Picked n (classFrom starts) (matrixOf cells) g (position n (classFrom starts) (matrixOf cells) g x)
     picks =
         picked n (classFrom starts) (matrixOf cells) g (position n (classFrom starts) (matrixOf cells) g x)
-        (position-below n (classFrom starts) (matrixOf cells) g (p .sound .filling) e x)
+        (position-below n (classFrom starts) (matrixOf cells) g (p .is-valid .filling) e x)
 
     pub step-pair : Open n (classFrom starts) (matrixOf cells) (edge g) v w
     step-pair = rw (ew, ev) (passes-open n (classFrom starts) (matrixOf cells) g _ _ (picks .second) (picks .passes))
@@ -51,10 +52,10 @@ module _ {n : ℕ} {cells starts classes g have full counts sums low held : List
     step-rises = rw (ew, ev) (passes-rising n (classFrom starts) (matrixOf cells) g _ _ (picks .passes))
 
     pub step-few : (v < side) × (w < side)
-    step-few = (omega (arith, step-pair .first, p .sound .filling .few), omega (arith, step-pair .second, p .sound .filling .few))
+    step-few = (omega (arith, step-pair .first, p .is-valid .filling .few), omega (arith, step-pair .second, p .is-valid .filling .few))
 
     pub step-joinable : Joinable n (classFrom starts) g v w
-    step-joinable = joinable (p .tracked) (p .sound .filling) v w step-rises step-pair
+    step-joinable = joinable (p .tracked) (p .is-valid .filling) v w step-rises step-pair
 
     -- the classes of both, as the array has them
     pub row-of : {k : ℕ} → k ≡ getD classes v 0 → k ≡ classFrom starts v
@@ -64,10 +65,10 @@ module _ {n : ℕ} {cells starts classes g have full counts sums low held : List
     column-of el = el ∙ p .tracked .classed w (step-pair .second)
 
     step-room : joinRecordSize * d .totals .joins + joinRecordSize ≤ length out
-    step-room = joined-room n (classFrom starts) (matrixOf cells) (length out) (ran g out (d .totals)) (p .sound) v w step-pair
+    step-room = joined-room n (classFrom starts) (matrixOf cells) (length out) (ran g out (d .totals)) (p .is-valid) v w step-pair
 
     pub step-recordable : {s : Switches} → s ≡ joinSwitches n (classFrom starts) g v w → Recordable (length out) (d .totals) v w s
-    step-recordable es = join-recordable out (p .sound) step-room step-joinable es
+    step-recordable es = join-recordable out (p .is-valid) step-room step-joinable es
 
     -- k and l are their classes, g′ the matrix after the join, s its switches
     module _ {k l : ℕ} (ek : k ≡ classFrom starts v) (el : l ≡ classFrom starts w) {g′ : List ℕ}
@@ -76,14 +77,14 @@ module _ {n : ℕ} {cells starts classes g have full counts sums low held : List
       update-asks =
           rw (eg, es, ek, el) (
             (
-              scannable-after (p .tracked) (p .sound .filling) v w step-rises step-pair false,
-              (λ u un. rw (p .tracked .classed u un) (p .sound .filling .target .classed u un)),
+              scannable-after (p .tracked) (p .is-valid .filling) v w step-rises step-pair false,
+              (λ u un. rw (p .tracked .classed u un) (p .is-valid .filling .target .classed u un)),
               switches-below step-joinable,
             ),
             (
-              classes-rise (p .tracked) (p .sound .filling) v w step-rises step-pair,
-              column-class (p .tracked) (p .sound .filling) v w step-rises step-pair,
-              now-within (p .tracked) (p .sound .filling) v w step-rises step-pair,
+              classes-rise (p .tracked) (p .is-valid .filling) v w step-rises step-pair,
+              column-class (p .tracked) (p .is-valid .filling) v w step-rises step-pair,
+              now-within (p .tracked) (p .is-valid .filling) v w step-rises step-pair,
             ),
           )
 
@@ -93,7 +94,7 @@ module _ {n : ℕ} {cells starts classes g have full counts sums low held : List
           → Summed counts′ sums′ → Tracked n cells starts classes g′ have′ full′ counts′ sums′
       step-tracked eh ef ec summed =
           let ec′ = rw (eg, ek, el, es) at ec in
-          rw (eg, eh, ef, ek, el) (tracked-after (p .tracked) (p .sound .filling) v w step-rises step-pair ec′ summed)
+          rw (eg, eh, ef, ek, el) (tracked-after (p .tracked) (p .is-valid .filling) v w step-rises step-pair ec′ summed)
 
       -- the output with the record
       module _ {out′ : List ℕ} (eo : out′ ≡ sets out (joinRecordSize * d .totals .joins) (joinRecord v w s)) where
@@ -131,8 +132,8 @@ module _ {n : ℕ} {cells starts classes g have full counts sums low held : List
             record {
               tracked = step-tracked eh ef ec summed;
               lows = rw eg lows;
-              sound =
+              is-valid =
                   rw step-ran
-                  (joined-sound n (classFrom starts) (matrixOf cells) (length out) (ran g out (d .totals)) (p .sound) v w step-pair);
+                  (joined-valid n (classFrom starts) (matrixOf cells) (length out) (ran g out (d .totals)) (p .is-valid) v w step-pair);
               degrees-held = rw eg ed;
             }

@@ -14,7 +14,8 @@ use Rattle.adjacency.specs.Adjacency.{side}
 use Rattle.classes.specs.Inner.Block.{classFrom}
 use Rattle.classes.proofs.Blocks.{starts-length, start-most}
 use Rattle.joining.specs.Join.{joinBytes}
-use Rattle.joining.specs.Inner.Work.{degreesOf, Joinable, Placed}
+use Rattle.adjacency.specs.Inner.Degrees.{degreesOf}
+use Rattle.joining.specs.Inner.Work.{Joinable, Placed}
 use Rattle.complete.specs.Inner.Work.{Arranged, Saturated}
 use Rattle.complete.proofs.Arranged.{ranged}
 use Rattle.complete.proofs.Step.{low-saturated, saturated-stays}

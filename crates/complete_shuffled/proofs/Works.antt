@@ -11,9 +11,9 @@ use Rattle.answer.specs.declared.Choice.the-variants.{Lowest, Picked as PickedF
 use Rattle.journal.specs.Journal.{jdmOf}
 use Rattle.state.specs.Laid.{vertexCount, classAt}
 use Rattle.complete.specs.Complete.{fresh, mostEdges}
-use Rattle.complete.proofs.Works.{Good, Chooser, finishes-by}
+use Rattle.complete.proofs.Works.{Good, Chooser, completes-by}
 use Rattle.complete.proofs.Records.{records-length}
-use Rattle.complete.proofs.Entry.{CompleteFacts, CompleteWorks, good-start, finished-works, complete-works}
+use Rattle.complete.proofs.Entry.{CompleteFacts, CompleteWorks, good-start, completed-works, complete-works}
 use Rattle.complete_shuffled.specs.Choice.{nextX, stepsX, pairV, pairW, position}
 use Rattle.complete_shuffled.specs.Shuffle.{Shuffled, nextShuffled, isShort, shuffled}
 use Rattle.complete_shuffled.specs.Finish.{outcome}
@@ -55,8 +55,8 @@ module _ (j g : List ℕ) (x : ℕ) where
       let n = vertexCount j in
       let cls = classAt j in
       let start : Shuffled = record { ran = fresh g; x = x } in
-      finished-works j g f (shuffled j g x .ran)
-      (finishes-by n cls (jdmOf j) (shuffled-pair n cls (jdmOf j)) start g refl (good-start j g f .0) (good-start j g f .1))
+      completed-works j g f (shuffled j g x .ran)
+      (completes-by n cls (jdmOf j) (shuffled-pair n cls (jdmOf j)) start g refl (good-start j g f .0) (good-start j g f .1))
       (records-length n cls (jdmOf j) (shuffled-pair n cls (jdmOf j)) mostEdges start refl)
 
   -- the last x

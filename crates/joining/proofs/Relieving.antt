@@ -16,10 +16,11 @@ use Rattle.graph.proofs.Join.{Ready}
 use Rattle.graph.proofs.Resume.{relief-degree}
 use Rattle.graph.proofs.Update.{degree-adds}
 use Rattle.adjacency.specs.Adjacency.{edge, setEdge}
+use Rattle.adjacency.specs.Inner.Degrees.{degreesOf}
 use Rattle.adjacency.proofs.Set.{set-length, set-adds}
 use Rattle.joining.specs.Join.{substituteAt, transferAt, switchAt, neighborSwitch, relieveBytes, inOrder, joinSwitches}
 use Rattle.classes.specs.Inner.Block.{classFrom}
-use Rattle.joining.specs.Inner.Work.{DegreesKept, withEdge, withoutEdge, Unlinkable, Linkable, Joinable, Placed, reliefOf, bothReliefs, cutOff, freed}
+use Rattle.joining.specs.Inner.Work.{withEdge, withoutEdge, Unlinkable, Linkable, Joinable, Placed, reliefOf, bothReliefs, cutOff, freed}
 use Rattle.join_records.specs.Inner.Bytes.{InBytes}
 use Rattle.answer.specs.Switches.{noSwitch, firstSwitch, secondSwitch}
 use Rattle.answer.specs.declared.switches.Switch.{Switch}
@@ -88,7 +89,7 @@ module _ {n : ℕ} {cls : ℕ → ℕ} {g : List ℕ} {a o : ℕ} (j : Joinable 
 
 -- Switching a, step by step, with `held` beside the matrix: what each step asks for, and what it leaves.
 module _ {n : ℕ} {cls : ℕ → ℕ} {g : List ℕ} {a o : ℕ} (j : Joinable n cls g a o) (full : unsaturated n cls classDegree (edge g) a ≡ false)
-    {held : List ℕ} (is : DegreesKept n held g) where
+    {held : List ℕ} (is : held ≡ degreesOf n g) where
   removes : AddsEdge n (edge (setEdge g a (t j) 0)) a (t j) (edge g)
   removes = switch-removes n cls (j .table) g a o (j .sized) (j .few) (j .target) (j .partial) (j .pair) full
 
@@ -101,7 +102,7 @@ module _ {n : ℕ} {cls : ℕ → ℕ} {g : List ℕ} {a o : ℕ} (j : Joinable 
     some-edge (j .few) g is (j .pair .first) (chosen j full .t-vertex) (setEdge g a (t j) 0) (λ e. chosen j full .t-not-a (sym e)) removes,
   )
 
-  unlinked : DegreesKept n (withoutEdge held a (t j)) (setEdge g a (t j) 0)
+  unlinked : withoutEdge held a (t j) ≡ degreesOf n (setEdge g a (t j) 0)
   unlinked = without-edge (j .few) g is (j .pair .first) (chosen j full .t-vertex) (setEdge g a (t j) 0) (λ e. chosen j full .t-not-a (sym e)) removes
 
   -- without a – t every vertex has as many edges as before at most
@@ -124,14 +125,14 @@ module _ {n : ℕ} {cls : ℕ → ℕ} {g : List ℕ} {a o : ℕ} (j : Joinable 
         (fewer (t j) (chosen j full .t-vertex)),
   )
 
-  pub switch-kept : DegreesKept n (withEdge (withoutEdge held a (transferAt n cls g a o)) (substituteAt n cls g a o) (transferAt n cls g a o))
-      (neighborSwitch n cls g a o)
+  pub switch-kept : withEdge (withoutEdge held a (transferAt n cls g a o)) (substituteAt n cls g a o) (transferAt n cls g a o)
+      ≡ degreesOf n (neighborSwitch n cls g a o)
   switch-kept =
       with-edge (j .few) (setEdge g a (t j) 0) unlinked (chosen j full .b-vertex) (chosen j full .t-vertex) (neighborSwitch n cls g a o)
       (λ e. chosen j full .t-not-b (sym e)) (switch-adds n cls (j .table) g a o (j .sized) (j .few) (j .target) (j .partial) (j .pair) full)
 
 -- what adding the edge a – o asks for, and what it leaves
-module _ {n : ℕ} {cls : ℕ → ℕ} {g held : List ℕ} {a o : ℕ} (j : Joinable n cls g a o) (is : DegreesKept n held g) where
+module _ {n : ℕ} {cls : ℕ → ℕ} {g held : List ℕ} {a o : ℕ} (j : Joinable n cls g a o) (is : held ≡ degreesOf n g) where
   pub linkable : degree n (edge g) a < classDegree (cls a) → degree n (edge g) o < classDegree (cls o) → Linkable g held a o
   linkable room-a room-o = (
     j .sized,
@@ -142,7 +143,7 @@ module _ {n : ℕ} {cls : ℕ → ℕ} {g held : List ℕ} {a o : ℕ} (j : Join
         (omega (arith, j .target .classed o (j .pair .second))),
   )
 
-  pub link-kept : DegreesKept n (withEdge held a o) (setEdge g a o 1)
+  pub link-kept : withEdge held a o ≡ degreesOf n (setEdge g a o 1)
   link-kept = with-edge (j .few) g is (j .pair .first) (j .pair .second) (setEdge g a o 1) (j .pair .distinct) (adds j)
 
 -- the vertices of a join's switches are bytes, as what stands for one that was not needed

@@ -12,13 +12,14 @@ use borrow.Author.Tests.{eq-eqb, ne-eqb, lt-ltb, le-ltb}
 use Rattle.finite.specs.Range.{lowest}
 use Rattle.finite.proofs.All.{and-false}
 use Rattle.finite.proofs.Lowest.{lowest-skip, lowest-cong, lowest-ge, lowest-holds, lowest-before, lowest-only, lowest-none, lowest-here, lowest-end}
-use Rattle.graph.specs.Graph.{degree}
 use Rattle.graph.specs.Switch.{unsaturated, canSubstitute, orElse}
 use Rattle.graph.specs.Tests.{mostClasses, classDegree}
 use Rattle.adjacency.specs.Adjacency.{edge}
+use Rattle.adjacency.specs.Inner.Degrees.{degreesOf}
+use Rattle.adjacency.proofs.Degrees.{held-is}
 use Rattle.joining.specs.Join.{substituteAt}
 use Rattle.classes.specs.Inner.Block.{classFrom}
-use Rattle.joining.specs.Inner.Work.{Joinable, Placed, canStandIn}
+use Rattle.joining.specs.Inner.Work.{Joinable, Placed, canStandIn, substituteIn}
 use Rattle.joining.specs.declared.End.{End}
 use Rattle.classes.proofs.Blocks.{start-most, class-inside, class-only}
 
@@ -83,13 +84,13 @@ module _ {n : ℕ} {starts g : List ℕ} {a : End} {o : ℕ} (j : Joinable n (cl
   behind i l m = other-class i (λ e. omega (arith, class-only (p .numbered) (a .class) i class-below m e))
 
   -- `held`: the edges of each vertex, as the code has them
-  module _ (held : ℕ → ℕ) (counts : (i : ℕ) → i < n → held i ≡ degree n (edge g) i) where
+  module _ {held : List ℕ} (is : held ≡ degreesOf n g) where
     inside : (i : ℕ) → a .low ≤ i → i < to → canStandIn held (classDegree (a .class)) o i ≡ canSubstitute n cls classDegree (edge g) (a .at) o i
     inside i f t =
         let e = class-inside (p .numbered) (a .class) i class-below (omega (arith, p .after)) t in
-        rw (eq-eqb (cls i) (cls (a .at)) (e ∙ p .class), e, counts i (omega (arith, end-within)))
+        rw (eq-eqb (cls i) (cls (a .at)) (e ∙ p .class), e, held-is n (j .few) g is i (omega (arith, end-within)))
 
-    pub substitute-in : orElse to o (lowest (a .low) to (canStandIn held (classDegree (a .class)) o)) ≡ substituteAt n cls g (a .at) o
+    pub substitute-in : substituteIn held starts a o ≡ substituteAt n cls g (a .at) o
     substitute-in =
         ap (orElse to o) (lowest-cong (a .low) to (canStandIn held (classDegree (a .class)) o) (canSubstitute n cls classDegree (edge g) (a .at) o) inside)
         ∙ else-cut (a .low) to n o (canSubstitute n cls classDegree (edge g) (a .at) o) (p .before) end-within behind
@@ -98,11 +99,11 @@ module _ {n : ℕ} {starts g : List ℕ} {a : End} {o : ℕ} (j : Joinable n (cl
         (λ i z l. before i l)))
 
     -- whether a is saturated
-    saturated-in : ltb (held (a .at)) (classDegree (a .class)) ≡ unsaturated n cls classDegree (edge g) (a .at)
-    saturated-in = rw (counts (a .at) (j .pair .first), p .class)
+    saturated-in : ltb (getD held (a .at) 0) (classDegree (a .class)) ≡ unsaturated n cls classDegree (edge g) (a .at)
+    saturated-in = rw (held-is n (j .few) g is (a .at) (j .pair .first), p .class)
 
-    pub room-in : held (a .at) < classDegree (a .class) → unsaturated n cls classDegree (edge g) (a .at) ≡ true
-    room-in l = sym saturated-in ∙ lt-ltb (held (a .at)) (classDegree (a .class)) l
+    pub room-in : getD held (a .at) 0 < classDegree (a .class) → unsaturated n cls classDegree (edge g) (a .at) ≡ true
+    room-in l = sym saturated-in ∙ lt-ltb (getD held (a .at) 0) (classDegree (a .class)) l
 
-    pub full-in : classDegree (a .class) ≤ held (a .at) → unsaturated n cls classDegree (edge g) (a .at) ≡ false
-    full-in l = sym saturated-in ∙ le-ltb (held (a .at)) (classDegree (a .class)) l
+    pub full-in : classDegree (a .class) ≤ getD held (a .at) 0 → unsaturated n cls classDegree (edge g) (a .at) ≡ false
+    full-in l = sym saturated-in ∙ le-ltb (getD held (a .at) 0) (classDegree (a .class)) l

@@ -1,24 +1,24 @@
 // The neighbour switch, its two searches, and the edges that it moves. Beside the matrix `held` has the degrees that the vertices
-// have so far; where it is empty they are counted when they are asked for.
+// have so far.
 ghost use mathlib.Core.Path.{_≡_};
 ghost use mathlib.Core.Bool.{false};
 ghost use Prim.Native.Nat.{ℕ, _+_, _*_, _≤_, _<_};
 ghost use lib.Dec.{leb};
-ghost use lib.ListN.{length};
+ghost use lib.ListN.{length, getD};
 ghost use Rattle.finite.specs.Range.{allTo};
-ghost use Rattle.graph.specs.Graph.{degree};
 ghost use Rattle.graph.specs.Switch.{unsaturated, canTransfer, transfer};
 ghost use Rattle.adjacency.specs.Adjacency.{adjacencySize, side, edge, setEdge};
+ghost use Rattle.adjacency.specs.Inner.Degrees.{degreesOf};
 ghost use Rattle.classes.specs.Inner.Block.{classFrom};
-ghost use Rattle.joining.specs.Join.{substituteAt, neighborSwitch, switchAt};
-ghost use Rattle.joining.specs.Inner.Work.{lanes, DegreesKept, withEdge, withoutEdge, Unlinkable, Linkable, Joinable, Placed, canStandIn};
-ghost use Rattle.graph.specs.Tests.{classDegree};
+ghost use Rattle.joining.specs.Join.{neighborSwitch, switchAt};
+ghost use Rattle.joining.specs.Inner.Work.{lanes, withEdge, withoutEdge, Unlinkable, Linkable, Joinable, Placed, canStandIn, substituteIn};
+ghost use Rattle.graph.specs.Tests.{mostClasses, classDegree};
 use crate::End;
 use adjacency::SIDE;
-use adjacency::degree_of;
 use adjacency::set_edge;
 use answer::switches::Switch;
 use classes::STARTS;
+use layout::MAX_VERTICES;
 use table::class::class_degree;
 
 // How many bytes of a row are tested at once.
@@ -27,66 +27,46 @@ const LANES: usize = 16;
 // Document 001's NeighborSwitch, line by line: its w, w′ and t are a, b and t here.
 pub fn neighbor_switch(
     adjacency: &mut [u8],
-    held: &mut [usize],
+    held: &mut [usize; MAX_VERTICES],
     starts: &[usize; STARTS],
     n: usize,
     a: End,
     other: usize,
 ) -> Switch
-    requires { ⌜ Joinable n (classFrom (now starts)) (now adjacency) (a .at) other × Placed n (now starts) (now adjacency) a other × DegreesKept n (now held) (now adjacency) × (unsaturated n (classFrom (now starts)) classDegree (edge (now adjacency)) (a .at) ≡ false) ⌝ }
+    requires { ⌜ Joinable n (classFrom (now starts)) (now adjacency) (a .at) other × Placed n (now starts) (now adjacency) a other × (now held ≡ degreesOf n (now adjacency)) × (unsaturated n (classFrom (now starts)) classDegree (edge (now adjacency)) (a .at) ≡ false) ⌝ }
     ensures { λ r. ⌜ r ≡ switchAt n (classFrom (now (starts .entry))) (now (adjacency .entry)) (a .at) other ⌝ }
     ensures { λ _. ⌜ now (adjacency .exit) ≡ neighborSwitch n (classFrom (now (starts .entry))) (now (adjacency .entry)) (a .at) other ⌝ }
-    ensures { λ _. ⌜ DegreesKept n (now (held .exit)) (neighborSwitch n (classFrom (now (starts .entry))) (now (adjacency .entry)) (a .at) other) ⌝ }
+    ensures { λ _. ⌜ now (held .exit) ≡ degreesOf n (neighborSwitch n (classFrom (now (starts .entry))) (now (adjacency .entry)) (a .at) other) ⌝ }
 {
-    let b = choose_substitute(adjacency, held, starts, n, a, other); // 1
+    let b = choose_substitute(held, starts, a, other); // 1
     let t = choose_transfer(adjacency, n, a.at, b); // 2
     unlink(adjacency, held, a.at, t); // 3
     link(adjacency, held, b, t); // 4
     Switch { a: a.at, b, t }
 }
 
-// How many edges v has.
-pub fn degree_at(adjacency: &[u8], held: &[usize], n: usize, v: usize) -> usize
-    requires { ⌜ (length (now adjacency) ≡ adjacencySize) × (n ≤ side) × (v < n) × DegreesKept n (now held) (now adjacency) ⌝ }
-    ensures { λ r. ⌜ r ≡ degree n (edge (now (adjacency .entry))) v ⌝ }
+fn can_stand_in(held: &[usize; MAX_VERTICES], class: usize, other: usize, b: usize) -> bool
+    requires { ⌜ b < side ⌝ }
+    ensures { λ r. ⌜ r ≡ canStandIn (now (held .entry)) (classDegree class) other b ⌝ }
 {
-    if held.len() > 0 {
-        return held[v];
-    }
-    degree_of(adjacency, n, v)
-}
-
-fn can_stand_in(
-    adjacency: &[u8],
-    held: &[usize],
-    n: usize,
-    class: usize,
-    other: usize,
-    b: usize,
-) -> bool
-    requires { ⌜ (length (now adjacency) ≡ adjacencySize) × (n ≤ side) × (b < n) × DegreesKept n (now held) (now adjacency) ⌝ }
-    ensures { λ r. ⌜ r ≡ canStandIn (degree n (edge (now (adjacency .entry)))) (classDegree class) other b ⌝ }
-{
-    (degree_at(adjacency, held, n, b) < class_degree(class)) & (b != other)
+    (held[b] < class_degree(class)) & (b != other)
 }
 
 // Document 01's b: the lowest vertex that can stand in for a; else the other named one.
 fn choose_substitute(
-    adjacency: &[u8],
-    held: &[usize],
+    held: &[usize; MAX_VERTICES],
     starts: &[usize; STARTS],
-    n: usize,
     a: End,
     other: usize,
 ) -> usize
-    requires { ⌜ Joinable n (classFrom (now starts)) (now adjacency) (a .at) other × Placed n (now starts) (now adjacency) a other × DegreesKept n (now held) (now adjacency) ⌝ }
-    ensures { λ r. ⌜ r ≡ substituteAt n (classFrom (now (starts .entry))) (now (adjacency .entry)) (a .at) other ⌝ }
+    requires { ⌜ (a .class < mostClasses) × (getD (now starts) (a .class + 1) 0 ≤ side) ⌝ }
+    ensures { λ r. ⌜ r ≡ substituteIn (now (held .entry)) (now (starts .entry)) a other ⌝ }
 {
     let class = a.class;
     let to = starts[class + 1];
     let mut b = a.low;
     while b < to {
-        if can_stand_in(adjacency, held, n, class, other, b) {
+        if can_stand_in(held, class, other, b) {
             return b;
         }
         b += 1;
@@ -146,28 +126,24 @@ fn choose_transfer(adjacency: &[u8], n: usize, a: usize, b: usize) -> usize
 }
 
 // The edge v – w removed.
-fn unlink(adjacency: &mut [u8], held: &mut [usize], v: usize, w: usize)
+fn unlink(adjacency: &mut [u8], held: &mut [usize; MAX_VERTICES], v: usize, w: usize)
     requires { ⌜ Unlinkable (now adjacency) (now held) v w ⌝ }
     ensures { λ _. ⌜ now (adjacency .exit) ≡ setEdge (now (adjacency .entry)) v w 0 ⌝ }
     ensures { λ _. ⌜ now (held .exit) ≡ withoutEdge (now (held .entry)) v w ⌝ }
 {
     set_edge(adjacency, v, w, 0);
-    if held.len() > 0 {
-        held[v] -= 1;
-        held[w] -= 1;
-    }
+    held[v] -= 1;
+    held[w] -= 1;
 }
 
 // The edge v – w added.
-pub fn link(adjacency: &mut [u8], held: &mut [usize], v: usize, w: usize)
+pub fn link(adjacency: &mut [u8], held: &mut [usize; MAX_VERTICES], v: usize, w: usize)
     requires { ⌜ Linkable (now adjacency) (now held) v w ⌝ }
     ensures { λ _. ⌜ now (adjacency .exit) ≡ setEdge (now (adjacency .entry)) v w 1 ⌝ }
     ensures { λ _. ⌜ now (held .exit) ≡ withEdge (now (held .entry)) v w ⌝ }
 {
     set_edge(adjacency, v, w, 1);
     // w first: `unlink` writes it last, so that a switch, where w is t, takes fewer instructions.
-    if held.len() > 0 {
-        held[w] += 1;
-        held[v] += 1;
-    }
+    held[w] += 1;
+    held[v] += 1;
 }

@@ -4,62 +4,61 @@ use mathlib.Core.Path.{refl, ap}
 use native.Mathlib.Omega.{arith}
 use borrow.Author.Needs.{needs}
 use Rattle.answer.specs.declared.CompleteAnswer.the-variants.{Refused}
+use Rattle.state.specs.State.{stateOf}
 use Rattle.complete.specs.Complete.{completed}
-use Rattle.complete.proofs.Whole.{total-few, working-start, working-end, joins-few, work-done}
-use Rattle.complete.proofs.Entry.{phase-complete, complete-works, laid-short}
+use Rattle.complete.proofs.Whole.{total-few, lacks-missing, lacks-few, working-start, working-end, joins-few, work-done}
+use Rattle.complete.proofs.Entry.{phase-complete, complete-works, short-refused}
 use Rattle.complete.proofs.complete_laid.Statement.{statement}
 use Rattle.complete.proofs.complete_laid.Tie as tie
 
 pub complete-laid-spec : {M : Type 1} → statement M
 complete-laid-spec =
     tie.close (tie.spec
-    (λ c κs. (c .before .before .before .before .before .pre, refl))  -- begin-requires
-    (λ c. omega (arith, c .before .begin .ensures .few))  -- mul-if1
+    (λ c κs.
+    let f = c .before .before .before .before in
+    record { state = stateOf (f .args .journal .now) (f .args .adjacency .now); passed = f .pre .0; opened = f .pre .1 })  -- begin-requires
+    (λ c.
+    let b = c .before in
+    let f = b .before .before .before .before .before in
+    omega (arith, lacks-few (stateOf (f .args .journal .now) (f .args .adjacency .now)) (f .pre .0) (f .pre .1) (b .begin .ensures)))  -- mul-if1
     (λ c κs. tt)  -- refuse-requires
-    (λ c. search needs)  -- same-length
     (λ c.
     let i = c .before in
     let b = i .before .before in
-    let a = b .before .before .before .before .before .before .args in
-    let short = rw (b .begin .ensures .lacks) at (i .if1 .taken) in
-    rw (laid-short (a .journal .now) (a .adjacency .now) (completed (a .journal .now) (a .adjacency .now)) _ short)
-    (ap Refused (c .refuse .ensures), (refl, refl)))  -- returns
+    let f = b .before .before .before .before .before in
+    let s = stateOf (f .args .journal .now) (f .args .adjacency .now) in
+    let short = rw (lacks-missing s (f .pre .0) (f .pre .1) (b .begin .ensures)) at (i .if1 .taken) in
+    rw (short-refused s (completed s) _ (phase-complete s (f .pre .0)) short) (ap Refused (c .refuse .ensures), (refl, refl)))  -- returns
     (λ c κs.
-    let b = c .before .before .before .before in
-    let f = b .before .before .before .before .before .before in
-    let s = b .begin .ensures in
-    total-few (f .args .journal .now) (f .args .adjacency .now) _ _ (f .pre) (s .counted) (s .said))  -- starts-requires
+    let f = c .before .before .before .before .before .before .before in
+    total-few (stateOf (f .args .journal .now) (f .args .adjacency .now)) (f .pre .0) (f .pre .1))  -- starts-requires
     (λ c κs.
-    let t = c .before .before .before .before .before .before in
-    let i = t .before .before .before in
+    let t = c .before .before .before .before in
+    let i = t .before in
     let b = i .before .before in
-    let f = b .before .before .before .before .before .before in
-    let s = b .begin .ensures in
-    working-start (f .args .journal .now) (f .args .adjacency .now) _ _ (f .pre) (s .counted) (s .said)
-    _ _ _ (s .total) (t .starts .ensures) (s .degrees-held) _ (rw (s .lacks) at (i .if1 .left)))  -- complete-rows-requires
+    let f = b .before .before .before .before .before in
+    let s = stateOf (f .args .journal .now) (f .args .adjacency .now) in
+    let fits = rw (lacks-missing s (f .pre .0) (f .pre .1) (b .begin .ensures)) at (i .if1 .left) in
+    working-start s (f .pre .0) (f .pre .1) (b .begin .ensures .total) (t .starts .ensures) _ fits)  -- fill-all-requires
     (λ c.
     let r = c .before .before .before .before .before in
-    let t = r .before .before .before .before .before .before .before in
-    let b = t .before .before .before .before .before in
-    let f = b .before .before .before .before .before .before in
-    let a = f .args in
-    let s = b .begin .ensures in
-    let facts = phase-complete (a .journal .now) (a .adjacency .now) (f .pre) in
-    let end = working-end (a .journal .now) (a .adjacency .now) _ _ (f .pre) (s .counted) (s .said)
-    _ _ _ (s .total) (t .starts .ensures) (s .degrees-held) _ (r .complete-rows .ensures .0) in
-    omega (arith, joins-few (a .journal .now) (a .adjacency .now) (complete-works (a .journal .now) (a .adjacency .now) facts) end facts))  -- mul-t14
+    let t = r .before .before .before .before .before in
+    let b = t .before .before .before in
+    let f = b .before .before .before .before .before in
+    let s = stateOf (f .args .journal .now) (f .args .adjacency .now) in
+    let facts = phase-complete s (f .pre .0) in
+    let end = working-end s (f .pre .0) (f .pre .1) (b .begin .ensures .total) (t .starts .ensures) _ (r .fill-all .ensures .0) in
+    omega (arith, joins-few s facts (complete-works s facts) end))  -- mul-t12
+    (λ c. search needs)  -- same-length
     (λ c. search needs)  -- same-length-2
-    (λ c. search needs)  -- same-length-3
     (λ c.
     let r = c .before .before .before .before .before in
-    let t = r .before .before .before .before .before .before .before in
-    let i = t .before .before .before in
+    let t = r .before .before .before .before .before in
+    let i = t .before in
     let b = i .before .before in
-    let f = b .before .before .before .before .before .before in
-    let a = f .args in
-    let s = b .begin .ensures in
-    let facts = phase-complete (a .journal .now) (a .adjacency .now) (f .pre) in
-    let end = working-end (a .journal .now) (a .adjacency .now) _ _ (f .pre) (s .counted) (s .said)
-    _ _ _ (s .total) (t .starts .ensures) (s .degrees-held) _ (r .complete-rows .ensures .0) in
-    work-done (a .journal .now) (a .adjacency .now) (complete-works (a .journal .now) (a .adjacency .now) facts) end (a .output .now) _
-    (rw (s .lacks) at (i .if1 .left)) (r .complete-rows .ensures .1) refl))  -- returns-2
+    let f = b .before .before .before .before .before in
+    let s = stateOf (f .args .journal .now) (f .args .adjacency .now) in
+    let facts = phase-complete s (f .pre .0) in
+    let end = working-end s (f .pre .0) (f .pre .1) (b .begin .ensures .total) (t .starts .ensures) _ (r .fill-all .ensures .0) in
+    let fits = rw (lacks-missing s (f .pre .0) (f .pre .1) (b .begin .ensures)) at (i .if1 .left) in
+    work-done s facts (complete-works s facts) end (f .args .output .now) _ fits (r .fill-all .ensures .1) refl))  -- returns-2

@@ -3,8 +3,10 @@
 use mathlib.Core.Path.{_≡_}
 use mathlib.Core.Bool.{false}
 use mathlib.Core.List.{List}
-use Prim.Native.Nat.{ℕ, _+_, _*_, _≤_, _<_}
+use Prim.Native.Nat.{ℕ, _+_, _-_, _*_, _/_, _≤_, _<_}
 use lib.ListN.{length, getD, take, drop}
+use Rattle.finite.specs.Range.{sumTo}
+use Rattle.answer.specs.declared.Verdict.the-variants.{Go}
 use Rattle.answer.specs.Switches.{switchCount, firstSwitch, secondSwitch}
 use Rattle.answer.specs.declared.switches.Switches.{Switches}
 use Rattle.graph.specs.Graph.{jdm, edges}
@@ -12,15 +14,17 @@ use Rattle.graph.specs.Switch.{unsaturated}
 use Rattle.graph.specs.Tests.{mostClasses, vertices, classDegree}
 use Rattle.graph.specs.Theorems.{allCells}
 use Rattle.adjacency.specs.Adjacency.{edge}
-use Rattle.table.specs.Inner.Cells.{matrixOf, AtMost, cellSumMost}
-use Rattle.layout.specs.Layout.{mostVertices}
-use Rattle.layout.specs.Inner.Arrays.{countIn, tableIn, Counts}
-use Rattle.journal.specs.Journal.{tableOf}
-use Rattle.joining.specs.Inner.Work.{degreesOf}
+use Rattle.table.specs.Inner.Cells.{matrixOf}
+use Rattle.layout.specs.Layout.{mostVertices, wanted}
+use Rattle.layout.specs.Inner.Arrays.{countIn, tableIn}
+use Rattle.state.specs.State.{State}
+use Rattle.state.specs.Checks.{phaseVerdict}
+use Rattle.state.specs.Inner.Opened.{Opened}
+use Rattle.adjacency.specs.Inner.Degrees.{degreesOf}
 use Rattle.classes.specs.Inner.Block.{Numbered, classFrom, blockSum, BlockOf}
 use Rattle.join_records.specs.Record.{joinRecordSize}
 use Rattle.join_records.specs.Inner.Bytes.{InBytes}
-use Rattle.complete.specs.Complete.{Ran, mostEdges, missing as missingEdges}
+use Rattle.complete.specs.Complete.{Ran, mostEdges}
 use Rattle.complete.specs.Inner.Cellwise.{cellMissing, Filling}
 use Rattle.complete.specs.Inner.Cursor.{RowsDone, ColumnsDone}
 use Rattle.complete.specs.Inner.Search.{Ranged}
@@ -53,7 +57,7 @@ pub record Recordable (room : ℕ) (t : Totals) (v w : ℕ) (s : Switches) : Typ
   pub bytes : InBytes (firstSwitch s) × InBytes (secondSwitch s)
 
 -- a partial graph, with totals that its edges bound; an output of `room` bytes has room for the records made and those of the edges that are missing
-pub record Sound (n : ℕ) (cls : ℕ → ℕ) (T : ℕ → ℕ → ℕ) (room : ℕ) (s : Ran) : Type 0 where
+pub record ValidRun (n : ℕ) (cls : ℕ → ℕ) (T : ℕ → ℕ → ℕ) (room : ℕ) (s : Ran) : Type 0 where
   pub filling : Filling n cls T (s .adjacency)
   pub joins-le : s .joins ≤ edges n (edge (s .adjacency))
   pub switches-le : s .switches ≤ 2 * s .joins
@@ -79,7 +83,7 @@ pub record Resumes (n : ℕ) (cls : ℕ → ℕ) (g : List ℕ) (c : Cell) (u : 
 -- m joins may be made in the cell: it misses as many
 pub record Fillable (n : ℕ) (cls : ℕ → ℕ) (c : Cell) (m room : ℕ) (s : Ran) (held : List ℕ) : Type 0 where
   pub table : ℕ → ℕ → ℕ
-  pub sound : Sound n cls table room s
+  pub is-valid : ValidRun n cls table room s
   pub missing : m ≤ cellMissing n cls table (s .adjacency) (c .k) (c .l)
   pub ranged : Ranged n cls c
   pub degrees-held : held ≡ degreesOf n (s .adjacency)
@@ -87,7 +91,7 @@ pub record Fillable (n : ℕ) (cls : ℕ → ℕ) (c : Cell) (m room : ℕ) (s :
 -- one join may be made in the cell: it is short
 pub record Steppable (n : ℕ) (cls : ℕ → ℕ) (c : Cell) (u : Cursor) (room : ℕ) (s : Ran) (held : List ℕ) : Type 0 where
   pub table : ℕ → ℕ → ℕ
-  pub sound : Sound n cls table room s
+  pub is-valid : ValidRun n cls table room s
   pub short : jdm n cls (edge (s .adjacency)) (c .k) (c .l) < table (c .k) (c .l)
   pub ranged : Ranged n cls c
   pub resumes : Resumes n cls (s .adjacency) c u
@@ -116,7 +120,7 @@ pub record Arranged (n : ℕ) (starts : List ℕ) : Type 0 where
 -- these, and beside them a partial graph of the table with its degrees
 pub record Working (n : ℕ) (cells starts held : List ℕ) (room : ℕ) (s : Ran) : Type 0 where
   pub arranged : Arranged n starts
-  pub sound : Sound n (classFrom starts) (matrixOf cells) room s
+  pub is-valid : ValidRun n (classFrom starts) (matrixOf cells) room s
   pub degrees-held : held ≡ degreesOf n (s .adjacency)
 
 -- what a cell misses can be counted: its ranges are ranges of vertices, and it does not hold more than the table
@@ -126,12 +130,13 @@ pub record Countable (g cells : List ℕ) (c : Cell) : Type 0 where
   pub block : BlockOf g (c .rows .from) (c .rows .to) (c .columns .from) (c .columns .to)
   pub within : blockSum (edge g) (c .rows .from) (c .rows .to) (c .columns .from) (c .columns .to) ≤ matrixOf cells (c .k) (c .l)
 
--- what the work on a valid laid state begins with: the cells are those of the journal's table, and the rest is what they and the matrix say
-pub record Started (j g cells : List ℕ) (s : Start) : Type 0 where
-  pub said : tableIn cells (countIn (s .counts) 0) ≡ tableOf j
-  pub most : AtMost cellSumMost cells
-  pub counted : Counts cells (s .counts)
-  pub total : s .n ≡ vertices (tableIn cells (countIn (s .counts) 0))
-  pub degrees-held : s .held ≡ degreesOf (s .n) g
-  pub lacks : s .missing ≡ missingEdges j g
-  pub few : s .missing ≤ mostEdges
+-- the arrays of a valid laid state
+pub record OpenArrays (cells counts held : List ℕ) : Type 0 where
+  pub state : State
+  pub passed : phaseVerdict 1 state ≡ Go
+  pub opened : Opened state cells counts held
+
+-- what the work begins with, as the arrays say
+pub record Started (cells counts held : List ℕ) (b : Start) : Type 0 where
+  pub total : b .n ≡ vertices (tableIn cells (countIn counts 0))
+  pub lacks : b .missing ≡ wanted (matrixOf cells) - sumTo (b .n) (λ v. getD held v 0) / 2

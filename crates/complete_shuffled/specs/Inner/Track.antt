@@ -15,11 +15,11 @@ use Rattle.table.specs.Inner.Cells.{cellsSize, matrixOf}
 use Rattle.layout.specs.Layout.{wanted}
 use Rattle.adjacency.specs.Adjacency.{adjacencySize, side, edge}
 use Rattle.classes.specs.Inner.Block.{classFrom}
-use Rattle.joining.specs.Inner.Work.{degreesOf}
+use Rattle.adjacency.specs.Inner.Degrees.{degreesOf}
 use Rattle.open_pairs.specs.Inner.Rows.{freeTo, Scannable, Summed}
 use Rattle.open_pairs.specs.Inner.Refresh.{refreshRow, refreshRange, refreshSwitches, markFull}
 use Rattle.complete.specs.Complete.{Ran, fresh, mostEdges}
-use Rattle.complete.specs.Inner.Work.{Arranged, Saturated, Sound, ran}
+use Rattle.complete.specs.Inner.Work.{Arranged, Saturated, ValidRun, ran}
 use Rattle.complete_shuffled.specs.Shuffle.{Shuffled}
 use Rattle.complete_shuffled.specs.declared.step.Shuffle.{Shuffle}
 
@@ -98,7 +98,7 @@ shuffledAt g out d = record { ran = ran g out (d .totals); x = d .x }
 pub record Shuffling (n : ℕ) (cells starts classes g have full counts sums low held : List ℕ) (room : ℕ) (s : Ran) : Type 0 where
   pub tracked : Tracked n cells starts classes g have full counts sums
   pub lows : Lows n starts g low
-  pub sound : Sound n (classFrom starts) (matrixOf cells) room s
+  pub is-valid : ValidRun n (classFrom starts) (matrixOf cells) room s
   pub degrees-held : held ≡ degreesOf n g
 
 -- the search for an unsaturated vertex of class k goes on from where it was

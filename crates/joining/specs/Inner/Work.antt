@@ -6,11 +6,10 @@ use mathlib.Core.List.{List}
 use mathlib.Core.Logic.{_≢_}
 use Prim.Native.Nat.{ℕ, _+_, _-_, _≤_, _<_}
 use lib.Dec.{eqb, ltb}
-use lib.ListN.{length, getD, set, replicate}
-use Rattle.finite.specs.Inner.Fill.{fillTo}
-use Rattle.graph.specs.Graph.{degree}
+use lib.ListN.{length, getD, set}
+use Rattle.finite.specs.Range.{lowest}
 use Rattle.graph.specs.Target.{Target, Partial, Open}
-use Rattle.graph.specs.Switch.{unsaturated}
+use Rattle.graph.specs.Switch.{unsaturated, orElse}
 use Rattle.graph.specs.Tests.{mostDegree, mostClasses, classDegree}
 use Rattle.layout.specs.Layout.{mostVertices}
 use Rattle.adjacency.specs.Adjacency.{adjacencySize, side, edge}
@@ -27,14 +26,6 @@ use Rattle.joining.specs.declared.Relief.the-variants.{Room, Switched}
 abbrev pub lanes : ℕ
 lanes = 16
 
--- the degrees of the n vertices, in an array of 200 with zeros behind them
-abbrev pub degreesOf : ℕ → List ℕ → List ℕ
-degreesOf n g = fillTo n (degree n (edge g)) (replicate mostVertices 0)
-
--- what stands beside the matrix: the degrees of the n vertices, or nothing
-abbrev pub DegreesKept : ℕ → List ℕ → List ℕ → Type 0
-DegreesKept n held g = 0 < length held → held ≡ degreesOf n g
-
 -- the degrees after the edge v – w was added, or removed
 abbrev pub withEdge : List ℕ → ℕ → ℕ → List ℕ
 withEdge held v w = set (set held w (getD held w 0 + 1)) v (getD held v 0 + 1)
@@ -42,16 +33,14 @@ withEdge held v w = set (set held w (getD held w 0 + 1)) v (getD held v 0 + 1)
 abbrev pub withoutEdge : List ℕ → ℕ → ℕ → List ℕ
 withoutEdge held v w = set (set held v (getD held v 0 - 1)) w (getD held w 0 - 1)
 
--- the edge v – w may be removed, or added: there are bytes for it and, where degrees stand beside the matrix, one to take away, or room
+-- the edge v – w may be removed, or added: there are bytes for it, and one to take away from either degree, or room
 abbrev pub Unlinkable : List ℕ → List ℕ → ℕ → ℕ → Type 0
 Unlinkable g held v w =
-    (length g ≡ adjacencySize) × (v < side) × (w < side) × (v ≢ w)
-    × (0 < length held → (length held ≡ side) × (0 < getD held v 0) × (0 < getD held w 0))
+    (length g ≡ adjacencySize) × (v < side) × (w < side) × (v ≢ w) × ((0 < getD held v 0) × (0 < getD held w 0))
 
 abbrev pub Linkable : List ℕ → List ℕ → ℕ → ℕ → Type 0
 Linkable g held v w =
-    (length g ≡ adjacencySize) × (v < side) × (w < side) × (v ≢ w)
-    × (0 < length held → (length held ≡ side) × (getD held v 0 ≤ mostDegree) × (getD held w 0 ≤ mostDegree))
+    (length g ≡ adjacencySize) × (v < side) × (w < side) × (v ≢ w) × ((getD held v 0 ≤ mostDegree) × (getD held w 0 ≤ mostDegree))
 
 -- v and w may be joined: g is a partial graph of some table, and the pair is open
 pub record Joinable (n : ℕ) (cls : ℕ → ℕ) (g : List ℕ) (v w : ℕ) : Type 0 where
@@ -70,9 +59,15 @@ pub record Placed (n : ℕ) (starts g : List ℕ) (a : End) (other : ℕ) : Type
   pub before : a .low ≤ getD starts (a .class + 1) 0
   pub saturated : (i : ℕ) → i < a .low → classFrom starts i ≡ a .class → (i ≡ other → ⊥) → unsaturated n (classFrom starts) classDegree (edge g) i ≡ false
 
--- b, of a class with degree k, may stand in for a vertex of it; `held` says how many edges each has
-abbrev pub canStandIn : (ℕ → ℕ) → ℕ → ℕ → ℕ → Bool
-canStandIn held k other b = ltb (held b) k && not (eqb b other)
+-- b, of a class with degree k, may stand in for a vertex of it; `held` has the edges of each
+abbrev pub canStandIn : List ℕ → ℕ → ℕ → ℕ → Bool
+canStandIn held k other b = ltb (getD held b 0) k && not (eqb b other)
+
+-- the lowest vertex of a's class from `low` on that may stand in for a; `other` where there is none
+abbrev pub substituteIn : List ℕ → List ℕ → End → ℕ → ℕ
+substituteIn held starts a other =
+    orElse (getD starts (a .class + 1) 0) other
+    (lowest (a .low) (getD starts (a .class + 1) 0) (canStandIn held (classDegree (a .class)) other))
 
 -- what making room at a takes: nothing, or a switch
 abbrev pub reliefOf : ℕ → (ℕ → ℕ) → List ℕ → ℕ → ℕ → Relief

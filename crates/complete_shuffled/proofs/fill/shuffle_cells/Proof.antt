@@ -62,7 +62,7 @@ shuffle-cells-spec =
     let s = i .1 in (
       s,
       still-short (f .args .n) (classFrom (f .args .starts .now)) (matrixOf (f .args .cells .now)) (shuffledAt (l .loop .adjacency) (l .loop .output) (l .loop .done))
-          (s .sound .filling) (omega (arith, i .3, f .pre .2 .0, t .loop-test .taken)),
+          (s .is-valid .filling) (omega (arith, i .3, f .pre .2 .0, t .loop-test .taken)),
     ))  -- shuffle-step-requires
     (λ c.
     let t = c .before .before .before .before .before .before .before .before .before .before .before .before .before .before in
@@ -77,9 +77,9 @@ shuffle-cells-spec =
     let a = f .args in
     let i = l .loop .inv in
     let was = shuffledAt (l .loop .adjacency) (l .loop .output) (l .loop .done) in
-    let short = still-short (a .n) (classFrom (a .starts .now)) (matrixOf (a .cells .now)) was (i .1 .sound .filling)
+    let short = still-short (a .n) (classFrom (a .starts .now)) (matrixOf (a .cells .now)) was (i .1 .is-valid .filling)
     (omega (arith, i .3, f .pre .2 .0, t .loop-test .taken)) in
-    let one = next-more (a .n) (classFrom (a .starts .now)) (matrixOf (a .cells .now)) was (i .1 .sound .filling) short in
+    let one = next-more (a .n) (classFrom (a .starts .now)) (matrixOf (a .cells .now)) was (i .1 .is-valid .filling) short in
     let made = u .shuffle-step .ensures in (
       omega (arith, t .loop-test .taken),
       rw (made .1 .0 .sized) (made .1 .1),
@@ -91,7 +91,7 @@ shuffle-cells-spec =
     (λ c.
     let l = c .before in
     let f = l .before .before .before .before .before .before .before .before .before .before .before .before .before .before in
-    l .loop .inv .1 .sound .filling .sized ∙ sym (f .pre .0 .sound .filling .sized))  -- same-length
+    l .loop .inv .1 .is-valid .filling .sized ∙ sym (f .pre .0 .is-valid .filling .sized))  -- same-length
     (λ c. c .before .loop .inv .4 .sized)  -- same-length-2
     (λ c.
     let l = c .before in
@@ -99,6 +99,6 @@ shuffle-cells-spec =
     let a = f .args in
     let i = l .loop .inv in
     let end = shuffledAt (l .loop .adjacency) (l .loop .output) (l .loop .done) in
-    let full = not-short (a .n) (classFrom (a .starts .now)) (matrixOf (a .cells .now)) end (i .1 .sound .filling)
+    let full = not-short (a .n) (classFrom (a .starts .now)) (matrixOf (a .cells .now)) end (i .1 .is-valid .filling)
     (omega (arith, i .0, i .3, f .pre .2 .0, c .loop-test .left)) in
     (run-stop (a .n) (classFrom (a .starts .now)) (matrixOf (a .cells .now)) (l .loop .counter) end full (i .2), i .4)))  -- returns

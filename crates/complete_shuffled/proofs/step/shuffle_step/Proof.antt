@@ -12,7 +12,7 @@ shuffle-step-spec =
     (λ c κs. tt)  -- next-x-requires
     (λ c κs.
     let f = c .before .before .before .before .before .before .before .before .before in
-    (f .pre .0 .tracked, f .pre .0 .sound .filling, step-some (f .args .output .now) (f .args .done) (f .pre .0) (f .pre .1)))  -- pick-requires
+    (f .pre .0 .tracked, f .pre .0 .is-valid .filling, step-some (f .args .output .now) (f .args .done) (f .pre .0) (f .pre .1)))  -- pick-requires
     (λ c.
     let f = c .before .before .before .before .before .before .before .before .before .before in
     let e = c .pick .ensures in

@@ -1,11 +1,13 @@
 -- `joining::switch::can_stand_in` meets its contract.
 -- Assumes nothing.
+use native.Mathlib.Omega.{arith}
 use Rattle.joining.proofs.switch.can_stand_in.Statement.{statement}
 use Rattle.joining.proofs.switch.can_stand_in.Tie as tie
 
 pub can-stand-in-spec : {M : Type 1} → statement M
 can-stand-in-spec =
     tie.close (tie.spec
-    (λ c κs. c .before .before .pre)  -- degree-at-requires
+    (λ c. omega arith)  -- mul-result
+    (λ c. omega arith)  -- element-copy-out-result
     (λ c κs. tt)  -- class-degree-requires
-    (λ c. rw (c .before .degree-at .ensures, c .class-degree .ensures)))  -- returns
+    (λ c. rw (c .class-degree .ensures)))  -- returns

@@ -21,7 +21,7 @@ use Rattle.complete.specs.Choice.{openW, openV}
 use Rattle.complete.specs.Complete.{Ran, joined, mostEdges}
 use Rattle.complete.specs.Inner.Cellwise.{cellStep, cellMissing, fillCell, fillRow}
 use Rattle.complete.specs.declared.cell.Totals.{Totals}
-use Rattle.complete.specs.Inner.Work.{Recordable, Sound, ran}
+use Rattle.complete.specs.Inner.Work.{Recordable, ValidRun, ran}
 use Rattle.complete.proofs.Chosen.{Stepped, chosen, opened}
 use Rattle.complete.proofs.Cellwise.{part-short, edges-within, room as edges-most}
 use Rattle.complete.proofs.Works.{few-edges}
@@ -33,12 +33,12 @@ count-le (Two x y) = omega arith
 
 module _ (n : ℕ) (cls : ℕ → ℕ) (T : ℕ → ℕ → ℕ) (room : ℕ) where
   -- the join of an open pair; there is an edge to add, so its record fits
-  module _ (s : Ran) (p : Sound n cls T room s) (v w : ℕ) (pair : Open n cls T (edge (s .adjacency)) v w) where
+  module _ (s : Ran) (p : ValidRun n cls T room s) (v w : ℕ) (pair : Open n cls T (edge (s .adjacency)) v w) where
     st : Stepped n cls T (s .adjacency) (joined n cls s v w .adjacency) (cls v) (cls w)
     st = opened n cls T (s .adjacency) (p .filling) v w pair
 
-    pub joined-sound : Sound n cls T room (joined n cls s v w)
-    joined-sound =
+    pub joined-valid : ValidRun n cls T room (joined n cls s v w)
+    joined-valid =
         record {
           filling = st .filling;
           joins-le = omega (arith, p .joins-le, st .one-more);
@@ -50,39 +50,39 @@ module _ (n : ℕ) (cls : ℕ → ℕ) (T : ℕ → ℕ → ℕ) (room : ℕ) wh
     joined-room = omega (arith, p .records-fit, st .one-more, edges-within n cls T (joined n cls s v w .adjacency) (st .filling))
 
   -- one join in a short cell
-  step-sound : (s : Ran) → Sound n cls T room s → (k l : ℕ) → k < mostClasses → l < mostClasses → jdm n cls (edge (s .adjacency)) k l < T k l
-      → Sound n cls T room (cellStep n cls k l s)
-  step-sound s p k l kC lC h =
+  step-valid : (s : Ran) → ValidRun n cls T room s → (k l : ℕ) → k < mostClasses → l < mostClasses → jdm n cls (edge (s .adjacency)) k l < T k l
+      → ValidRun n cls T room (cellStep n cls k l s)
+  step-valid s p k l kC lC h =
       let g = s .adjacency in
-      joined-sound s p (openV n cls g k l) (openW n cls g k l (openV n cls g k l)) (chosen n cls T g (p .filling) k l kC lC h .pair)
+      joined-valid s p (openV n cls g k l) (openW n cls g k l (openV n cls g k l)) (chosen n cls T g (p .filling) k l kC lC h .pair)
 
   -- i of the joins that a cell misses
-  pub part-sound : (s : Ran) → Sound n cls T room s → (k l : ℕ) → k < mostClasses → l < mostClasses → (i : ℕ) → i ≤ cellMissing n cls T (s .adjacency) k l
-      → Sound n cls T room (foldTo i (λ i. cellStep n cls k l) s)
+  pub part-valid : (s : Ran) → ValidRun n cls T room s → (k l : ℕ) → k < mostClasses → l < mostClasses → (i : ℕ) → i ≤ cellMissing n cls T (s .adjacency) k l
+      → ValidRun n cls T room (foldTo i (λ i. cellStep n cls k l) s)
   unfolding foldTo
-  part-sound s p k l kC lC zero h = p
-  part-sound s p k l kC lC (suc i) h =
-      step-sound (foldTo i (λ i. cellStep n cls k l) s) (part-sound s p k l kC lC i (omega arith)) k l kC lC
+  part-valid s p k l kC lC zero h = p
+  part-valid s p k l kC lC (suc i) h =
+      step-valid (foldTo i (λ i. cellStep n cls k l) s) (part-valid s p k l kC lC i (omega arith)) k l kC lC
       (part-short n cls T s (p .filling) k l kC lC i h)
 
   -- the cells of row k before k + i, and the rows before leastClass + i
-  pub row-sound : (s : Ran) → Sound n cls T room s → (k : ℕ) → (i : ℕ) → k + i ≤ mostClasses → Sound n cls T room (foldTo i (λ i. fillCell n cls T k (k + i)) s)
-  row-sound s p k i h =
-      foldTo-keeps (λ i x. Sound n cls T room x) (λ i. fillCell n cls T k (k + i)) s i p
-      (λ j x ji q. part-sound x q k (k + j) (omega arith) (omega arith) (cellMissing n cls T (x .adjacency) k (k + j)) (omega arith))
+  pub row-valid : (s : Ran) → ValidRun n cls T room s → (k : ℕ) → (i : ℕ) → k + i ≤ mostClasses → ValidRun n cls T room (foldTo i (λ i. fillCell n cls T k (k + i)) s)
+  row-valid s p k i h =
+      foldTo-keeps (λ i x. ValidRun n cls T room x) (λ i. fillCell n cls T k (k + i)) s i p
+      (λ j x ji q. part-valid x q k (k + j) (omega arith) (omega arith) (cellMissing n cls T (x .adjacency) k (k + j)) (omega arith))
 
-  pub rows-sound : (s : Ran) → Sound n cls T room s → (i : ℕ) → i ≤ mostClasses - leastClass
-      → Sound n cls T room (foldTo i (λ i. fillRow n cls T (leastClass + i)) s)
-  rows-sound s p i h =
-      foldTo-keeps (λ i x. Sound n cls T room x) (λ i. fillRow n cls T (leastClass + i)) s i p
-      (λ j x ji q. row-sound x q (leastClass + j) (mostClasses - (leastClass + j)) (omega arith))
+  pub rows-valid : (s : Ran) → ValidRun n cls T room s → (i : ℕ) → i ≤ mostClasses - leastClass
+      → ValidRun n cls T room (foldTo i (λ i. fillRow n cls T (leastClass + i)) s)
+  rows-valid s p i h =
+      foldTo-keeps (λ i x. ValidRun n cls T room x) (λ i. fillRow n cls T (leastClass + i)) s i p
+      (λ j x ji q. row-valid x q (leastClass + j) (mostClasses - (leastClass + j)) (omega arith))
 
-pub joins-most : {n : ℕ} {cls : ℕ → ℕ} {T : ℕ → ℕ → ℕ} {room : ℕ} {s : Ran} → Sound n cls T room s → s .joins ≤ mostEdges
+pub joins-most : {n : ℕ} {cls : ℕ → ℕ} {T : ℕ → ℕ → ℕ} {room : ℕ} {s : Ran} → ValidRun n cls T room s → s .joins ≤ mostEdges
 joins-most {n} {cls} {T} {room} {s} p =
     omega (arith, p .joins-le, edges-most n cls T mostEdges (few-edges n cls T (p .filling .target) (p .filling .few)) (s .adjacency) (p .filling))
 
 -- the join of two vertices whose record fits
-pub join-recordable : {n : ℕ} {cls : ℕ → ℕ} {T : ℕ → ℕ → ℕ} {room : ℕ} {g : List ℕ} {t : Totals} (out : List ℕ) → Sound n cls T room (ran g out t)
+pub join-recordable : {n : ℕ} {cls : ℕ → ℕ} {T : ℕ → ℕ → ℕ} {room : ℕ} {g : List ℕ} {t : Totals} (out : List ℕ) → ValidRun n cls T room (ran g out t)
     → joinRecordSize * t .joins + joinRecordSize ≤ room → {v w : ℕ} → Joinable n cls g v w → {s : Switches} → s ≡ joinSwitches n cls g v w
     → Recordable room t v w s
 join-recordable out p fits j e =

@@ -1,4 +1,4 @@
--- `complete::fill::complete_row` meets its contract: after i turns the first i cells of the row are filled.
+-- `complete::fill::fill_row` meets its contract: after i turns the first i cells of the row are filled.
 -- Assumes nothing.
 use mathlib.Core.Path.{_≡_, sym}
 use Prim.Native.Nat.{_+_, _≤_, _-_}
@@ -8,13 +8,13 @@ use Rattle.finite.proofs.Fold.{foldTo-none, foldTo-after}
 use Rattle.graph.specs.Tests.{mostClasses}
 use Rattle.table.specs.Inner.Cells.{matrixOf}
 use Rattle.classes.specs.Inner.Block.{classFrom}
-use Rattle.joining.specs.Inner.Work.{degreesOf}
+use Rattle.adjacency.specs.Inner.Degrees.{degreesOf}
 use Rattle.complete.specs.Inner.Cellwise.{fillCell}
 use Rattle.complete.specs.Inner.Work.{ran, WroteRecords}
 use Rattle.complete.proofs.Output.{wrote-none, wrote-then}
-use Rattle.complete.proofs.Arranged.{working, working-sized, cells-sound, row-empty}
-use Rattle.complete.proofs.fill.complete_row.Statement.{statement}
-use Rattle.complete.proofs.fill.complete_row.Tie as tie
+use Rattle.complete.proofs.Arranged.{working, working-sized, cells-valid, row-empty}
+use Rattle.complete.proofs.fill.fill_row.Statement.{statement}
+use Rattle.complete.proofs.fill.fill_row.Tie as tie
 
 abbrev Inv-loop : tie.InvT-loop
 Inv-loop adjacency₀ output₀ held₀ cells starts n k sum₀ i₀ i-end adjacency output held sum i =
@@ -26,8 +26,8 @@ Inv-loop adjacency₀ output₀ held₀ cells starts n k sum₀ i₀ i-end adjac
 abbrev μ-loop : tie.MeasureT-loop
 μ-loop adjacency₀ output₀ held₀ cells starts n k sum₀ i₀ i-end adjacency output held sum i = i-end - i
 
-pub complete-row-spec : {M : Type 1} → statement M
-complete-row-spec =
+pub fill-row-spec : {M : Type 1} → statement M
+fill-row-spec =
     tie.close (tie.spec Inv-loop μ-loop
     (λ c. omega (arith, c .before .before .pre .1))  -- mul-if1
     (λ c. omega (arith, c .before .before .pre .1))  -- element-copy-out-if1
@@ -47,10 +47,10 @@ complete-row-spec =
     let l = t .before in
     let f = l .before .before .before .before .before .before in
     let a = f .args in (
-      working (f .pre .0) _ (cells-sound (f .pre .0) (l .loop .i) _ (a .k) (l .loop .inv .0) (l .loop .inv .1)) _ (l .loop .inv .2) (l .loop .inv .3 .sized),
+      working (f .pre .0) _ (cells-valid (f .pre .0) (l .loop .i) _ (a .k) (l .loop .inv .0) (l .loop .inv .1)) _ (l .loop .inv .2) (l .loop .inv .3 .sized),
       f .pre .1,
       omega (arith, t .loop-test .taken),
-    ))  -- complete-cell-requires
+    ))  -- fill-cell-requires
     (λ c. let l = c .before .before .before .before .before .before .before .before .before in omega (arith, l .loop .inv .0))  -- add-i
     (λ c. let t = c .before .before .before .before .before .before .before .before in omega (arith, t .loop-test .taken))  -- loop-less
     (λ c.
@@ -60,15 +60,15 @@ complete-row-spec =
     let a = l .before .before .before .before .before .before .args in (
       omega (arith, t .loop-test .taken),
       foldTo-after (λ i. fillCell (a .n) (classFrom (a .starts .now)) (matrixOf (a .cells .now)) (a .k) (a .k + i))
-          _ (l .loop .i) _ _ (l .loop .inv .1) (d .complete-cell .ensures .0),
-      d .complete-cell .ensures .1 .1,
-      wrote-then (l .loop .inv .3) (d .complete-cell .ensures .1 .0),
+          _ (l .loop .i) _ _ (l .loop .inv .1) (d .fill-cell .ensures .0),
+      d .fill-cell .ensures .1 .1,
+      wrote-then (l .loop .inv .3) (d .fill-cell .ensures .1 .0),
     ))  -- loop-again
     (λ c.
     let l = c .before in
     let f = l .before .before .before .before .before .before in
     let a = f .args in
-    working-sized (f .pre .0) _ (cells-sound (f .pre .0) (l .loop .i) _ (a .k) (l .loop .inv .0) (l .loop .inv .1)))  -- same-length
+    working-sized (f .pre .0) _ (cells-valid (f .pre .0) (l .loop .i) _ (a .k) (l .loop .inv .0) (l .loop .inv .1)))  -- same-length
     (λ c. c .before .loop .inv .3 .sized)  -- same-length-2
     (λ c.
     let l = c .before in

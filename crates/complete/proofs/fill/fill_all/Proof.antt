@@ -1,4 +1,4 @@
--- `complete::fill::complete_rows` meets its contract: after i turns the first i rows are filled.
+-- `complete::fill::fill_all` meets its contract: after i turns the first i rows are filled.
 -- Assumes nothing.
 use mathlib.Core.Path.{_≡_, sym}
 use Prim.Native.Nat.{_+_, _≤_, _-_}
@@ -8,13 +8,13 @@ use Rattle.finite.proofs.Fold.{foldTo-none, foldTo-after}
 use Rattle.graph.specs.Tests.{leastClass, mostClasses}
 use Rattle.table.specs.Inner.Cells.{matrixOf}
 use Rattle.classes.specs.Inner.Block.{classFrom}
-use Rattle.joining.specs.Inner.Work.{degreesOf}
+use Rattle.adjacency.specs.Inner.Degrees.{degreesOf}
 use Rattle.complete.specs.Inner.Cellwise.{fillRow}
 use Rattle.complete.specs.Inner.Work.{ran, WroteRecords}
 use Rattle.complete.proofs.Output.{wrote-none, wrote-then}
-use Rattle.complete.proofs.Arranged.{working, working-sized, all-sound}
-use Rattle.complete.proofs.fill.complete_rows.Statement.{statement}
-use Rattle.complete.proofs.fill.complete_rows.Tie as tie
+use Rattle.complete.proofs.Arranged.{working, working-sized, all-valid}
+use Rattle.complete.proofs.fill.fill_all.Statement.{statement}
+use Rattle.complete.proofs.fill.fill_all.Tie as tie
 
 abbrev Inv-loop : tie.InvT-loop
 Inv-loop adjacency₀ output₀ held₀ cells starts n sum₀ i₀ adjacency output held sum i =
@@ -26,8 +26,8 @@ Inv-loop adjacency₀ output₀ held₀ cells starts n sum₀ i₀ adjacency out
 abbrev μ-loop : tie.MeasureT-loop
 μ-loop adjacency₀ output₀ held₀ cells starts n sum₀ i₀ adjacency output held sum i = mostClasses - leastClass - i
 
-pub complete-rows-spec : {M : Type 1} → statement M
-complete-rows-spec =
+pub fill-all-spec : {M : Type 1} → statement M
+fill-all-spec =
     tie.close (tie.spec Inv-loop μ-loop
     (λ c. let f = c .before .before in (omega arith, sym (foldTo-none _ _), f .pre .degrees-held, wrote-none _ _))  -- loop-holds
     (λ c. let l = c .before .before .before .before in omega (arith, l .loop .inv .0))  -- add-complete-row
@@ -35,9 +35,9 @@ complete-rows-spec =
     let t = c .before .before .before in
     let l = t .before in
     let f = l .before .before .before in (
-      working (f .pre) _ (all-sound (f .pre) (l .loop .i) _ (l .loop .inv .0) (l .loop .inv .1)) _ (l .loop .inv .2) (l .loop .inv .3 .sized),
+      working (f .pre) _ (all-valid (f .pre) (l .loop .i) _ (l .loop .inv .0) (l .loop .inv .1)) _ (l .loop .inv .2) (l .loop .inv .3 .sized),
       omega (arith, t .loop-test .taken),
-    ))  -- complete-row-requires
+    ))  -- fill-row-requires
     (λ c. let l = c .before .before .before .before .before .before .before .before .before in omega (arith, l .loop .inv .0))  -- add-i
     (λ c. let t = c .before .before .before .before .before .before .before .before in omega (arith, t .loop-test .taken))  -- loop-less
     (λ c.
@@ -47,14 +47,14 @@ complete-rows-spec =
     let a = l .before .before .before .args in (
       omega (arith, t .loop-test .taken),
       foldTo-after (λ i. fillRow (a .n) (classFrom (a .starts .now)) (matrixOf (a .cells .now)) (leastClass + i))
-          _ (l .loop .i) _ _ (l .loop .inv .1) (d .complete-row .ensures .0),
-      d .complete-row .ensures .1 .1,
-      wrote-then (l .loop .inv .3) (d .complete-row .ensures .1 .0),
+          _ (l .loop .i) _ _ (l .loop .inv .1) (d .fill-row .ensures .0),
+      d .fill-row .ensures .1 .1,
+      wrote-then (l .loop .inv .3) (d .fill-row .ensures .1 .0),
     ))  -- loop-again
     (λ c.
     let l = c .before in
     let f = l .before .before .before in
-    working-sized (f .pre) _ (all-sound (f .pre) (l .loop .i) _ (l .loop .inv .0) (l .loop .inv .1)))  -- same-length
+    working-sized (f .pre) _ (all-valid (f .pre) (l .loop .i) _ (l .loop .inv .0) (l .loop .inv .1)))  -- same-length
     (λ c. c .before .loop .inv .3 .sized)  -- same-length-2
     (λ c.
     let l = c .before in

@@ -1,4 +1,4 @@
--- `complete::cell::fill_cell` meets its contract: after i turns i joins are made, and the cursor has passed only what is done.
+-- `complete::cell::fill_steps` meets its contract: after i turns i joins are made, and the cursor has passed only what is done.
 -- Assumes nothing.
 use mathlib.Core.Path.{_≡_, sym}
 use Prim.Native.Nat.{_≤_, _-_}
@@ -6,13 +6,13 @@ use native.Mathlib.Omega.{arith}
 use Rattle.finite.specs.Range.{foldTo}
 use Rattle.finite.proofs.Fold.{foldTo-none, foldTo-after}
 use Rattle.classes.specs.Inner.Block.{classFrom}
-use Rattle.joining.specs.Inner.Work.{degreesOf}
+use Rattle.adjacency.specs.Inner.Degrees.{degreesOf}
 use Rattle.complete.specs.Inner.Cellwise.{cellStep}
 use Rattle.complete.specs.Inner.Work.{ran, WroteRecords, Resumes}
 use Rattle.complete.proofs.Output.{wrote-none, wrote-then}
 use Rattle.complete.proofs.Joins.{start-resumes, fill-sized, fill-steppable}
-use Rattle.complete.proofs.cell.fill_cell.Statement.{statement}
-use Rattle.complete.proofs.cell.fill_cell.Tie as tie
+use Rattle.complete.proofs.cell.fill_steps.Statement.{statement}
+use Rattle.complete.proofs.cell.fill_steps.Tie as tie
 
 abbrev Inv-loop : tie.InvT-loop
 Inv-loop adjacency₀ output₀ held₀ starts n cell m cursor₀ sum₀ counter₀ adjacency output held cursor sum counter =
@@ -25,8 +25,8 @@ Inv-loop adjacency₀ output₀ held₀ starts n cell m cursor₀ sum₀ counter
 abbrev μ-loop : tie.MeasureT-loop
 μ-loop adjacency₀ output₀ held₀ starts n cell m cursor₀ sum₀ counter₀ adjacency output held cursor sum counter = m - counter
 
-pub fill-cell-spec : {M : Type 1} → statement M
-fill-cell-spec =
+pub fill-steps-spec : {M : Type 1} → statement M
+fill-steps-spec =
     tie.close (tie.spec Inv-loop μ-loop
     (λ c.
     let f = c .before .before in
@@ -39,7 +39,7 @@ fill-cell-spec =
     let f = l .before .before .before in (
       fill-steppable (f .pre .0) (l .loop .counter) _ (l .loop .inv .1) (t .loop-test .taken) _ _ (l .loop .inv .3) (l .loop .inv .2) (l .loop .inv .4 .sized),
       f .pre .1,
-    ))  -- fill-step-requires
+    ))  -- cell-step-requires
     (λ c. let l = c .before .before .before .before .before .before .before .before .before .before .before in omega (arith, l .loop .inv .0))  -- add-counter
     (λ c. let l = c .before .before .before .before .before .before .before .before .before .before .before in omega (arith, l .loop .inv .0))  -- loop-less
     (λ c.
@@ -48,10 +48,10 @@ fill-cell-spec =
     let a = l .before .before .before .args in (
       omega (arith, l .loop .inv .0),
       foldTo-after (λ i. cellStep (a .n) (classFrom (a .starts .now)) (a .cell .k) (a .cell .l))
-          _ (l .loop .counter) _ _ (l .loop .inv .1) (t .fill-step .ensures .0 .0),
-      t .fill-step .ensures .1 .1,
-      t .fill-step .ensures .0 .1,
-      wrote-then (l .loop .inv .4) (t .fill-step .ensures .1 .0),
+          _ (l .loop .counter) _ _ (l .loop .inv .1) (t .cell-step .ensures .0 .0),
+      t .cell-step .ensures .1 .1,
+      t .cell-step .ensures .0 .1,
+      wrote-then (l .loop .inv .4) (t .cell-step .ensures .1 .0),
     ))  -- loop-again
     (λ c.
     let l = c .before in

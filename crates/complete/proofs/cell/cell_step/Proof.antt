@@ -1,27 +1,27 @@
--- `complete::cell::fill_step` meets its contract.
+-- `complete::cell::cell_step` meets its contract.
 -- Assumes nothing.
 use mathlib.Core.Path.{refl}
 use native.Mathlib.Omega.{arith}
 use borrow.Author.Needs.{needs}
-use Rattle.complete.proofs.Sound.{join-recordable}
+use Rattle.complete.proofs.ValidRuns.{join-recordable}
 use Rattle.complete.proofs.Step.{step-searchable, step-joinable, step-room, step-ran, row-placed, column-placed, step-resumes}
-use Rattle.complete.proofs.cell.fill_step.Statement.{statement}
-use Rattle.complete.proofs.cell.fill_step.Tie as tie
+use Rattle.complete.proofs.cell.cell_step.Statement.{statement}
+use Rattle.complete.proofs.cell.cell_step.Tie as tie
 
-pub fill-step-spec : {M : Type 1} → statement M
-fill-step-spec =
+pub cell-step-spec : {M : Type 1} → statement M
+cell-step-spec =
     tie.close (tie.spec
     (λ c κs.
     let f = c .before .before .before in
-    (f .pre .0 .sound .filling .sized, step-searchable (f .pre .0)))  -- open-pair-requires
+    (f .pre .0 .is-valid .filling .sized, step-searchable (f .pre .0)))  -- open-pair-requires
     (λ c κs. tt)  -- class-degree-requires
     (λ c κs.
     let f = c .before .before .before .before .before .before in
-    omega (arith, f .pre .0 .ranged .rows .within, f .pre .0 .sound .filling .few))  -- advance-requires
+    omega (arith, f .pre .0 .ranged .rows .within, f .pre .0 .is-valid .filling .few))  -- advance-requires
     (λ c κs. tt)  -- class-degree-requires-2
     (λ c κs.
     let f = c .before .before .before .before .before .before .before .before .before in
-    omega (arith, f .pre .0 .ranged .columns .within, f .pre .0 .sound .filling .few))  -- advance-requires-2
+    omega (arith, f .pre .0 .ranged .columns .within, f .pre .0 .is-valid .filling .few))  -- advance-requires-2
     (λ c κs.
     let y = c .before .before in
     let x = y .before .before .before in
@@ -40,12 +40,12 @@ fill-step-spec =
     let o = j .before .before .before .before .before .before .before .before .before in
     let f = o .before .before .before .before in
     let joinable = step-joinable (f .pre .0) _ _ (o .open-pair .ensures .0) (o .open-pair .ensures .1) in
-    join-recordable (f .args .output .now) (f .pre .0 .sound) (step-room (f .pre .0)) joinable (j .join .ensures .0 .0))  -- record-join-requires
+    join-recordable (f .args .output .now) (f .pre .0 .is-valid) (step-room (f .pre .0)) joinable (j .join .ensures .0 .0))  -- record-join-requires
     (λ c.
     let o = c .before .before .before .before .before .before .before .before .before .before .before .before .before .before .before .before in
     let f = o .before .before .before .before in
     let joinable = step-joinable (f .pre .0) _ _ (o .open-pair .ensures .0) (o .open-pair .ensures .1) in
-    omega (arith, joinable .pair .second, f .pre .0 .sound .filling .few))  -- add-least
+    omega (arith, joinable .pair .second, f .pre .0 .is-valid .filling .few))  -- add-least
     (λ c κs. tt)  -- least-requires
     (λ c. search needs)  -- same-length
     (λ c. search needs)  -- same-length-2
