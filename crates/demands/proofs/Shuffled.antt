@@ -22,7 +22,7 @@ use Rattle.complete_shuffled.specs.Shuffle.{shuffled, withX, shuffleOutput}
 use Rattle.complete_shuffled.proofs.Answers.{with-x-refused}
 use Rattle.complete_shuffled.proofs.Works.{shuffled-last, outcome-works}
 use Rattle.demands.specs.Calls.{State}
-use Rattle.demands.specs.Shuffled.{Shuffles, LeftAlone, ShuffledFinishing}
+use Rattle.demands.specs.Shuffled.{Shuffles, LeftAlone, ShuffledCompleting}
 use Rattle.demands.specs.Matrix.{Short}
 use Rattle.demands.specs.Playback.{play}
 use Rattle.demands.proofs.Choices.{outcome-answer, full-outcome, full-answer, choice-has}
@@ -72,8 +72,8 @@ left-alone s x out checked none =
     answered : ranAnswer (shuffled s x .ran) s (length out) ≡ Complete.Completed 0 0 0
     answered = full-answer s (Picked x) checked full (length out)
 
-pub shuffled-finishing : ShuffledFinishing
-shuffled-finishing =
+pub shuffled-completing : ShuffledCompleting
+shuffled-completing =
     record {
       shuffles = shuffles;
       complete-already = left-alone;

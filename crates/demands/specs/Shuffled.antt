@@ -1,4 +1,4 @@
--- Shuffled finishing (document 02, P7): "For each starting x the table is met in as many joins as were missing." The entry's answer is that of the
+-- Shuffled completing (document 02, P7: shuffled finishing): "For each starting x the table is met in as many joins as were missing." The entry's answer is that of the
 -- completing that x picks, and x besides: x after as many steps as joins.
 -- Assumes nothing.
 use mathlib.Core.Path.{_≡_}
@@ -36,7 +36,7 @@ pub record LeftAlone (s : State) (x : ℕ) (out : List ℕ) : Type 0 where
   pub same-state : shuffleAfter s x (length out) ≡ s
   pub same-output : shuffleOutput s x out ≡ out
 
-pub record ShuffledFinishing : Type 0 where
+pub record ShuffledCompleting : Type 0 where
   pub shuffles : (s : State) (x : ℕ) (out : List ℕ) → ValidLaid s → 8 * missing s ≤ length out → Shuffles s x out
   -- a complete state, in which no cell is short, whatever the output
   pub complete-already : (s : State) (x : ℕ) (out : List ℕ) → ValidLaid s → ((k l : ℕ) → Short (tableOf (s .journal)) s k l → ⊥) → LeftAlone s x out
