@@ -3,12 +3,12 @@
 -- Assumes nothing.
 use mathlib.Core.Path.{_≡_, refl, sym, ap, _∙_}
 use mathlib.Core.Bool.{true}
-use mathlib.Core.List.{List}
 use Prim.Native.Nat.{ℕ, _<_}
 use Rattle.finite.proofs.Fold.{foldTo-none, foldTo-more, iterate-keeps}
 use Rattle.answer.specs.declared.Choice.{Choice}
 use Rattle.answer.specs.declared.Choice.the-variants.{Lowest, Picked as PickedFrom}
 use Rattle.journal.specs.Journal.{jdmOf}
+use Rattle.state.specs.State.{State}
 use Rattle.state.specs.Laid.{vertexCount, classAt}
 use Rattle.complete.specs.Complete.{fresh, mostEdges}
 use Rattle.complete.proofs.Works.{Good, Chooser, completes-by}
@@ -16,7 +16,7 @@ use Rattle.complete.proofs.Records.{records-length}
 use Rattle.complete.proofs.Entry.{CompleteFacts, CompleteWorks, good-start, completed-works, complete-works}
 use Rattle.complete_shuffled.specs.Choice.{nextX, stepsX, pairV, pairW, position}
 use Rattle.complete_shuffled.specs.Shuffle.{Shuffled, nextShuffled, isShort, shuffled}
-use Rattle.complete_shuffled.specs.Finish.{outcome}
+use Rattle.complete_shuffled.specs.Outcome.{outcome}
 use Rattle.complete_shuffled.proofs.Picked.{Picked, picked, position-below, passes-open, passes-rising}
 
 module _ (n : ℕ) (cls : ℕ → ℕ) (T : ℕ → ℕ → ℕ) where
@@ -49,25 +49,26 @@ module _ (n : ℕ) (cls : ℕ → ℕ) (T : ℕ → ℕ → ℕ) where
   pub shuffled-rises : (s : Shuffled) → Good n cls T (s .ran) → isShort n cls T s ≡ true → nextV s < nextW s
   shuffled-rises s good e = passes-rising n cls T (s .ran .adjacency) (nextV s) (nextW s) (next-picked s good e .passes)
 
-module _ (j g : List ℕ) (x : ℕ) where
-  pub shuffled-works : CompleteFacts j g → CompleteWorks j g (shuffled j g x .ran)
+module _ (s : State) (x : ℕ) where
+  pub shuffled-works : CompleteFacts s → CompleteWorks s (shuffled s x .ran)
   shuffled-works f =
-      let n = vertexCount j in
-      let cls = classAt j in
-      let start : Shuffled = record { ran = fresh g; x = x } in
-      completed-works j g f (shuffled j g x .ran)
-      (completes-by n cls (jdmOf j) (shuffled-pair n cls (jdmOf j)) start g refl (good-start j g f .0) (good-start j g f .1))
-      (records-length n cls (jdmOf j) (shuffled-pair n cls (jdmOf j)) mostEdges start refl)
+      let n = vertexCount s in
+      let cls = classAt s in
+      let T = jdmOf (s .journal) in
+      let start : Shuffled = record { ran = fresh (s .adjacency); x = x } in
+      completed-works s f (shuffled s x .ran)
+      (completes-by n cls T (shuffled-pair n cls T) start (s .adjacency) refl (good-start s f .0) (good-start s f .1))
+      (records-length n cls T (shuffled-pair n cls T) mostEdges start refl)
 
   -- the last x
-  pub shuffled-last : shuffled j g x .x ≡ stepsX (shuffled j g x .ran .joins) x
+  pub shuffled-last : shuffled s x .x ≡ stepsX (shuffled s x .ran .joins) x
   shuffled-last =
-      iterate-keeps (λ (s : Shuffled). s .x ≡ stepsX (s .ran .joins) x) (isShort (vertexCount j) (classAt j) (jdmOf j))
-      (nextShuffled (vertexCount j) (classAt j) (jdmOf j)) mostEdges (record { ran = fresh g; x = x })
+      iterate-keeps (λ (r : Shuffled). r .x ≡ stepsX (r .ran .joins) x) (isShort (vertexCount s) (classAt s) (jdmOf (s .journal)))
+      (nextShuffled (vertexCount s) (classAt s) (jdmOf (s .journal))) mostEdges (record { ran = fresh (s .adjacency); x = x })
       (sym (foldTo-none (λ i. nextX) x))
-      (λ s h t. ap nextX h ∙ sym (foldTo-more (λ i. nextX) x (s .ran .joins)))
+      (λ r h t. ap nextX h ∙ sym (foldTo-more (λ i. nextX) x (r .ran .joins)))
 
 -- whichever pairs it joins, completing works
-pub outcome-works : (f : Choice) (j g : List ℕ) → CompleteFacts j g → CompleteWorks j g (outcome f j g)
-outcome-works Lowest j g = complete-works j g
-outcome-works (PickedFrom x) j g = shuffled-works j g x
+pub outcome-works : (f : Choice) (s : State) → CompleteFacts s → CompleteWorks s (outcome f s)
+outcome-works Lowest s = complete-works s
+outcome-works (PickedFrom x) s = shuffled-works s x

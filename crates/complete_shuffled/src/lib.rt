@@ -3,9 +3,10 @@
 ghost use mathlib.Core.Path.{_≡_};
 ghost use lib.ListN.{length};
 ghost use Rattle.answer.specs.declared.Verdict.the-variants.{Go};
+ghost use Rattle.state.specs.State.{stateOf};
 ghost use Rattle.state.specs.Checks.{phaseVerdict};
-ghost use Rattle.complete.specs.Complete.{ranLaid, ranAfter, ranOutput};
-ghost use Rattle.complete_shuffled.specs.Shuffle.{shuffled, withX, shuffleAnswer, shuffleAdjacency, shuffleOutput};
+ghost use Rattle.state.specs.Inner.Opened.{laidFront, Opened};
+ghost use Rattle.complete_shuffled.specs.Shuffle.{shuffleAnswer, shuffleAfter, shuffleOutput};
 
 mod fill;
 mod pick;
@@ -20,31 +21,39 @@ use answer::Verdict;
 use answer::refuse;
 use complete::start::begin;
 use join_records::JOIN_RECORD_BYTES;
-use state::phase_check;
+use layout::MAX_VERTICES;
+use state::laid_check;
+use state::open;
 use table::cells::CELLS;
+use table::class::MAX_CLASSES;
 
 // On a valid laid state: the check 18, then the joins that are missing.
-fn shuffle_laid(journal: &[u8], adjacency: &mut [u8], x: u32, output: &mut [u8]) -> ShuffleAnswer
-    requires { ⌜ phaseVerdict 1 (now journal) (now adjacency) ≡ Go ⌝ }
-    ensures { λ r. ⌜ r ≡ withX (shuffled (now (journal .entry)) (now (adjacency .entry)) x .x) (ranLaid (shuffled (now (journal .entry)) (now (adjacency .entry)) x .ran) (now (journal .entry)) (now (adjacency .entry)) (length (now (output .entry)))) ⌝ }
-    ensures { λ _. ⌜ now (adjacency .exit) ≡ ranAfter (ranLaid (shuffled (now (journal .entry)) (now (adjacency .entry)) x .ran) (now (journal .entry)) (now (adjacency .entry)) (length (now (output .entry)))) (shuffled (now (journal .entry)) (now (adjacency .entry)) x .ran) (now (adjacency .entry)) ⌝ }
-    ensures { λ _. ⌜ now (output .exit) ≡ ranOutput (ranLaid (shuffled (now (journal .entry)) (now (adjacency .entry)) x .ran) (now (journal .entry)) (now (adjacency .entry)) (length (now (output .entry)))) (shuffled (now (journal .entry)) (now (adjacency .entry)) x .ran) (now (output .entry)) ⌝ }
+fn shuffle_laid(
+    journal: &[u8],
+    adjacency: &mut [u8],
+    cells: &[u32; CELLS],
+    counts: &[usize; MAX_CLASSES],
+    held: &mut [usize; MAX_VERTICES],
+    x: u32,
+    output: &mut [u8],
+) -> ShuffleAnswer
+    requires { ⌜ (phaseVerdict 1 (stateOf (now journal) (now adjacency)) ≡ Go) × Opened (stateOf (now journal) (now adjacency)) (now cells) (now counts) (now held) ⌝ }
+    ensures { λ r. ⌜ r ≡ shuffleAnswer (stateOf (now (journal .entry)) (now (adjacency .entry))) x (length (now (output .entry))) ⌝ }
+    ensures { λ _. ⌜ now (adjacency .exit) ≡ shuffleAfter (stateOf (now (journal .entry)) (now (adjacency .entry))) x (length (now (output .entry))) .adjacency ⌝ }
+    ensures { λ _. ⌜ now (output .exit) ≡ shuffleOutput (stateOf (now (journal .entry)) (now (adjacency .entry))) x (now (output .entry)) ⌝ }
 {
-    let mut cells = [0u32; CELLS];
-    let begun = begin(journal, adjacency, &mut cells);
+    let begun = begin(cells, counts, held);
     let missing = begun.missing;
     if output.len() < JOIN_RECORD_BYTES * missing {
         return ShuffleAnswer::Refused(refuse(Cause::OutputTooShort, 0, 0));
     }
-    let counts = begun.counts;
-    let starts = classes::starts(&counts);
-    let vertex_classes = layout::classes(&cells, &counts);
-    let mut held = begun.held;
+    let starts = classes::starts(counts);
+    let vertex_classes = layout::classes(cells, counts);
     let done = shuffle_cells(
         adjacency,
         output,
-        &mut held,
-        &cells,
+        held,
+        cells,
         &starts,
         &vertex_classes,
         begun.n,
@@ -60,19 +69,35 @@ fn shuffle_laid(journal: &[u8], adjacency: &mut [u8], x: u32, output: &mut [u8])
     )
 }
 
+// Behind the front: the laid matrix, then as above.
+fn shuffle_checked(journal: &[u8], adjacency: &mut [u8], x: u32, output: &mut [u8]) -> ShuffleAnswer
+    requires { ⌜ laidFront (stateOf (now journal) (now adjacency)) ≡ Go ⌝ }
+    ensures { λ r. ⌜ r ≡ shuffleAnswer (stateOf (now (journal .entry)) (now (adjacency .entry))) x (length (now (output .entry))) ⌝ }
+    ensures { λ _. ⌜ now (adjacency .exit) ≡ shuffleAfter (stateOf (now (journal .entry)) (now (adjacency .entry))) x (length (now (output .entry))) .adjacency ⌝ }
+    ensures { λ _. ⌜ now (output .exit) ≡ shuffleOutput (stateOf (now (journal .entry)) (now (adjacency .entry))) x (now (output .entry)) ⌝ }
+{
+    let mut cells = [0u32; CELLS];
+    let mut counts = [0usize; MAX_CLASSES];
+    let mut held = [0usize; MAX_VERTICES];
+    if !open(journal, adjacency, &mut cells, &mut counts, &mut held) {
+        return ShuffleAnswer::Refused(refuse(Cause::InvalidState, 0, 0));
+    }
+    shuffle_laid(journal, adjacency, &cells, &counts, &mut held, x, output)
+}
+
 pub fn complete_shuffled(
     journal: &[u8],
     adjacency: &mut [u8],
     x: u32,
     output: &mut [u8],
 ) -> ShuffleAnswer
-    ensures { λ r. ⌜ r ≡ shuffleAnswer (now (journal .entry)) (now (adjacency .entry)) x (length (now (output .entry))) ⌝ }
-    ensures { λ _. ⌜ now (adjacency .exit) ≡ shuffleAdjacency (now (journal .entry)) (now (adjacency .entry)) x (length (now (output .entry))) ⌝ }
-    ensures { λ _. ⌜ now (output .exit) ≡ shuffleOutput (now (journal .entry)) (now (adjacency .entry)) x (now (output .entry)) ⌝ }
+    ensures { λ r. ⌜ r ≡ shuffleAnswer (stateOf (now (journal .entry)) (now (adjacency .entry))) x (length (now (output .entry))) ⌝ }
+    ensures { λ _. ⌜ now (adjacency .exit) ≡ shuffleAfter (stateOf (now (journal .entry)) (now (adjacency .entry))) x (length (now (output .entry))) .adjacency ⌝ }
+    ensures { λ _. ⌜ now (output .exit) ≡ shuffleOutput (stateOf (now (journal .entry)) (now (adjacency .entry))) x (now (output .entry)) ⌝ }
 {
-    let verdict = phase_check(journal, adjacency, 1);
+    let verdict = laid_check(journal, adjacency);
     match verdict {
         Verdict::Stop(r) => ShuffleAnswer::Refused(r),
-        Verdict::Go => shuffle_laid(journal, adjacency, x, output),
+        Verdict::Go => shuffle_checked(journal, adjacency, x, output),
     }
 }
