@@ -38,10 +38,6 @@ use Rattle.complete.specs.Complete.{Ran, mostEdges, fresh, completed, mi
 use Rattle.complete.proofs.Works.{few-edges, Good, CompletedRun, completes}
 use Rattle.complete.proofs.Records.{Recorded, completed-length}
 
--- what the checks of a completed state said
-abbrev pub CompleteFacts : State → Type 0
-CompleteFacts s = ValidLaid s
-
 abbrev IsCompleted : CompleteAnswer → Type 0
 IsCompleted (Completed joins switches n) = Unit {0}
 IsCompleted (Refused r) = ⊥
@@ -50,15 +46,11 @@ pub refused-not-completed : (joins switches n : ℕ) (r : Refusal) → Refused r
 refused-not-completed joins switches n r e = subst IsCompleted (sym e) tt
 
 module _ (s : State) where
-  -- a state that passes the checks 1, 2 and 3
-  pub phase-complete : phaseVerdict 1 s ≡ Go → CompleteFacts s
-  phase-complete = laid-passed s
-
   -- the work ends in r, whichever pairs it joins
   module _ (r : Ran) where
     -- what an answer Completed for an output of m bytes says
     pub record CompletedFacts (m joins switches n : ℕ) : Type 0 where
-      pub facts : CompleteFacts s
+      pub facts : ValidLaid s
       pub room : joinRecordSize * missing s ≤ m
       pub joins-are : joins ≡ r .joins
       pub switches-are : switches ≡ r .switches
@@ -70,7 +62,7 @@ module _ (s : State) where
         let p = unless-stopped-passed (phaseVerdict 1 s) Refused _ (Completed joins switches n) no e in
         let h = unless-passed (leb (joinRecordSize * missing s) m) _ _ (Completed joins switches n) (no _) (p .1) in
         record {
-          facts = phase-complete (p .0);
+          facts = laid-passed s (p .0);
           room = leb-true (joinRecordSize * missing s) m (h .0);
           joins-are = cc (h .1);
           switches-are = cc (h .1);
@@ -85,30 +77,29 @@ module _ (s : State) where
       pub laid-short : m < joinRecordSize * missing s → ranLaid r s m ≡ Refused (refusal OutputTooShort 0 0)
       laid-short h = rw (lt-leb (joinRecordSize * missing s) m h)
 
-      pub facts-completed : CompleteFacts s → joinRecordSize * missing s ≤ m
+      pub facts-completed : ValidLaid s → joinRecordSize * missing s ≤ m
           → ranAnswer r s m ≡ Completed (r .joins) (r .switches) (length (r .records))
       facts-completed f h = rw (laid-goes s f) (laid-roomy h)
 
-      pub short-refused : CompleteFacts s → m < joinRecordSize * missing s → ranAnswer r s m ≡ Refused (refusal OutputTooShort 0 0)
+      pub short-refused : ValidLaid s → m < joinRecordSize * missing s → ranAnswer r s m ≡ Refused (refusal OutputTooShort 0 0)
       short-refused f h = rw (laid-goes s f) (laid-short h)
 
   -- a valid laid state is where a run may begin
-  pub good-start : CompleteFacts s → Good (vertexCount s) (classAt s) (jdmOf (s .journal)) (fresh (s .adjacency))
+  pub good-start : ValidLaid s → Good (vertexCount s) (classAt s) (jdmOf (s .journal)) (fresh (s .adjacency))
   good-start f =
       let facts = valid-facts s (f .lengths) (f .is-valid) in
       let laid = facts .laid (f .phased) in
       (record { sized = facts .adjacency-length; few = laid .vertices-le; target = laid .target; partial = laid .partial }, laid .outside)
 
   -- no layout misses more edges than it can have
-  pub missing-most : CompleteFacts s → missing s ≤ mostEdges
+  pub missing-most : ValidLaid s → missing s ≤ mostEdges
   missing-most f =
       let filling = good-start f .0 in
       omega (arith, few-edges (vertexCount s) (classAt s) (jdmOf (s .journal)) (filling .target) (filling .few))
 
   -- after it, in r
   pub record CompleteWorks (r : Ran) : Type 0 where
-    pub lengths : lengthsOk (withMatrix s (r .adjacency)) ≡ true
-    pub is-valid : valid (withMatrix s (r .adjacency)) ≡ true
+    pub state : ValidLaid (withMatrix s (r .adjacency))
     pub more : edgeTotal (withMatrix s (r .adjacency)) ≡ edgeTotal s + r .joins
     pub made : r .joins ≡ missing s
     pub written : length (r .records) ≡ joinRecordSize * r .joins
@@ -116,13 +107,17 @@ module _ (s : State) where
     pub simple : Simple (vertexCount s) (edge (r .adjacency))
     pub table : (k l : ℕ) → ownJdm (vertexCount s) (edge (r .adjacency)) k l ≡ jdmOf (s .journal) k l
     pub no-edge : isolated (vertexCount s) (edge (r .adjacency)) ≡ isolatedOf (s .journal)
-    pub degrees-exact : (v : ℕ) → v < vertexCount s → degree (vertexCount s) (edge (r .adjacency)) v ≡ classAt s v
+    pub degrees-exact : (v : ℕ) → v < vertexCount s → degree (vertexCount s) (edge (r .adjacency)) v ≡ classDegree (classAt s v)
 
-  pub completed-works : CompleteFacts s → (r : Ran) → CompletedRun (vertexCount s) (classAt s) (jdmOf (s .journal)) (s .adjacency) r → Recorded r → CompleteWorks r
+  pub completed-works : ValidLaid s → (r : Ran) → CompletedRun (vertexCount s) (classAt s) (jdmOf (s .journal)) (s .adjacency) r → Recorded r → CompleteWorks r
   completed-works f r end recorded =
       record {
-        lengths = lengths-both (withMatrix s g′) (facts .journal-length) (end .filling .sized);
-        is-valid = laid-valid s laid g′ (f .phased) (facts .journal-ok) (end .filling .sized) (end .filling .partial) (end .outside);
+        state =
+            record {
+              lengths = lengths-both (withMatrix s g′) (facts .journal-length) (end .filling .sized);
+              is-valid = laid-valid s laid g′ (f .phased) (facts .journal-ok) (end .filling .sized) (end .filling .partial) (end .outside);
+              phased = f .phased;
+            };
         more = omega (arith, end .counted);
         made = omega (arith, end .counted, end .missing);
         written = recorded;
@@ -148,6 +143,6 @@ module _ (s : State) where
       g′ : List ℕ
       g′ = r .adjacency
 
-  pub complete-works : CompleteFacts s → CompleteWorks (completed s)
+  pub complete-works : ValidLaid s → CompleteWorks (completed s)
   complete-works f =
       completed-works f (completed s) (completes (vertexCount s) (classAt s) (jdmOf (s .journal)) (s .adjacency) (good-start f .0) (good-start f .1)) (completed-length s)

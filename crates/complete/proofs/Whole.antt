@@ -35,7 +35,8 @@ use Rattle.complete.specs.declared.start.Start.{Start}
 use Rattle.complete.proofs.Cellwise.{edges-within, fill-all}
 use Rattle.complete.proofs.Output.{wrote-all}
 use Rattle.complete.proofs.Works.{few-edges, completes}
-use Rattle.complete.proofs.Entry.{CompleteFacts, CompleteWorks, facts-completed, missing-most}
+use Rattle.complete.proofs.Entry.{CompleteWorks, facts-completed, missing-most}
+use Rattle.state.specs.Valid.{ValidLaid}
 
 module _ (s : State) {cells counts held : List ℕ} (passed : phaseVerdict 1 s ≡ Go) (o : Opened s cells counts held) where
   abbrev t : DegreeTable
@@ -116,7 +117,7 @@ module _ (s : State) {cells counts held : List ℕ} (passed : phaseVerdict 1 s �
         ∙ ap (λ (u : DegreeTable). run mostEdges (vertices u) (vertexClass u) (u .cells) (fresh g)) (o .said)
 
 -- the work done, in the run r; q is what it was to end in
-module _ (s : State) (facts : CompleteFacts s) {q : Ran} (works : CompleteWorks s q) {r : Ran} (e : r ≡ q) where
+module _ (s : State) (facts : ValidLaid s) {q : Ran} (works : CompleteWorks s q) {r : Ran} (e : r ≡ q) where
   made : r .joins ≡ missing s
   made = ap (λ (x : Ran). x .joins) e ∙ works .made
 

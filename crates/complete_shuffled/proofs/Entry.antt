@@ -22,11 +22,11 @@ use Rattle.join_records.specs.Record.{joinRecordSize}
 use Rattle.complete.specs.Complete.{fresh, mostEdges, missing}
 use Rattle.complete.specs.Inner.Work.{Working, Started, WroteRecords}
 use Rattle.complete.specs.declared.start.Start.{Start}
-use Rattle.complete.proofs.Entry.{phase-complete}
 use Rattle.complete.proofs.Whole.{vertices-few, wanted-enough, missing-is, lacks-missing, lacks-few, working-start, joins-few, work-done}
 use Rattle.complete_shuffled.specs.Shuffle.{Shuffled, runShuffled, shuffled, withX, shuffleAnswer, shuffleAfter, shuffleOutput}
 use Rattle.complete_shuffled.specs.Inner.Track.{ClassArray, Lacks, begins}
 use Rattle.complete_shuffled.proofs.Works.{shuffled-works}
+use Rattle.state.proofs.Checks.{laid-passed}
 
 module _ (s : State) {cells counts held : List ℕ} (passed : phaseVerdict 1 s ≡ Go) (o : Opened s cells counts held)
     {b : Start} (u : Started cells counts held b) {starts : List ℕ} (es : starts ≡ startsOf counts) where
@@ -62,7 +62,7 @@ module _ (s : State) {cells counts held : List ℕ} (passed : phaseVerdict 1 s �
     ran-is = ap (λ (y : Shuffled). y .ran) shuffled-is
 
     pub end-few : r .ran .joins ≤ mostEdges
-    end-few = joins-few s (phase-complete s passed) (shuffled-works s x (phase-complete s passed)) ran-is
+    end-few = joins-few s (laid-passed s passed) (shuffled-works s x (laid-passed s passed)) ran-is
 
     -- the records stand at the start of the output out′
     pub end-done : (out out′ : List ℕ) → joinRecordSize * missing s ≤ length out → WroteRecords 0 (r .ran .joins) out out′
@@ -71,7 +71,7 @@ module _ (s : State) {cells counts held : List ℕ} (passed : phaseVerdict 1 s �
         × ((r .ran .adjacency ≡ shuffleAfter s x (length out) .adjacency)
         × (out′ ≡ shuffleOutput s x out))
     end-done out out′ fits wrote records =
-        let done = work-done s (phase-complete s passed) (shuffled-works s x (phase-complete s passed)) ran-is out out′ fits wrote records in (
+        let done = work-done s (laid-passed s passed) (shuffled-works s x (laid-passed s passed)) ran-is out out′ fits wrote records in (
           ap (λ (y : ℕ). Completed (r .ran .joins) (r .ran .switches) (joinRecordSize * r .ran .joins) y) (ap (λ (y : Shuffled). y .x) shuffled-is)
               ∙ ap (withX (shuffled s x .x)) (done .0),
           done .1,

@@ -13,11 +13,12 @@ use Rattle.state.specs.Laid.{vertexCount, classAt}
 use Rattle.complete.specs.Complete.{fresh, mostEdges}
 use Rattle.complete.proofs.Works.{Good, Chooser, completes-by}
 use Rattle.complete.proofs.Records.{records-length}
-use Rattle.complete.proofs.Entry.{CompleteFacts, CompleteWorks, good-start, completed-works, complete-works}
+use Rattle.complete.proofs.Entry.{CompleteWorks, good-start, completed-works, complete-works}
 use Rattle.complete_shuffled.specs.Choice.{nextX, stepsX, pairV, pairW, position}
 use Rattle.complete_shuffled.specs.Shuffle.{Shuffled, nextShuffled, isShort, shuffled}
 use Rattle.complete_shuffled.specs.Outcome.{outcome}
 use Rattle.complete_shuffled.proofs.Picked.{Picked, picked, position-below, passes-open, passes-rising}
+use Rattle.state.specs.Valid.{ValidLaid}
 
 module _ (n : ℕ) (cls : ℕ → ℕ) (T : ℕ → ℕ → ℕ) where
   abbrev pub nextV : Shuffled → ℕ
@@ -50,7 +51,7 @@ module _ (n : ℕ) (cls : ℕ → ℕ) (T : ℕ → ℕ → ℕ) where
   shuffled-rises s good e = passes-rising n cls T (s .ran .adjacency) (nextV s) (nextW s) (next-picked s good e .passes)
 
 module _ (s : State) (x : ℕ) where
-  pub shuffled-works : CompleteFacts s → CompleteWorks s (shuffled s x .ran)
+  pub shuffled-works : ValidLaid s → CompleteWorks s (shuffled s x .ran)
   shuffled-works f =
       let n = vertexCount s in
       let cls = classAt s in
@@ -69,6 +70,6 @@ module _ (s : State) (x : ℕ) where
       (λ r h t. ap nextX h ∙ sym (foldTo-more (λ i. nextX) x (r .ran .joins)))
 
 -- whichever pairs it joins, completing works
-pub outcome-works : (f : Choice) (s : State) → CompleteFacts s → CompleteWorks s (outcome f s)
+pub outcome-works : (f : Choice) (s : State) → ValidLaid s → CompleteWorks s (outcome f s)
 outcome-works Lowest s = complete-works s
 outcome-works (PickedFrom x) s = shuffled-works s x

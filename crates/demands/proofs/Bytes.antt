@@ -18,7 +18,7 @@ use Rattle.graph.specs.Graph.{Graph, SameOn}
 use Rattle.slices.proofs.Zero.{getD-zeros}
 use Rattle.adjacency.specs.Adjacency.{side, adjacencySize, edge}
 use Rattle.adjacency.proofs.Facts.{ZeroOutside}
-use Rattle.demands.specs.Calls.{emptyMatrix}
+use Rattle.state.specs.State.{emptyMatrix}
 use Rattle.demands.specs.WithinReach.{bytesOf}
 
 -- equal between the vertices, and 0 elsewhere

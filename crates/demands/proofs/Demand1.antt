@@ -1,7 +1,7 @@
 -- Demand 1 (specs/Demand1.antt): refusals carry the numbers of their entry and change nothing; outputs change only where they are written.
 -- Assumes nothing.
 use mathlib.Core.Path.{_≡_, refl, sym, ap, subst}
-use mathlib.Core.Bool.{true}
+use mathlib.Core.Bool.{true, not}
 use mathlib.Core.List.{List, [], _∷_}
 use Prim.Native.Nat.{ℕ, _*_, _≤_, min, max}
 use native.Mathlib.Omega.{arith}

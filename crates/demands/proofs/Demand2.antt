@@ -24,6 +24,7 @@ use Rattle.finite.proofs.All.{and-left, and-right, and-false}
 use Rattle.graph.specs.Graph.{jdm, DegreeTable, noTable}
 use Rattle.graph.specs.Tests.{mostClasses, Table}
 use Rattle.graph.proofs.Counts.{same-table}
+use Rattle.answer.specs.Numbers.{oneOf}
 use Rattle.table.specs.Block.{wellFormed, blockCell, blockIsolated, plus}
 use Rattle.graph.proofs.Passes.{Passed, passes-passed}
 use Rattle.graph.proofs.Realizability.{has-table, has-isolated}
@@ -36,6 +37,7 @@ use Rattle.state.specs.Laid.{vertexCount, classAt}
 use Rattle.state.proofs.Facts.{StateFacts, Laid, valid-facts}
 use Rattle.take_block.specs.Take.{takeAnswer, takeAfter}
 use Rattle.take_block.proofs.Take.{isTaken, taken-facts, held-facts, take-taken}
+use Rattle.lay_out.specs.LayOut.{layOutAfter}
 use Rattle.lay_out.proofs.LayOut.{lay-out-laid-out}
 use Rattle.add_edge.specs.Add.{addAnswer, afterAdd, addAfter}
 use Rattle.remove_edge.specs.Remove.{removeAnswer, afterRemove, removeAfter}
@@ -174,7 +176,7 @@ done-completed s f out joins switches n e =
     let facts = completed-facts s (outcome f s) (length out) joins switches n e .facts in
     let x = outcome-works f s facts in
     subst Done (sym (after-choice s f out joins switches n e))
-    (record { valid-laid = record { lengths = x .lengths; is-valid = x .is-valid; phased = facts .phased }; has = outcome-has s f facts })
+    (record { valid-laid = x .state; has = outcome-has s f facts })
 
 -- completed again, or refused
 done-complete : (s : State) (f : Choice) (out : List ℕ) → Done s → Done (choiceAfter f s (length out))

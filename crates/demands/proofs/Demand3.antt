@@ -85,20 +85,20 @@ module _ (s : State) (checked : ValidLaid s) where
   joins v w o = go (facts-added s v w f) (add-works s v w f)
     where
       f : AddFacts s v w
-      f = record { lengths = checked .lengths; is-valid = checked .is-valid; phased = checked .phased; pair = open-pair v w o }
+      f = record { state = checked; pair = open-pair v w o }
 
       to : addAnswer s v w ≡ Added (joinSwitches (vertexCount s) (classAt s) (s .adjacency) v w)
           → addAfter s v w ≡ withMatrix s (joinBytes (vertexCount s) (classAt s) (s .adjacency) v w)
       to e = ap (λ (a : AddAnswer). afterAdd a s v w) e
 
       go : addAnswer s v w ≡ Added (joinSwitches (vertexCount s) (classAt s) (s .adjacency) v w)
-          → AddWorks s v w (joinBytes (vertexCount s) (classAt s) (s .adjacency) v w)
+          → AddWorks s v w (withMatrix s (joinBytes (vertexCount s) (classAt s) (s .adjacency) v w))
           → D.CanBeJoined (tableOf (s .journal)) s v w
       go e x =
           record {
             switches = joinSwitches (vertexCount s) (classAt s) (s .adjacency) v w;
             answer = e;
-            is-valid = subst (λ (y : State). valid y ≡ true) (sym (to e)) (x .is-valid);
+            is-valid = subst (λ (y : State). valid y ≡ true) (sym (to e)) (x .state .is-valid);
             linked = subst (λ (y : State). edge (y .adjacency) v w ≡ 1) (sym (to e)) (x .linked);
             one-more = subst (λ (y : State). D.edgesLaid (tableOf (s .journal)) y ≡ edgeTotal s + 1) (sym (to e)) (x .one-more);
           }

@@ -52,9 +52,7 @@ module _ (j : List ℕ) where
     remove-facts : RemoveFacts (on g) (p .0) (p .1)
     remove-facts =
         record {
-          lengths = s .lengths;
-          is-valid = s .is-valid;
-          phased = s .phased;
+          state = s;
           first = e .first;
           second = e .second;
           distinct = e .distinct;
@@ -68,7 +66,7 @@ module _ (j : List ℕ) where
     after-remove = ap (λ (a : RemoveAnswer). afterRemove a (on g) (p .0) (p .1)) remove-answer
 
     remove-valid : ValidLaid (on (setEdge g (p .0) (p .1) 0))
-    remove-valid = let x = remove-works (on g) (p .0) (p .1) remove-facts in record { lengths = x .lengths; is-valid = x .is-valid; phased = s .phased }
+    remove-valid = remove-works (on g) (p .0) (p .1) remove-facts .state
 
     remove-edge : AddsEdge (vertices (tableOf j)) (edge (setEdge g (p .0) (p .1) 0)) (p .0) (p .1) (edge g)
     remove-edge =
@@ -114,7 +112,7 @@ module _ (j : List ℕ) where
       pair = next-open (vertices (tableOf j)) (vertexClass (tableOf j)) classDegree (jdmOf j) H (drawing .simple) (drawing .degrees) at-table (edge g) simple p ps together o
 
       add-facts : AddFacts (on g) (p .0) (p .1)
-      add-facts = record { lengths = s .lengths; is-valid = s .is-valid; phased = s .phased; pair = pair }
+      add-facts = record { state = s; pair = pair }
 
       no-switch : joinSwitches (vertices (tableOf j)) (vertexClass (tableOf j)) g (p .0) (p .1) ≡ None
       no-switch =
@@ -135,8 +133,7 @@ module _ (j : List ℕ) where
 
       add-valid : ValidLaid (on (setEdge g (p .0) (p .1) 1))
       add-valid =
-          let x = add-works (on g) (p .0) (p .1) add-facts in
-          subst (λ (h : List ℕ). ValidLaid (on h)) alone (record { lengths = x .lengths; is-valid = x .is-valid; phased = s .phased })
+          subst (λ (h : List ℕ). ValidLaid (on h)) alone (add-works (on g) (p .0) (p .1) add-facts .state)
 
       add-edge : AddsEdge (vertices (tableOf j)) (edge g) (p .0) (p .1) (edge (setEdge g (p .0) (p .1) 1))
       add-edge =

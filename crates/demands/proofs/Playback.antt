@@ -17,18 +17,19 @@ use Rattle.answer.specs.declared.AddAnswer.the-variants.{Added}
 use Rattle.answer.specs.declared.CompleteAnswer.{CompleteAnswer}
 use Rattle.answer.specs.declared.CompleteAnswer.the-variants.{Completed}
 use Rattle.answer.specs.declared.Choice.{Choice}
-use Rattle.journal.specs.Journal.{phase, jdmOf}
-use Rattle.state.specs.Valid.{lengthsOk, valid}
+use Rattle.journal.specs.Journal.{jdmOf}
+use Rattle.state.specs.State.{State}
+use Rattle.state.specs.Valid.{ValidLaid}
 use Rattle.state.specs.Laid.{vertexCount, classAt}
 use Rattle.state.proofs.Facts.{StateFacts, Laid, valid-facts}
 use Rattle.joining.specs.Join.{joinSwitches}
-use Rattle.add_edge.specs.Add.{addAnswer, addAdjacency}
+use Rattle.add_edge.specs.Add.{addAnswer, afterAdd, addAfter}
 use Rattle.add_edge.proofs.Add.{AddFacts, added-facts}
-use Rattle.complete.specs.Complete.{Ran, fresh, mostEdges, missing, ranAnswer, ranAfter, ranOutput}
+use Rattle.complete.specs.Complete.{Ran, fresh, mostEdges, missing, afterRan, outputRan}
 use Rattle.complete.proofs.Works.{Good, Chooser, short, next-good}
 use Rattle.complete.proofs.Records.{Recorded, next-recorded, Rising, records-rising}
-use Rattle.complete.proofs.Entry.{CompleteFacts, good-start, CompleteWorks}
-use Rattle.complete_shuffled.specs.Outcome.{outcome}
+use Rattle.complete.proofs.Entry.{good-start, CompleteWorks}
+use Rattle.complete_shuffled.specs.Outcome.{outcome, choiceAnswer}
 use Rattle.complete_shuffled.proofs.Works.{outcome-works}
 use Rattle.demands.specs.Playback.{play, CompletingPlays, addedRecord, Playback}
 use Rattle.demands.proofs.Choices.{By, by, outcome-answer}
@@ -110,10 +111,10 @@ adding-plays s v w x e =
     f = added-facts s v w x e .0
 
     facts : StateFacts s
-    facts = valid-facts s (f .lengths) (f .is-valid)
+    facts = valid-facts s (f .state .lengths) (f .state .is-valid)
 
     laid : Laid s
-    laid = facts .laid (f .phased)
+    laid = facts .laid (f .state .phased)
 
 pub playback : Playback
 playback = record { completing = completing-plays; adding = adding-plays }

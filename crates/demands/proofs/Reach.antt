@@ -28,7 +28,7 @@ use Rattle.journal.proofs.Store.{phase-stored, blocks-stored, table-stored}
 use Rattle.journal.proofs.Laid.{blocks-laid, table-laid, phase-laid}
 use Rattle.adjacency.proofs.Empty.{no-edges}
 use Rattle.state.specs.State.{State, withJournal, withMatrix, cleared}
-use Rattle.state.specs.Valid.{lengthsOk, valid}
+use Rattle.state.specs.Valid.{lengthsOk, valid, ValidLaid}
 use Rattle.state.proofs.Facts.{edgeTotal, valid-facts, lengths-journal, valid-journal}
 use Rattle.take_block.specs.Take.{takeAnswer, afterTake}
 use Rattle.lay_out.specs.LayOut.{layOutAnswer, afterLayOut}
@@ -87,12 +87,12 @@ pub phase-1 : (s : State) (t : Tally) → Reach s t → t .laid ≡ true → pha
 phase-1 s t r e = r .phased ∙ ap phaseOf e
 
 -- the tally's edges moved on a laid state
-with-edges : (s : State) (g : List ℕ) (t : Tally) (m : ℕ) → Reach s t → t .laid ≡ true → lengthsOk (withMatrix s g) ≡ true → valid (withMatrix s g) ≡ true
+with-edges : (s : State) (g : List ℕ) (t : Tally) (m : ℕ) → Reach s t → t .laid ≡ true → ValidLaid (withMatrix s g)
     → edgeTotal (withMatrix s g) ≡ m → Reach (withMatrix s g) (withEdges t m)
-with-edges s g t m r e lengths is-valid count =
+with-edges s g t m r e v count =
     record {
-      lengths = lengths;
-      is-valid = is-valid;
+      lengths = v .lengths;
+      is-valid = v .is-valid;
       table = r .table;
       numbered = r .numbered;
       phased = r .phased;
@@ -191,8 +191,8 @@ module _ (s : State) (t : Tally) (r : Reach s t) where
       go (Add.Added m) e =
           let f = added-facts s v w m e .0 in
           let x = add-works s v w f in
-          let l = laid-tally s t r (f .phased) in
-          with-edges s (afterAdd (Add.Added m) s v w .adjacency) t (t .edges + 1) r l (x .lengths) (x .is-valid)
+          let l = laid-tally s t r (f .state .phased) in
+          with-edges s (afterAdd (Add.Added m) s v w .adjacency) t (t .edges + 1) r l (x .state)
           (x .one-more ∙ ap (λ (m : ℕ). m + 1) (laid-counted s t r l))
       go (Add.Refused q) e = r
 
@@ -204,8 +204,8 @@ module _ (s : State) (t : Tally) (r : Reach s t) where
       go Remove.Removed e =
           let f = removed-facts s v w e in
           let x = remove-works s v w f in
-          let l = laid-tally s t r (f .phased) in
-          with-edges s (afterRemove Remove.Removed s v w .adjacency) t (t .edges - 1) r l (x .lengths) (x .is-valid)
+          let l = laid-tally s t r (f .state .phased) in
+          with-edges s (afterRemove Remove.Removed s v w .adjacency) t (t .edges - 1) r l (x .state)
           (omega (arith, x .one-less, laid-counted s t r l))
       go (Remove.Refused q) e = r
 
@@ -221,7 +221,7 @@ module _ (s : State) (t : Tally) (r : Reach s t) where
           let c = completed-facts s r₀ (length out) joins switches n e in
           let x = outcome-works f s (c .facts) in
           let l = laid-tally s t r (c .facts .phased) in
-          with-edges s (r₀ .adjacency) t (t .edges + joins) r l (x .lengths) (x .is-valid)
+          with-edges s (r₀ .adjacency) t (t .edges + joins) r l (x .state)
           (omega (arith, x .more, c .joins-are, laid-counted s t r l))
       go (Complete.Refused q) e = r
 

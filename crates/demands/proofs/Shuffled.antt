@@ -12,16 +12,15 @@ use Rattle.answer.specs.declared.CompleteAnswer.the-variants as Complete
 use Rattle.answer.specs.declared.ShuffleAnswer.the-variants.{Completed}
 use Rattle.answer.specs.declared.Choice.the-variants.{Picked}
 use Rattle.graph.specs.Tests.{leastClass, mostClasses}
-use Rattle.journal.specs.Journal.{phase, jdmOf, tableOf}
-use Rattle.state.specs.Valid.{lengthsOk, valid}
+use Rattle.journal.specs.Journal.{jdmOf, tableOf}
+use Rattle.state.specs.State.{State}
+use Rattle.state.specs.Valid.{ValidLaid}
 use Rattle.state.specs.Laid.{cellAt}
-use Rattle.complete.specs.Complete.{Ran, fresh, missing, ranAnswer, ranAfter, ranOutput}
-use Rattle.complete.proofs.Entry.{CompleteFacts}
+use Rattle.complete.specs.Complete.{Ran, fresh, missing, ranAnswer, afterRan, outputRan}
 use Rattle.complete_shuffled.specs.Choice.{nextX, stepsX}
 use Rattle.complete_shuffled.specs.Shuffle.{shuffled, withX, shuffleOutput}
 use Rattle.complete_shuffled.proofs.Answers.{with-x-refused}
 use Rattle.complete_shuffled.proofs.Works.{shuffled-last, outcome-works}
-use Rattle.demands.specs.Calls.{State}
 use Rattle.demands.specs.Shuffled.{Shuffles, LeftAlone, ShuffledCompleting}
 use Rattle.demands.specs.Matrix.{Short}
 use Rattle.demands.specs.Playback.{play}

@@ -142,9 +142,7 @@ completed-fits form choice s n count = go (choiceAnswer choice s recordsMost) re
     go : (a : CompleteAnswer) → choiceAnswer choice s recordsMost ≡ a → length (completedText form a n (afterRan a (outcome choice s) s)) ≤ textMost
     go (Completed joins switches written) e =
         let f = completed-facts s (outcome choice s) recordsMost joins switches written e .facts in
-        let w = outcome-works choice s f in
-        state-fits (withMatrix s (outcome choice s .adjacency)) (record { lengths = w .lengths; is-valid = w .is-valid; phased = f .phased }) form n switches
-        count
+        state-fits (withMatrix s (outcome choice s .adjacency)) (outcome-works choice s f .state) form n switches count
     go (CompleteRefused r) e = refused-fits r
 
 -- what laying out answers is the N of the state

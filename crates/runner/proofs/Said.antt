@@ -63,8 +63,7 @@ module _ (form : Form) (choice : Choice) (s : State) (n m : ℕ) (room : m ≡ r
     pub completed-laid : ValidLaid (withMatrix s g)
     completed-laid =
         let f = completed-facts s (outcome choice s) m joins switches written (sym answered ∙ h) .facts in
-        let w = outcome-works choice s f in
-        rw completed-is (record { lengths = w .lengths; is-valid = w .is-valid; phased = f .phased })
+        rw completed-is (outcome-works choice s f .state)
 
 -- laying out leaves the matrix
 laid-matrix : (s : State) → layOutAfter s ≡ withJournal s (layOutAfter s .journal)

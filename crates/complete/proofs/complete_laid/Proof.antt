@@ -7,8 +7,9 @@ use Rattle.answer.specs.declared.CompleteAnswer.the-variants.{Refused}
 use Rattle.state.specs.State.{stateOf}
 use Rattle.complete.specs.Complete.{completed}
 use Rattle.complete.proofs.Whole.{total-few, lacks-missing, lacks-few, working-start, working-end, joins-few, work-done}
-use Rattle.complete.proofs.Entry.{phase-complete, complete-works, short-refused}
+use Rattle.complete.proofs.Entry.{complete-works, short-refused}
 use Rattle.complete.proofs.complete_laid.Statement.{statement}
+use Rattle.state.proofs.Checks.{laid-passed}
 use Rattle.complete.proofs.complete_laid.Tie as tie
 
 pub complete-laid-spec : {M : Type 1} → statement M
@@ -28,7 +29,7 @@ complete-laid-spec =
     let f = b .before .before .before .before .before in
     let s = stateOf (f .args .journal .now) (f .args .adjacency .now) in
     let short = rw (lacks-missing s (f .pre .0) (f .pre .1) (b .begin .ensures)) at (i .if1 .taken) in
-    rw (short-refused s (completed s) _ (phase-complete s (f .pre .0)) short) (ap Refused (c .refuse .ensures), (refl, refl)))  -- returns
+    rw (short-refused s (completed s) _ (laid-passed s (f .pre .0)) short) (ap Refused (c .refuse .ensures), (refl, refl)))  -- returns
     (λ c κs.
     let f = c .before .before .before .before .before .before .before in
     total-few (stateOf (f .args .journal .now) (f .args .adjacency .now)) (f .pre .0) (f .pre .1))  -- starts-requires
@@ -46,7 +47,7 @@ complete-laid-spec =
     let b = t .before .before .before in
     let f = b .before .before .before .before .before in
     let s = stateOf (f .args .journal .now) (f .args .adjacency .now) in
-    let facts = phase-complete s (f .pre .0) in
+    let facts = laid-passed s (f .pre .0) in
     let end = working-end s (f .pre .0) (f .pre .1) (b .begin .ensures .total) (t .starts .ensures) _ (r .fill-all .ensures .0) in
     omega (arith, joins-few s facts (complete-works s facts) end))  -- mul-t12
     (λ c. search needs)  -- same-length
@@ -58,7 +59,7 @@ complete-laid-spec =
     let b = i .before .before in
     let f = b .before .before .before .before .before in
     let s = stateOf (f .args .journal .now) (f .args .adjacency .now) in
-    let facts = phase-complete s (f .pre .0) in
+    let facts = laid-passed s (f .pre .0) in
     let end = working-end s (f .pre .0) (f .pre .1) (b .begin .ensures .total) (t .starts .ensures) _ (r .fill-all .ensures .0) in
     let fits = rw (lacks-missing s (f .pre .0) (f .pre .1) (b .begin .ensures)) at (i .if1 .left) in
     work-done s facts (complete-works s facts) end (f .args .output .now) _ fits (r .fill-all .ensures .1) refl))  -- returns-2

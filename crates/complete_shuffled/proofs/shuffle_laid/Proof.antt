@@ -6,10 +6,11 @@ use borrow.Author.Needs.{needs}
 use Rattle.answer.specs.declared.ShuffleAnswer.the-variants.{Refused}
 use Rattle.state.specs.State.{stateOf}
 use Rattle.complete.proofs.Whole.{vertices-few, total-few, lacks-missing, lacks-few}
-use Rattle.complete.proofs.Entry.{phase-complete, short-refused}
+use Rattle.complete.proofs.Entry.{short-refused}
 use Rattle.complete_shuffled.specs.Shuffle.{shuffled}
 use Rattle.complete_shuffled.proofs.Entry.{begin-working, begin-classes, begin-lacks, end-few, end-done}
 use Rattle.complete_shuffled.proofs.shuffle_laid.Statement.{statement}
+use Rattle.state.proofs.Checks.{laid-passed}
 use Rattle.complete_shuffled.proofs.shuffle_laid.Tie as tie
 
 pub shuffle-laid-spec : {M : Type 1} → statement M
@@ -28,7 +29,7 @@ shuffle-laid-spec =
     let f = b .before .before .before .before .before in
     let s = stateOf (f .args .journal .now) (f .args .adjacency .now) in
     let short = rw (lacks-missing s (f .pre .0) (f .pre .1) (b .begin .ensures)) at (i .if1 .taken) in
-    rw (short-refused s (shuffled s (f .args .x) .ran) _ (phase-complete s (f .pre .0)) short) (ap Refused (c .refuse .ensures), (refl, refl)))  -- returns
+    rw (short-refused s (shuffled s (f .args .x) .ran) _ (laid-passed s (f .pre .0)) short) (ap Refused (c .refuse .ensures), (refl, refl)))  -- returns
     (λ c κs. let f = c .before .before .before .before .before .before in total-few (stateOf (f .args .journal .now) (f .args .adjacency .now)) (f .pre .0) (f .pre .1))  -- starts-requires
     (λ c κs.
     let f = c .before .before .before .before .before .before .before in
