@@ -1,4 +1,4 @@
--- `edgelist::first_bad_edge` meets its contract: what is left to search has the answer of the whole.
+-- `edge_lists::first_bad_edge` meets its contract: what is left to search has the answer of the whole.
 -- Assumes nothing.
 use mathlib.Core.Path.{_≡_, refl, sym, ap, _∙_}
 use mathlib.Core.Bool.{not}

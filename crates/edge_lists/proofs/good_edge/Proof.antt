@@ -1,4 +1,4 @@
--- `edgelist::good_edge` meets its contract.
+-- `edge_lists::good_edge` meets its contract.
 -- Assumes nothing.
 use native.Mathlib.Omega.{arith}
 use Rattle.edge_lists.proofs.good_edge.Statement.{statement}

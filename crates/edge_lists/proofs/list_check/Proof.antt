@@ -1,4 +1,4 @@
--- `edgelist::list_check` meets its contract: each check decides as the definition has it.
+-- `edge_lists::list_check` meets its contract: each check decides as the definition has it.
 -- Assumes nothing.
 use mathlib.Core.Path.{sym, ap, _∙_}
 use borrow.Author.Tests.{le-leb, lt-leb, eq-eqb, ne-eqb}

@@ -1,4 +1,4 @@
--- `edgelist::put_edge` meets its contract.
+-- `edge_lists::put_edge` meets its contract.
 -- Assumes nothing.
 use mathlib.Core.Path.{refl}
 use native.Mathlib.Numerals.{add-one}

@@ -1,4 +1,4 @@
--- `edgelist::put_row` meets its contract: the edges up to w are written.
+-- `edge_lists::put_row` meets its contract: the edges up to w are written.
 use mathlib.Core.Path.{_≡_, refl}
 use Prim.Native.Nat.{_≤_, _<_, _+_, _-_}
 use native.Mathlib.Omega.{arith}

@@ -1,4 +1,4 @@
--- `edgelist::rises` meets its contract.
+-- `edge_lists::rises` meets its contract.
 -- Assumes nothing.
 use borrow.Author.Tests.{eq-eqb, ne-eqb}
 use native.Mathlib.Omega.{arith}

@@ -1,4 +1,4 @@
--- `graph6_reading::bits_of` meets its contract: what is behind the size is unpacked, and there is room for it.
+-- `graph6_read::bits_of` meets its contract: what is behind the size is unpacked, and there is room for it.
 -- Assumes nothing.
 use native.Mathlib.Omega.{arith}
 use borrow.Author.Needs.{needs}

@@ -1,4 +1,4 @@
--- `graph6_reading::graph6_read` meets its contract: each check decides as the definition has it.
+-- `graph6_read::graph6_read` meets its contract: each check decides as the definition has it.
 -- Assumes nothing.
 use mathlib.Core.Path.{refl, sym, ap, _∙_}
 use borrow.Author.Needs.{needs}

@@ -1,4 +1,4 @@
--- `graph6_reading::read_framed` meets its contract: each check decides as the definition has it.
+-- `graph6_read::read_framed` meets its contract: each check decides as the definition has it.
 -- Assumes nothing.
 use mathlib.Core.Path.{refl, ap}
 use borrow.Author.Needs.{needs}

@@ -1,4 +1,4 @@
--- `graph6_writing::body_of` meets its contract: the bits of the edges before i are added.
+-- `graph6_write::body_of` meets its contract: the bits of the edges before i are added.
 -- Assumes nothing.
 use mathlib.Core.Path.{_≡_, sym}
 use Prim.Native.Nat.{_-_, _≤_}

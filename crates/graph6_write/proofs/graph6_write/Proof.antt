@@ -1,4 +1,4 @@
--- `graph6_writing::graph6_write` meets its contract.
+-- `graph6_write::graph6_write` meets its contract.
 -- Assumes nothing.
 use mathlib.Core.Path.{refl, sym, _∙_}
 use borrow.Author.Needs.{needs}

@@ -1,4 +1,4 @@
--- `graph6_writing::printed` meets its contract.
+-- `graph6_write::printed` meets its contract.
 -- Assumes nothing.
 use mathlib.Core.Path.{refl}
 use native.Mathlib.Omega.{arith}

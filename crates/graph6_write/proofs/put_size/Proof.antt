@@ -1,4 +1,4 @@
--- `graph6_writing::put_size` meets its contract.
+-- `graph6_write::put_size` meets its contract.
 -- Assumes nothing.
 use native.Mathlib.Omega.{arith}
 use lib.ListN.{length-set}

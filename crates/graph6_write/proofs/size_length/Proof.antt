@@ -1,4 +1,4 @@
--- `graph6_writing::size_length` meets its contract.
+-- `graph6_write::size_length` meets its contract.
 -- Assumes nothing.
 use mathlib.Core.Path.{refl}
 use native.Mathlib.Omega.{arith}

@@ -1,4 +1,4 @@
--- `graph6_writing::write_listed` meets its contract: the check decides as the definition has it, and the size and the body are the text.
+-- `graph6_write::write_listed` meets its contract: the check decides as the definition has it, and the size and the body are the text.
 -- Assumes nothing.
 use mathlib.Core.Path.{refl, sym, ap, _∙_}
 use native.Mathlib.Omega.{arith}

@@ -1,4 +1,4 @@
--- `survey::jdm_of_edges` meets its contract.
+-- `jdm_of_edges::jdm_of_edges` meets its contract.
 -- Assumes nothing.
 use mathlib.Core.Path.{refl, sym, _∙_}
 use borrow.Author.Needs.{needs}

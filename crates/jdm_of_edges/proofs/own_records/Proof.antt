@@ -1,4 +1,4 @@
--- `survey::own_records` meets its contract: what it counts has the records of the list's own table.
+-- `jdm_of_edges::own_records` meets its contract: what it counts has the records of the list's own table.
 -- Assumes nothing.
 use mathlib.Core.Path.{_∙_}
 use native.Mathlib.Omega.{arith}

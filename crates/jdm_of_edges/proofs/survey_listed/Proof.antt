@@ -1,4 +1,4 @@
--- `survey::survey_listed` meets its contract: each check decides as the definition has it.
+-- `jdm_of_edges::survey_listed` meets its contract: each check decides as the definition has it.
 -- Assumes nothing.
 use mathlib.Core.Path.{refl, sym, ap, _∙_}
 use native.Mathlib.Omega.{arith}

@@ -1,4 +1,4 @@
--- `graph6_reading::bits::list_length` meets its contract.
+-- `graph6_read::bits::list_length` meets its contract.
 -- Assumes nothing.
 use mathlib.Core.Path.{sym, ap}
 use Prim.Native.Nat.{ℕ, _*_, _≤_}

@@ -1,4 +1,4 @@
--- `graph6_reading::bits::put_bits` meets its contract.
+-- `graph6_read::bits::put_bits` meets its contract.
 -- Assumes nothing.
 use mathlib.Core.Path.{_≡_, refl}
 use Prim.Native.Nat.{suc, _+_}

@@ -1,4 +1,4 @@
--- `graph6_reading::bits::unpack` meets its contract: the bits of the bytes before p are written.
+-- `graph6_read::bits::unpack` meets its contract: the bits of the bytes before p are written.
 -- Assumes nothing.
 use mathlib.Core.Path.{_≡_, refl}
 use mathlib.Core.List.{List}

@@ -1,4 +1,4 @@
--- `graph6_reading::bits::zero_behind` meets its contract.
+-- `graph6_read::bits::zero_behind` meets its contract.
 -- Assumes nothing.
 use native.Mathlib.Omega.{arith}
 use Rattle.slices.proofs.PartSum.{rest}

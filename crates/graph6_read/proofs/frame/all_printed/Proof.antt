@@ -1,4 +1,4 @@
--- `graph6_reading::frame::all_printed` meets its contract: the flag is the test of the bytes passed.
+-- `graph6_read::frame::all_printed` meets its contract: the flag is the test of the bytes passed.
 -- Assumes nothing.
 use mathlib.Core.Path.{_≡_}
 use Prim.Native.Nat.{_≤_, _-_}

@@ -1,4 +1,4 @@
--- `graph6_reading::frame::byte_at` meets its contract.
+-- `graph6_read::frame::byte_at` meets its contract.
 -- Assumes nothing.
 use mathlib.Core.Path.{refl, sym}
 use native.Mathlib.Omega.{arith}

@@ -1,4 +1,4 @@
--- `graph6_reading::frame::framed` meets its contract.
+-- `graph6_read::frame::framed` meets its contract.
 -- Assumes nothing.
 use mathlib.Core.Path.{sym}
 use native.Mathlib.Omega.{arith}

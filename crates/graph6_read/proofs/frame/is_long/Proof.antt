@@ -1,4 +1,4 @@
--- `graph6_reading::frame::is_long` meets its contract.
+-- `graph6_read::frame::is_long` meets its contract.
 -- Assumes nothing.
 use Rattle.graph6_read.proofs.frame.is_long.Statement.{statement}
 use Rattle.graph6_read.proofs.frame.is_long.Tie as tie

@@ -1,4 +1,4 @@
--- `graph6_reading::frame::size_length` meets its contract.
+-- `graph6_read::frame::size_length` meets its contract.
 -- Assumes nothing.
 use mathlib.Core.Path.{refl, sym, _∙_}
 use native.Mathlib.Omega.{arith}

@@ -1,4 +1,4 @@
--- `graph6_reading::frame::size_of` meets its contract.
+-- `graph6_read::frame::size_of` meets its contract.
 -- Assumes nothing.
 use mathlib.Core.Path.{sym, ap, _∙_}
 use Prim.Native.Nat.{ℕ, _-_}

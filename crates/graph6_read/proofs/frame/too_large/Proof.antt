@@ -1,4 +1,4 @@
--- `graph6_reading::frame::too_large` meets its contract.
+-- `graph6_read::frame::too_large` meets its contract.
 -- Assumes nothing.
 use Rattle.graph6_read.proofs.frame.too_large.Statement.{statement}
 use Rattle.graph6_read.proofs.frame.too_large.Tie as tie

@@ -1,4 +1,4 @@
--- `graph6_reading::frame::up_to` meets its contract.
+-- `graph6_read::frame::up_to` meets its contract.
 -- Assumes nothing.
 use mathlib.Core.Path.{refl}
 use Rattle.graph6_read.proofs.frame.up_to.Statement.{statement}

@@ -1,4 +1,4 @@
--- `graph6_reading::rows::gather_row` meets its contract: the bits of the columns before w are gathered.
+-- `graph6_read::rows::gather_row` meets its contract: the bits of the columns before w are gathered.
 -- Assumes nothing.
 use mathlib.Core.Path.{_≡_}
 use Prim.Native.Nat.{_-_, _≤_, _<_}

@@ -1,4 +1,4 @@
--- `graph6_reading::rows::put_list` meets its contract: the rows up to v are written.
+-- `graph6_read::rows::put_list` meets its contract: the rows up to v are written.
 -- Assumes nothing.
 use mathlib.Core.Path.{_≡_, refl, sym}
 use Prim.Native.Nat.{_≤_, _-_}

@@ -1,4 +1,4 @@
--- `survey::count::count_cell` meets its contract.
+-- `jdm_of_edges::count::count_cell` meets its contract.
 -- Assumes nothing.
 use Prim.Native.Nat.{_≤_}
 use lib.ListN.{getD}

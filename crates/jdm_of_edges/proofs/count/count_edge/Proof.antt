@@ -1,4 +1,4 @@
--- `survey::count::count_edge` meets its contract.
+-- `jdm_of_edges::count::count_edge` meets its contract.
 -- Assumes nothing.
 use Prim.Native.Nat.{_+_, _*_, _≤_}
 use native.Mathlib.Omega.{arith}

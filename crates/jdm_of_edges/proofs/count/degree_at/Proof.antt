@@ -1,4 +1,4 @@
--- `survey::count::degree_at` meets its contract.
+-- `jdm_of_edges::count::degree_at` meets its contract.
 -- Assumes nothing.
 use native.Mathlib.Omega.{arith}
 use Rattle.jdm_of_edges.proofs.count.degree_at.Statement.{statement}

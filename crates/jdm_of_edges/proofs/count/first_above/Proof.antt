@@ -1,4 +1,4 @@
--- `survey::count::first_above` meets its contract: what is left to search has the answer of the whole.
+-- `jdm_of_edges::count::first_above` meets its contract: what is left to search has the answer of the whole.
 -- Assumes nothing.
 use mathlib.Core.Path.{_≡_, refl, sym, _∙_}
 use Prim.Native.Nat.{_≤_, _-_}

@@ -1,4 +1,4 @@
--- `survey::count::is_isolated` meets its contract.
+-- `jdm_of_edges::count::is_isolated` meets its contract.
 -- Assumes nothing.
 use mathlib.Core.Path.{sym}
 use Rattle.finite.proofs.Delta.{δ-same, δ-other}

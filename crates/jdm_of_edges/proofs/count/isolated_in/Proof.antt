@@ -1,4 +1,4 @@
--- `survey::count::isolated_in` meets its contract: after the turn for v those up to v are counted.
+-- `jdm_of_edges::count::isolated_in` meets its contract: after the turn for v those up to v are counted.
 -- Assumes nothing.
 use mathlib.Core.Path.{_≡_, sym}
 use Prim.Native.Nat.{_-_, _≤_}

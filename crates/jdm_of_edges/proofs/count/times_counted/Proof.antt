@@ -1,4 +1,4 @@
--- `survey::count::times_counted` meets its contract.
+-- `jdm_of_edges::count::times_counted` meets its contract.
 -- Assumes nothing.
 use mathlib.Core.Path.{refl}
 use borrow.Author.Tests.{eq-eqb, ne-eqb}

@@ -1,4 +1,4 @@
--- `survey::write::put_cells` meets its contract: after the turn for k the records of the rows up to k are written.
+-- `jdm_of_edges::write::put_cells` meets its contract: after the turn for k the records of the rows up to k are written.
 -- Assumes nothing.
 use mathlib.Core.Path.{_≡_, refl}
 use mathlib.Core.List.{List}

@@ -1,4 +1,4 @@
--- `survey::write::put_record` meets its contract.
+-- `jdm_of_edges::write::put_record` meets its contract.
 -- Assumes nothing.
 use mathlib.Core.Path.{refl}
 use borrow.Author.Tests.{eq-eqb, ne-eqb}

@@ -1,4 +1,4 @@
--- `survey::write::put_records` meets its contract: the cells start behind the record of isolated vertices.
+-- `jdm_of_edges::write::put_records` meets its contract: the cells start behind the record of isolated vertices.
 -- Assumes nothing.
 use native.Mathlib.Omega.{arith}
 use borrow.Author.Needs.{needs}

@@ -1,4 +1,4 @@
--- `survey::write::put_row` meets its contract: after the turn for l the records up to cell (k, l) are written.
+-- `jdm_of_edges::write::put_row` meets its contract: after the turn for l the records up to cell (k, l) are written.
 -- Assumes nothing.
 use mathlib.Core.Path.{_≡_, refl}
 use Prim.Native.Nat.{_+_, _*_, _-_, _≤_}
