@@ -168,12 +168,13 @@ holds-rest : (xs : List Step) (es : List ℕ) (s : State) (t : Tally) → Reach 
 holds-rest [] es s t r = ap (λ (e : List ℕ). sameList e es) (edges-rest s t r)
 holds-rest (x ∷ xs) es s t r =
     ap (λ (n : List ℕ). sameList n (x .answer) && holdsFrom (after s (x .call)) xs es) (answer-rest s t r (x .call))
-    ∙ ap (λ (b : Bool). sameList (answerRest s (x .call)) (x .answer) && b) (next (x .call))
+    ∙ ap (λ (b : Bool). sameList (answerRest s (x .call)) (x .answer) && b) (next (x .call) (λ s′ t′ r′. holds-rest xs es s′ t′ r′))
   where
-    next : (c : Call) → holdsFrom (after s c) xs es ≡ holdsRest (afterRest s c) xs es
-    next (changes c) =
-        holds-rest xs es (changed s c) (tally t (told s c)) (after-call s t r c) ∙ ap (λ (s : State). holdsRest s xs es) (changed-rest s t r c)
-    next (reads q) = holds-rest xs es s t r
+    next : (c : Call) → ((s′ : State) (t′ : Tally) → Reach s′ t′ → holdsFrom s′ xs es ≡ holdsRest s′ xs es)
+        → holdsFrom (after s c) xs es ≡ holdsRest (afterRest s c) xs es
+    next (changes c) rest =
+        rest (changed s c) (tally t (told s c)) (after-call s t r c) ∙ ap (λ (s′ : State). holdsRest s′ xs es) (changed-rest s t r c)
+    next (reads q) rest = rest s t r
 
 abbrev pub allRest : List Case → Bool
 allRest [] = true
