@@ -53,22 +53,26 @@ add-unlinked-spec =
     let x = c .before .before .before .before .before .before in
     let t = x .before .before in
     let s = t .before .before in
-    omega (arith, class-few (s .args .cells .now) (s .pre .0) (s .pre .2) (t .starts .ensures) (s .args .v) (x .class-at .ensures) (s .pre .0 .first)))  -- mul-t24
+    let p = s .pre in
+    omega (arith, class-few (s .args .cells .now) (p .0) (p .2) (t .starts .ensures) (s .args .v) (x .class-at .ensures) (p .0 .first)))  -- mul-t24
     (λ c.
     let x = c .before .before .before .before .before .before in
     let t = x .before .before in
     let s = t .before .before in
-    omega (arith, class-few (s .args .cells .now) (s .pre .0) (s .pre .2) (t .starts .ensures) (s .args .v) (x .class-at .ensures) (s .pre .0 .first)))  -- array-read-t27
+    let p = s .pre in
+    omega (arith, class-few (s .args .cells .now) (p .0) (p .2) (t .starts .ensures) (s .args .v) (x .class-at .ensures) (p .0 .first)))  -- array-read-t27
     (λ c.
     let y = c .before .before .before .before in
     let t = y .before .before .before .before in
     let s = t .before .before in
-    omega (arith, class-few (s .args .cells .now) (s .pre .0) (s .pre .2) (t .starts .ensures) (s .args .w) (y .class-at2 .ensures) (s .pre .0 .second)))  -- mul-t24-2
+    let p = s .pre in
+    omega (arith, class-few (s .args .cells .now) (p .0) (p .2) (t .starts .ensures) (s .args .w) (y .class-at2 .ensures) (p .0 .second)))  -- mul-t24-2
     (λ c.
     let y = c .before .before .before .before in
     let t = y .before .before .before .before in
     let s = t .before .before in
-    omega (arith, class-few (s .args .cells .now) (s .pre .0) (s .pre .2) (t .starts .ensures) (s .args .w) (y .class-at2 .ensures) (s .pre .0 .second)))  -- array-read-t27-2
+    let p = s .pre in
+    omega (arith, class-few (s .args .cells .now) (p .0) (p .2) (t .starts .ensures) (s .args .w) (y .class-at2 .ensures) (p .0 .second)))  -- array-read-t27-2
     (λ c κs.
     let i = c .before .before .before in
     let h = i .before in
