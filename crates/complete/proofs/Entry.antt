@@ -109,7 +109,8 @@ module _ (s : State) where
     pub no-edge : isolated (vertexCount s) (edge (r .adjacency)) ≡ isolatedOf (s .journal)
     pub degrees-exact : (v : ℕ) → v < vertexCount s → degree (vertexCount s) (edge (r .adjacency)) v ≡ classDegree (classAt s v)
 
-  pub completed-works : ValidLaid s → (r : Ran) → CompletedRun (vertexCount s) (classAt s) (jdmOf (s .journal)) (s .adjacency) r → Recorded r → CompleteWorks r
+  pub completed-works : ValidLaid s → (r : Ran) → CompletedRun (vertexCount s) (classAt s) (jdmOf (s .journal)) (s .adjacency) r → Recorded r
+      → CompleteWorks r
   completed-works f r end recorded =
       record {
         state =
@@ -125,7 +126,9 @@ module _ (s : State) where
         simple = end .filling .partial .simple;
         table = has-table (tableOf (s .journal)) summed passed (edge g′) (end .filling .partial) (end .full);
         no-edge = has-isolated (tableOf (s .journal)) summed passed (edge g′) (end .filling .partial) (end .full);
-        degrees-exact = complete-is-exact (vertexCount s) mostClasses (classAt s) classDegree (jdmOf (s .journal)) (edge g′) (laid .target) (end .filling .partial) (end .full);
+        degrees-exact =
+            complete-is-exact (vertexCount s) mostClasses (classAt s) classDegree (jdmOf (s .journal)) (edge g′) (laid .target)
+            (end .filling .partial) (end .full);
       }
     where
       facts : StateFacts s
@@ -145,4 +148,5 @@ module _ (s : State) where
 
   pub complete-works : ValidLaid s → CompleteWorks (completed s)
   complete-works f =
-      completed-works f (completed s) (completes (vertexCount s) (classAt s) (jdmOf (s .journal)) (s .adjacency) (good-start f .0) (good-start f .1)) (completed-length s)
+      completed-works f (completed s)
+      (completes (vertexCount s) (classAt s) (jdmOf (s .journal)) (s .adjacency) (good-start f .0) (good-start f .1)) (completed-length s)

@@ -66,7 +66,8 @@ module _ (n : ℕ) (cls : ℕ → ℕ) (T : ℕ → ℕ → ℕ) (room : ℕ) wh
       (part-short n cls T s (p .filling) k l kC lC i h)
 
   -- the cells of row k before k + i, and the rows before leastClass + i
-  pub row-valid : (s : Ran) → ValidRun n cls T room s → (k : ℕ) → (i : ℕ) → k + i ≤ mostClasses → ValidRun n cls T room (foldTo i (λ i. fillCell n cls T k (k + i)) s)
+  pub row-valid : (s : Ran) → ValidRun n cls T room s → (k : ℕ) → (i : ℕ) → k + i ≤ mostClasses
+      → ValidRun n cls T room (foldTo i (λ i. fillCell n cls T k (k + i)) s)
   row-valid s p k i h =
       foldTo-keeps (λ i x. ValidRun n cls T room x) (λ i. fillCell n cls T k (k + i)) s i p
       (λ j x ji q. part-valid x q k (k + j) (omega arith) (omega arith) (cellMissing n cls T (x .adjacency) k (k + j)) (omega arith))

@@ -30,10 +30,13 @@ shuffle-laid-spec =
     let s = stateOf (f .args .journal .now) (f .args .adjacency .now) in
     let short = rw (lacks-missing s (f .pre .0) (f .pre .1) (b .begin .ensures)) at (i .if1 .taken) in
     rw (short-refused s (shuffled s (f .args .x) .ran) _ (laid-passed s (f .pre .0)) short) (ap Refused (c .refuse .ensures), (refl, refl)))  -- returns
-    (λ c κs. let f = c .before .before .before .before .before .before in total-few (stateOf (f .args .journal .now) (f .args .adjacency .now)) (f .pre .0) (f .pre .1))  -- starts-requires
+    (λ c κs.
+    let f = c .before .before .before .before .before .before in
+    total-few (stateOf (f .args .journal .now) (f .args .adjacency .now)) (f .pre .0) (f .pre .1))  -- starts-requires
     (λ c κs.
     let f = c .before .before .before .before .before .before .before in
-    (f .pre .1 .most, f .pre .1 .counted, vertices-few (stateOf (f .args .journal .now) (f .args .adjacency .now)) (f .pre .0) (f .pre .1)))  -- classes-requires
+    let s = stateOf (f .args .journal .now) (f .args .adjacency .now) in
+    (f .pre .1 .most, f .pre .1 .counted, vertices-few s (f .pre .0) (f .pre .1)))  -- classes-requires
     (λ c κs.
     let k = c .before .before .before .before .before in
     let t = k .before in

@@ -17,7 +17,7 @@ begin-spec =
     let n = c .before in
     let p = n .before .pre in (
       omega (arith, vertices-few (p .state) (p .passed) (p .opened), n .vertex-count .ensures),
-      opened-few (p .state) (p .opened) (laid (p .state) (p .passed) (p .opened)) (n .vertex-count .ensures),
+      λ v l. opened-few (p .state) (p .opened) (laid (p .state) (p .passed) (p .opened)) (n .vertex-count .ensures) v (omega (arith, l)),
     ))  -- edges-held-requires
     (λ c.
     let w = c .before in

@@ -17,7 +17,9 @@ unlink-spec =
     (λ c. omega arith)  -- element-write-held
     (λ c. omega arith)  -- mul-held-2
     (λ c. omega arith)  -- element-copy-out-held-2
-    (λ c. let p = c .before .before .before .before .before .before .before .pre in rw (getD-set-other _ _ _ _ _ (λ s. p .3 (sym s))) (omega arith))  -- sub-held-2
+    (λ c.
+    let p = c .before .before .before .before .before .before .before .pre in
+    rw (getD-set-other _ _ _ _ _ (λ s. p .3 (sym s))) (omega arith))  -- sub-held-2
     (λ c. omega arith)  -- element-write-held-2
     (λ c. search needs)  -- same-length
     (λ c.
