@@ -5,7 +5,7 @@ ghost use Prim.Native.Nat.{ℕ, _+_, _-_, _*_, _/_, _≤_, _<_};
 ghost use lib.Dec.{eqb, leb, ltb};
 ghost use lib.ListN.{length, getD, take, drop, replicate};
 ghost use Rattle.finite.specs.Range.{δ, sumTo, allTo};
-ghost use Rattle.graph.specs.Graph.{degree};
+ghost use Rattle.graph.specs.Graph.{Simple, degree};
 ghost use Rattle.graph.specs.Tests.{mostClasses, mostDegree, classDegree};
 ghost use Rattle.slices.specs.Slices.{allZero};
 ghost use Rattle.table.specs.Inner.Cells.{matrixOf};
@@ -16,7 +16,7 @@ ghost use Rattle.adjacency.specs.Inner.Sums.{sumsSize, Added, classEdges
 ghost use Rattle.adjacency.specs.Inner.Degrees.{degreesOf};
 use layout::MAX_VERTICES;
 use slices::all_zero;
-use slices::byte_sum;
+use slices::ones;
 use slices::wide;
 use table::cells::CELLS;
 use table::cells::upper_cell;
@@ -95,18 +95,18 @@ fn is_zero_outside(adjacency: &[u8], n: usize) -> bool
 }
 
 // How many edges v has.
-pub fn degree_of(adjacency: &[u8], n: usize, v: usize) -> usize
-    requires { ⌜ (length (now adjacency) ≡ adjacencySize) × (n ≤ side) × (v < side) ⌝ }
-    ensures { λ r. ⌜ (r ≡ degree n (edge (now (adjacency .entry))) v) × (r ≤ 255 * side) ⌝ }
+fn degree_of(adjacency: &[u8], n: usize, v: usize) -> usize
+    requires { ⌜ (length (now adjacency) ≡ adjacencySize) × (n ≤ side) × (v < n) × Simple n (edge (now adjacency)) ⌝ }
+    ensures { λ r. ⌜ r ≡ degree n (edge (now (adjacency .entry))) v ⌝ }
 {
     let from = v * SIDE;
     let to = from + n;
-    byte_sum(&adjacency[from..to])
+    ones(&adjacency[from..to])
 }
 
 // The degrees of the n vertices, in an array of zeros.
 fn hold_degrees(adjacency: &[u8], n: usize, held: &mut [usize; MAX_VERTICES])
-    requires { ⌜ (length (now adjacency) ≡ adjacencySize) × (n ≤ side) × (now held ≡ replicate mostVertices 0) ⌝ }
+    requires { ⌜ (length (now adjacency) ≡ adjacencySize) × (n ≤ side) × Simple n (edge (now adjacency)) × (now held ≡ replicate mostVertices 0) ⌝ }
     ensures { λ _. ⌜ now (held .exit) ≡ degreesOf n (now (adjacency .entry)) ⌝ }
 {
     for v in 0..n {

@@ -10,7 +10,7 @@ ghost use Rattle.layout.specs.Inner.Arrays.{countIn};
 ghost use Rattle.adjacency.specs.Adjacency.{adjacencySize, side, edge};
 ghost use Rattle.classes.specs.Inner.Block.{startsOf, classFrom, blockSum, triangleSum, BlockOf};
 use adjacency::SIDE;
-use slices::wide;
+use slices::ones;
 use table::class::MAX_CLASSES;
 
 // One entry for each class, and one past the last.
@@ -43,18 +43,6 @@ pub fn class_at(starts: &[usize; STARTS], v: usize) -> usize
         k += 1;
     }
     k
-}
-
-// How many of these bytes are 1, where each is 0 or 1. The sum fits in a byte: this is a vector loop of 16 at a time.
-fn ones(s: &[u8]) -> usize
-    requires { ⌜ (length (now s) ≤ side) × ((i : ℕ) → i < length (now s) → getD (now s) i 0 ≤ 1) ⌝ }
-    ensures { λ r. ⌜ (r ≡ sumTo (length (now (s .entry))) (λ i. getD (now (s .entry)) i 0)) × (r ≤ side) ⌝ }
-{
-    let mut sum: u8 = 0;
-    for i in 0..s.len() {
-        sum += s[i];
-    }
-    wide(sum)
 }
 
 // The ones of row v in columns left, .., right - 1.

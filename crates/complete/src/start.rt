@@ -22,6 +22,6 @@ pub fn begin(
     ensures { λ r. ⌜ Started (now (cells .entry)) (now (counts .entry)) (now (held .entry)) r ⌝ }
 {
     let n = vertex_count(cells, counts);
-    let missing = edges_wanted(cells) - edges_held(held, n);
+    let missing = edges_wanted(counts) - edges_held(held, n);
     Start { n, missing }
 }

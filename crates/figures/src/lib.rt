@@ -36,7 +36,7 @@ fn figures_laid(
 {
     let vertices = vertex_count(cells, counts);
     let blocks = block_count(journal);
-    let wanted = edges_wanted(cells);
+    let wanted = edges_wanted(counts);
     let laid = edges_held(held, vertices);
     Figures {
         phase: 1,

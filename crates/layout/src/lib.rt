@@ -1,13 +1,14 @@
 // Document 01's tests 9 to 12 on a matrix, D(k), N, and the class of each vertex.
 ghost use mathlib.Core.Path.{_≡_};
-ghost use Prim.Native.Nat.{_*_, _≤_, _<_};
+ghost use Prim.Native.Nat.{_*_, _/_, _≤_, _<_};
 ghost use lib.ListN.{replicate};
+ghost use Rattle.finite.specs.Range.{sumTo};
 ghost use Rattle.graph.specs.Numbering.{total, classOf};
 ghost use Rattle.graph.specs.Target.{cellMost};
-ghost use Rattle.graph.specs.Tests.{mostClasses, rowSum, odd, uneven, overfull, firstOdd, firstUneven, firstOverfull, firstOverfullIn, vertices};
+ghost use Rattle.graph.specs.Tests.{mostClasses, rowSum, odd, uneven, overfull, firstOdd, firstUneven, firstOverfull, firstOverfullIn, vertices, classDegree};
 ghost use Rattle.table.specs.Inner.Cells.{matrixOf, AtMost, cellSumMost};
 ghost use Rattle.layout.specs.Inner.Arrays.{countIn, rowFits, Reaches, tableIn, Counts, classesOf};
-ghost use Rattle.layout.specs.Layout.{wanted, layoutVerdict, mostVertices};
+ghost use Rattle.layout.specs.Layout.{layoutVerdict, mostVertices};
 use answer::Cause;
 use answer::Verdict;
 use answer::refuse;
@@ -200,14 +201,14 @@ pub fn classes(cells: &[u32; CELLS], counts: &[usize; MAX_CLASSES]) -> [u8; MAX_
     t
 }
 
-// Half the sum of all cells.
-pub fn edges_wanted(cells: &[u32; CELLS]) -> usize
-    requires { ⌜ AtMost cellSumMost (now cells) ⌝ }
-    ensures { λ r. ⌜ r ≡ wanted (matrixOf (now (cells .entry))) ⌝ }
+// Half the sum of all cells, where rows come out: row k is the class's degree for each of its vertices.
+pub fn edges_wanted(counts: &[usize; MAX_CLASSES]) -> usize
+    requires { ⌜ total mostClasses (countIn (now counts)) ≤ mostVertices ⌝ }
+    ensures { λ r. ⌜ r ≡ sumTo mostClasses (λ k. countIn (now (counts .entry)) k * classDegree k) / 2 ⌝ }
 {
     let mut sum = 0;
     for k in 0..MAX_CLASSES {
-        sum += row_sum(cells, k);
+        sum += counts[k] * class_degree(k);
     }
     sum / 2
 }

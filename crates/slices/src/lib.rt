@@ -1,6 +1,6 @@
-// Byte slices: a byte as a number, the smaller of two numbers, the sum, all zero, equal, one byte stored, copied into another.
+// Byte slices: a byte as a number, the smaller of two numbers, the sum, the ones, all zero, equal, one byte stored, copied into another.
 ghost use mathlib.Core.Path.{_≡_};
-ghost use Prim.Native.Nat.{_+_, _≤_, _<_, min};
+ghost use Prim.Native.Nat.{ℕ, _+_, _≤_, _<_, min};
 ghost use lib.ListN.{length, getD, replicate, set};
 ghost use lib.Seq.{sets};
 ghost use Rattle.finite.specs.Range.{sumTo};
@@ -40,6 +40,18 @@ pub fn byte_sum(s: &[u8]) -> usize
         sum += wide16(s[i]);
     }
     sum as usize
+}
+
+// How many of these bytes are 1, where each is 0 or 1. The sum fits in a byte: this is a vector loop of 16 at a time.
+pub fn ones(s: &[u8]) -> usize
+    requires { ⌜ (length (now s) ≤ 255) × ((i : ℕ) → i < length (now s) → getD (now s) i 0 ≤ 1) ⌝ }
+    ensures { λ r. ⌜ (r ≡ sumTo (length (now (s .entry))) (λ i. getD (now (s .entry)) i 0)) × (r ≤ length (now (s .entry))) ⌝ }
+{
+    let mut sum: u8 = 0;
+    for i in 0..s.len() {
+        sum += s[i];
+    }
+    wide(sum)
 }
 
 // Every byte is 0. A flag and no early exit, so that the loop is a vector loop.

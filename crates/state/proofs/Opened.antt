@@ -2,13 +2,22 @@
 -- Assumes nothing.
 use mathlib.Core.Path.{_≡_, ap, _∙_}
 use mathlib.Core.List.{List}
-use Prim.Native.Nat.{ℕ, _/_, _≤_, _<_}
+use Prim.Native.Nat.{ℕ, _*_, _/_, _≤_, _<_}
+use native.Mathlib.Nat.{div-add-mod'}
+use native.Mathlib.Decide.{decLt}
 use native.Mathlib.Omega.{arith}
 use lib.ListN.{getD}
 use Rattle.finite.specs.Range.{sumTo}
-use Rattle.graph.specs.Graph.{edges}
-use Rattle.graph.specs.Tests.{mostDegree, vertices}
+use Rattle.finite.proofs.Sum.{sumTo-cong}
+use Rattle.graph.specs.Graph.{edges, DegreeTable}
+use Rattle.graph.specs.Numbering.{total}
+use Rattle.graph.specs.Tests.{mostDegree, mostClasses, leastClass, classDegree, rowSum, vertices}
+use Rattle.graph.proofs.Passes.{passes-passed}
+use Rattle.table.specs.Inner.Cells.{matrixOf}
+use Rattle.layout.specs.Layout.{mostVertices, wanted}
 use Rattle.layout.specs.Inner.Arrays.{countIn, tableIn}
+use Rattle.layout.proofs.Counted.{counted-total, counted-degree}
+use Rattle.journal.specs.Journal.{jdmOf}
 use Rattle.adjacency.specs.Adjacency.{edge}
 use Rattle.adjacency.proofs.Degrees.{held-is, held-edges}
 use Rattle.state.specs.State.{State}
@@ -38,3 +47,28 @@ module _ (s : State) {cells counts held : List ℕ} (o : Opened s cells counts h
       (ee
       ∙ ap (λ (m : ℕ). sumTo m (λ v. getD held v 0) / 2) opened-vertices
       ∙ held-edges (vertexCount s) (laid .vertices-le) (s .adjacency) (o .degrees-held) (laid .partial .simple))
+
+-- the vertices of each class
+module _ (s : State) {cells counts held : List ℕ} (o : Opened s cells counts held) (laid : Laid s) where
+  pub opened-total : total mostClasses (countIn counts) ≤ mostVertices
+  opened-total = rw (counted-total cells counts (o .counted), ap vertices (o .said)) (laid .vertices-le)
+
+  -- row k of the table is the class's degree for each of its vertices ..
+  opened-row : (k : ℕ) → k < mostClasses → countIn counts k * classDegree k ≡ rowSum (matrixOf cells) k
+  opened-row k l = go (decLt k leastClass)
+    where
+      same : matrixOf cells ≡ jdmOf (s .journal)
+      same = ap (λ (u : DegreeTable). u .cells) (o .said)
+
+      go : Dec (k < leastClass) → countIn counts k * classDegree k ≡ rowSum (matrixOf cells) k
+      go (yes p) = let z : k ≡ 0 = omega arith in rw (z, same) (omega (arith, laid .target .rows 0 (omega arith)))
+      go (no p) =
+          let a : leastClass ≤ k = omega arith in
+          let c = counted-degree cells counts (o .counted) k a in
+          let r = passes-passed (jdmOf (s .journal)) .0 (laid .passed) .rows k a l in
+          rw (c, same) (omega (arith, div-add-mod' (rowSum (jdmOf (s .journal)) k) k, r))
+
+  -- .. so that the classes tell the edges wanted
+  pub opened-wanted : {e : ℕ} → e ≡ sumTo mostClasses (λ k. countIn counts k * classDegree k) / 2 → e ≡ wanted (matrixOf cells)
+  opened-wanted ee =
+      ee ∙ ap (λ (m : ℕ). m / 2) (sumTo-cong mostClasses (λ k. countIn counts k * classDegree k) (rowSum (matrixOf cells)) opened-row)

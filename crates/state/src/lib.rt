@@ -3,7 +3,6 @@
 ghost use mathlib.Core.Path.{_≡_};
 ghost use mathlib.Core.Bool.{true};
 ghost use lib.ListN.{length, replicate};
-ghost use Rattle.answer.specs.declared.Verdict.the-variants.{Go};
 ghost use Rattle.graph.specs.Tests.{mostClasses};
 ghost use Rattle.table.specs.Inner.Cells.{cellsSize, AtMost, cellSumMost};
 ghost use Rattle.layout.specs.Layout.{mostVertices};
@@ -11,9 +10,9 @@ ghost use Rattle.layout.specs.Inner.Arrays.{countIn, tableIn, Counts};
 ghost use Rattle.journal.specs.Journal.{journalSize, journalOk, tableOf};
 ghost use Rattle.adjacency.specs.Adjacency.{adjacencySize};
 ghost use Rattle.state.specs.State.{stateOf};
-ghost use Rattle.state.specs.Valid.{lengthsOk, laidOk};
+ghost use Rattle.state.specs.Valid.{lengthsOk, laidOk, valid};
 ghost use Rattle.state.specs.Checks.{stateVerdict, phaseVerdict, pairVerdict};
-ghost use Rattle.state.specs.Inner.Opened.{frontVerdict, laidFront, Opened};
+ghost use Rattle.state.specs.Inner.Opened.{frontValid, frontVerdict, laidFront, Opened};
 use adjacency::ADJACENCY_BYTES;
 use adjacency::adjacency_ok;
 use answer::Cause;
@@ -83,20 +82,28 @@ fn is_laid_ok(journal: &[u8], adjacency: &[u8]) -> bool
     open(journal, adjacency, &mut cells, &mut counts, &mut held)
 }
 
-// The check 1 and, of 2, all but a laid matrix.
+// Of the check 2 all but a laid matrix.
+fn front_valid(journal: &[u8], adjacency: &[u8]) -> bool
+    requires { ⌜ length (now journal) ≡ journalSize ⌝ }
+    ensures { λ r. ⌜ r ≡ frontValid (stateOf (now (journal .entry)) (now (adjacency .entry))) ⌝ }
+{
+    if !journal_ok(journal) {
+        return false;
+    }
+    if phase_of(journal) != 0 {
+        return true;
+    }
+    slices::all_zero(adjacency)
+}
+
+// The check 1, and that.
 pub fn front_check(journal: &[u8], adjacency: &[u8]) -> Verdict
     ensures { λ r. ⌜ r ≡ frontVerdict (stateOf (now (journal .entry)) (now (adjacency .entry))) ⌝ }
 {
     if !lengths_ok(journal, adjacency) {
         return stopped(Cause::WrongLength);
     }
-    if !journal_ok(journal) {
-        return stopped(Cause::InvalidState);
-    }
-    if phase_of(journal) != 0 {
-        return Verdict::Go;
-    }
-    if !slices::all_zero(adjacency) {
+    if !front_valid(journal, adjacency) {
         return stopped(Cause::InvalidState);
     }
     Verdict::Go
@@ -118,29 +125,30 @@ pub fn laid_check(journal: &[u8], adjacency: &[u8]) -> Verdict
     }
 }
 
-// The matrix of a state whose front passes.
-fn matrix_check(journal: &[u8], adjacency: &[u8]) -> Verdict
-    requires { ⌜ frontVerdict (stateOf (now journal) (now adjacency)) ≡ Go ⌝ }
-    ensures { λ r. ⌜ r ≡ stateVerdict (stateOf (now (journal .entry)) (now (adjacency .entry))) ⌝ }
+fn is_valid(journal: &[u8], adjacency: &[u8]) -> bool
+    requires { ⌜ lengthsOk (stateOf (now journal) (now adjacency)) ≡ true ⌝ }
+    ensures { λ r. ⌜ r ≡ valid (stateOf (now (journal .entry)) (now (adjacency .entry))) ⌝ }
 {
+    if !front_valid(journal, adjacency) {
+        return false;
+    }
     if phase_of(journal) == 0 {
-        return Verdict::Go;
+        return true;
     }
-    if !is_laid_ok(journal, adjacency) {
-        return stopped(Cause::InvalidState);
-    }
-    Verdict::Go
+    is_laid_ok(journal, adjacency)
 }
 
 // The checks 1 and 2.
 pub fn state_check(journal: &[u8], adjacency: &[u8]) -> Verdict
     ensures { λ r. ⌜ r ≡ stateVerdict (stateOf (now (journal .entry)) (now (adjacency .entry))) ⌝ }
 {
-    let verdict = front_check(journal, adjacency);
-    match verdict {
-        Verdict::Stop(r) => Verdict::Stop(r),
-        Verdict::Go => matrix_check(journal, adjacency),
+    if !lengths_ok(journal, adjacency) {
+        return stopped(Cause::WrongLength);
     }
+    if !is_valid(journal, adjacency) {
+        return stopped(Cause::InvalidState);
+    }
+    Verdict::Go
 }
 
 // And 3, for a call that needs this phase.

@@ -5,6 +5,7 @@ use mathlib.Core.Bool.{true≢false}
 use native.Mathlib.Omega.{arith}
 use borrow.Author.Tests.{not-true, not-false}
 use Rattle.layout.specs.Inner.Arrays.{classIn}
+use Rattle.adjacency.proofs.Mirrored.{mirrored-simple}
 use Rattle.adjacency.proofs.Degrees.{held-within}
 use Rattle.adjacency.proofs.adjacency_ok.Statement.{statement}
 use Rattle.adjacency.proofs.adjacency_ok.Tie as tie
@@ -16,7 +17,15 @@ adjacency-ok-spec =
     (λ c.
     let m = c .before in
     (rw (sym (m .is-mirrored .ensures) ∙ not-true _ (c .if1 .taken)), λ e. absurd (true≢false (sym e))))  -- returns
-    (λ c κs. let p = c .before .before .before .before .pre in (p .0, p .1, p .4))  -- hold-degrees-requires
+    (λ c κs.
+    let i = c .before in
+    let m = i .before in
+    let s = m .before .before in (
+      s .pre .0,
+      s .pre .1,
+      mirrored-simple (s .args .n) (s .args .adjacency .now) (sym (m .is-mirrored .ensures) ∙ not-false _ (i .if1 .left)),
+      s .pre .4,
+    ))  -- hold-degrees-requires
     (λ c κs. omega arith)  -- is-zero-outside-requires
     (λ c κs. omega arith)  -- degrees-within-requires
     (λ c κs.

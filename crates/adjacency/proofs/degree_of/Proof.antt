@@ -5,7 +5,7 @@ use Prim.Native.Nat.{_≤_, _+_, _*_, _-_}
 use native.Mathlib.Omega.{arith}
 use lib.ListN.{length}
 use Rattle.adjacency.specs.Adjacency.{side}
-use Rattle.slices.proofs.PartSum.{part-sum, part-most}
+use Rattle.slices.proofs.PartSum.{part-length, part-at, part-sum}
 use Rattle.adjacency.proofs.degree_of.Statement.{statement}
 use Rattle.adjacency.proofs.degree_of.Tie as tie
 
@@ -14,21 +14,22 @@ degree-of-spec =
     tie.close (tie.spec
     (λ c. omega arith)  -- mul-from
     (λ c. omega arith)  -- add-to
-    (λ c. omega arith)  -- sub-byte-sum
-    (λ c. omega arith)  -- part-byte-sum-start
-    (λ c. omega arith)  -- part-byte-sum-end
+    (λ c. omega arith)  -- sub-ones
+    (λ c. omega arith)  -- part-ones-start
+    (λ c. omega arith)  -- part-ones-end
     (λ c κs.
-    let k = c .before in
-    let a = k .before .args in
+    let s = c .before .before in
+    let a = s .args in
+    let g = a .adjacency .now in
     let e : (a .v * side + a .n) - a .v * side ≡ a .n = omega arith in
-    let f : a .v * side + a .n ≤ length (a .adjacency .now) = omega arith in
-    let most = part-most (a .adjacency .now) (a .v * side) (a .n) f (λ p. omega (arith, k .shared-slice-known .given p)) in
-    rw (e, part-sum (a .adjacency .now) (a .v * side) (a .n) f) (omega arith))  -- byte-sum-requires
+    let f : a .v * side + a .n ≤ length g = omega arith in
+    rw (e, part-length g (a .v * side) (a .n) f) (
+      omega arith,
+      λ i l. rw (part-at g (a .v * side) (a .n) f i l) (s .pre .3 .binary (a .v) i (s .pre .2) l),
+    ))  -- ones-requires
     (λ c.
-    let k = c .before .before in
-    let a = k .before .args in
+    let a = c .before .before .before .args in
+    let g = a .adjacency .now in
     let e : (a .v * side + a .n) - a .v * side ≡ a .n = omega arith in
-    let f : a .v * side + a .n ≤ length (a .adjacency .now) = omega arith in
-    let sum = rw e at (c .byte-sum .ensures .0) ∙ part-sum (a .adjacency .now) (a .v * side) (a .n) f in
-    let most = part-most (a .adjacency .now) (a .v * side) (a .n) f (λ p. omega (arith, k .shared-slice-known .given p)) in
-    (sum, omega arith)))  -- returns
+    let f : a .v * side + a .n ≤ length g = omega arith in
+    rw e at (c .ones .ensures .0) ∙ part-sum g (a .v * side) (a .n) f))  -- returns

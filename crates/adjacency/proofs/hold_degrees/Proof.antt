@@ -21,13 +21,15 @@ abbrev μ-loop : tie.MeasureT-loop
 pub hold-degrees-spec : {M : Type 1} → statement M
 hold-degrees-spec =
     tie.close (tie.spec Inv-loop μ-loop
-    (λ c. (omega arith, c .before .pre .2 ∙ sym (fillTo-none _ _)))  -- loop-holds
-    (λ c κs. omega arith)  -- degree-of-requires
+    (λ c. (omega arith, c .before .pre .3 ∙ sym (fillTo-none _ _)))  -- loop-holds
+    (λ c κs.
+    let p = c .before .before .before .pre in
+    (p .0, p .1, c .loop-test .taken, p .2))  -- degree-of-requires
     (λ c. omega arith)  -- mul-held
     (λ c. omega arith)  -- element-write-held
     (λ c. omega arith)  -- add-v
     (λ c. omega arith)  -- loop-less
     (λ c.
     let l = c .before .before in
-    (omega arith, rw (c .degree-of .ensures .0, fillTo-more, l .loop .inv .1)))  -- loop-again
+    (omega arith, rw (c .degree-of .ensures, fillTo-more, l .loop .inv .1)))  -- loop-again
     (λ c. let e : c .before .loop .v ≡ c .before .before .before .args .n = omega arith in rw e at (c .before .loop .inv .1)))  -- returns

@@ -43,5 +43,5 @@ row-sum-spec =
     let p = rw e at (c .ones .ensures) in (
       p .0 ∙ part-sum g from n f ∙ sumTo-cong n (λ i. getD g (from + i) 0) (λ i. edge g (x .v) (x .left + i))
           (λ i l. ap (λ (m : ℕ). getD g m 0) (add-assoc (x .v * side) (x .left) i)),
-      p .1,
+      omega (arith, p .1, part-length g from n f),
     )))  -- returns

@@ -7,7 +7,7 @@ use Rattle.layout.specs.Layout.{wanted}
 use Rattle.adjacency.specs.Adjacency.{edge}
 use Rattle.state.specs.State.{stateOf}
 use Rattle.state.proofs.Checks.{phase-facts}
-use Rattle.state.proofs.Opened.{opened-vertices, opened-few, opened-edges}
+use Rattle.state.proofs.Opened.{opened-vertices, opened-total, opened-wanted, opened-few, opened-edges}
 use Rattle.figures.proofs.figures_laid.Statement.{statement}
 use Rattle.figures.proofs.figures_laid.Tie as tie
 
@@ -18,7 +18,11 @@ figures-laid-spec =
     (λ c κs.
     let b = c .before .before .before in
     phase-facts 1 (stateOf (b .args .journal .now) (b .args .adjacency .now)) (b .pre .0) .0 .journal-length)  -- block-count-requires
-    (λ c κs. c .before .before .before .before .pre .1 .most)  -- edges-wanted-requires
+    (λ c κs.
+    let b = c .before .before .before .before in
+    let s = stateOf (b .args .journal .now) (b .args .adjacency .now) in
+    let f = phase-facts 1 s (b .pre .0) in
+    opened-total s (b .pre .1) (f .0 .laid (f .1)))  -- edges-wanted-requires
     (λ c κs.
     let v = c .before .before in
     let b = v .before .before .before in
@@ -42,6 +46,6 @@ figures-laid-spec =
       phase = 1;
       blocks = k .block-count .ensures .0 i;
       vertices = n i;
-      wanted = (w .edges-wanted .ensures ∙ ap (λ (u : DegreeTable). wanted (u .cells)) (o .said)) i;
+      wanted = (opened-wanted s o d (w .edges-wanted .ensures) ∙ ap (λ (u : DegreeTable). wanted (u .cells)) (o .said)) i;
       laid = (e ∙ ap (λ (m : ℕ). edges m (edge (s .adjacency))) n) i;
     }))  -- returns

@@ -3,7 +3,7 @@
 use mathlib.Core.Path.{ap₂}
 use Prim.Native.Nat.{_-_}
 use native.Mathlib.Omega.{arith}
-use Rattle.state.proofs.Opened.{opened-few, opened-edges}
+use Rattle.state.proofs.Opened.{opened-total, opened-wanted, opened-few, opened-edges}
 use Rattle.complete.proofs.Whole.{laid, vertices-few, wanted-enough}
 use Rattle.complete.proofs.start.begin.Statement.{statement}
 use Rattle.complete.proofs.start.begin.Tie as tie
@@ -12,7 +12,9 @@ pub begin-spec : {M : Type 1} → statement M
 begin-spec =
     tie.close (tie.spec
     (λ c κs. (c .pre .opened .most, c .pre .opened .counted))  -- vertex-count-requires
-    (λ c κs. c .before .pre .opened .most)  -- edges-wanted-requires
+    (λ c κs.
+    let p = c .before .pre in
+    opened-total (p .state) (p .opened) (laid (p .state) (p .passed) (p .opened)))  -- edges-wanted-requires
     (λ c κs.
     let n = c .before in
     let p = n .before .pre in (
@@ -23,10 +25,14 @@ begin-spec =
     let w = c .before in
     let n = w .before in
     let p = n .before .pre in
-    wanted-enough (p .state) (p .passed) (p .opened) (n .vertex-count .ensures) (w .edges-wanted .ensures)
+    wanted-enough (p .state) (p .passed) (p .opened) (n .vertex-count .ensures)
+    (opened-wanted (p .state) (p .opened) (laid (p .state) (p .passed) (p .opened)) (w .edges-wanted .ensures))
     (opened-edges (p .state) (p .opened) (laid (p .state) (p .passed) (p .opened)) (n .vertex-count .ensures) (c .edges-held .ensures)))  -- sub-missing
     (λ c.
+    let w = c .before in
+    let p = w .before .before .pre in
     record {
-      total = c .before .before .vertex-count .ensures;
-      lacks = ap₂ _-_ (c .before .edges-wanted .ensures) (c .edges-held .ensures);
+      total = w .before .vertex-count .ensures;
+      lacks =
+          ap₂ _-_ (opened-wanted (p .state) (p .opened) (laid (p .state) (p .passed) (p .opened)) (w .edges-wanted .ensures)) (c .edges-held .ensures);
     }))  -- returns

@@ -1,4 +1,4 @@
--- `classes::ones` meets its contract: before byte i, sum is that of the bytes before it, and no more than i.
+-- `slices::ones` meets its contract: before byte i, sum is that of the bytes before it, and no more than i.
 -- Assumes nothing.
 use mathlib.Core.Path.{_≡_, _∙_}
 use Prim.Native.Nat.{_≤_, _-_}
@@ -6,8 +6,8 @@ use native.Mathlib.Omega.{arith}
 use lib.ListN.{length, getD}
 use Rattle.finite.specs.Range.{sumTo}
 use Rattle.finite.proofs.Sum.{sumTo-none, sumTo-more}
-use Rattle.classes.proofs.ones.Statement.{statement}
-use Rattle.classes.proofs.ones.Tie as tie
+use Rattle.slices.proofs.ones.Statement.{statement}
+use Rattle.slices.proofs.ones.Tie as tie
 
 abbrev Inv-loop : tie.InvT-loop
 Inv-loop s sum₀ i₀ i-end sum i = (i ≤ length s) × (sum ≡ sumTo i (λ i. getD s i 0)) × (sum ≤ i)
