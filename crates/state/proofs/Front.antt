@@ -1,7 +1,7 @@
 -- The checks with which entries begin, cut where a laid matrix is looked at: what the front says, and what is left behind it.
 -- Assumes nothing.
 use mathlib.Core.Path.{_≡_, refl, sym, ap, _∙_}
-use mathlib.Core.Bool.{Bool, true, false, _&&_, cond, true≢false}
+use mathlib.Core.Bool.{Bool, true, false, _&&_, cond}
 use Prim.Native.Nat.{ℕ, _≤_}
 use native.Mathlib.Omega.{arith}
 use lib.Dec.{eqb, leb}
@@ -16,9 +16,9 @@ use Rattle.answer.proofs.Checks.{unless-go, unless-stopped-go}
 use Rattle.slices.specs.Slices.{allZero}
 use Rattle.journal.specs.Journal.{mostBlocks, phase, blocks, journalOk, tableOf}
 use Rattle.state.specs.State.{State}
-use Rattle.state.specs.Valid.{lengthsOk, laidOk, valid}
+use Rattle.state.specs.Valid.{lengthsOk, laidOk}
 use Rattle.state.specs.Checks.{stateVerdict, phaseVerdict}
-use Rattle.state.specs.Inner.Opened.{frontValid, frontVerdict, laidFront}
+use Rattle.state.specs.Inner.Opened.{frontVerdict, laidFront}
 
 -- lengths, journal, phase 0, an empty matrix, a laid one: the checks over what these tests say
 abbrev checks : Bool → Bool → Bool → Bool → Bool → Verdict
@@ -40,21 +40,6 @@ go-laid true false p z d e h = cc
 go-laid true true true z d e h = cc
 go-laid true true false z d e h = refl
 
--- and validity over them
-not-front : (k p z d : Bool) → k && cond p z true ≡ false → k && cond p z d ≡ false
-not-front false p z d e = refl
-not-front true true z d e = e
-not-front true false z d e = absurd (true≢false e)
-
-front-empty : (k p z d : Bool) → k && cond p z true ≡ true → p ≡ true → k && cond p z d ≡ true
-front-empty k true z d e h = e
-front-empty k false z d e h = absurd (true≢false (sym h))
-
-front-full : (k p z d : Bool) → k && cond p z true ≡ true → p ≡ false → k && cond p z d ≡ d
-front-full false p z d e h = absurd (true≢false (sym e))
-front-full true true z d e h = absurd (true≢false h)
-front-full true false z d e h = refl
-
 module _ (s : State) where
   abbrev empty : Bool
   empty = eqb (phase (s .journal)) 0
@@ -62,14 +47,11 @@ module _ (s : State) where
   abbrev laid : Bool
   laid = laidOk (tableOf (s .journal)) (s .adjacency)
 
-  pub front-journal : frontValid s ≡ true → journalOk (s .journal) ≡ true
-  front-journal = and-left (journalOk (s .journal)) (cond empty (allZero (s .adjacency)) true)
-
   pub front-passed : frontVerdict s ≡ Go → (lengthsOk s ≡ true) × (journalOk (s .journal) ≡ true)
   front-passed e =
       let l = unless-go (lengthsOk s) _ _ e in
-      let v = unless-go (frontValid s) _ _ (l .1) in
-      (l .0, front-journal (v .0))
+      let v = unless-go (journalOk (s .journal) && cond empty (allZero (s .adjacency)) true) _ _ (l .1) in
+      (l .0, and-left (journalOk (s .journal)) (cond empty (allZero (s .adjacency)) true) (v .0))
 
   -- a journal that passes is in phase 0 or 1
   two-phases : journalOk (s .journal) ≡ true → phase (s .journal) ≤ 1
@@ -77,16 +59,6 @@ module _ (s : State) where
       leb-true (phase (s .journal)) 1
       (and-left (leb (phase (s .journal)) 1) (leb (blocks (s .journal)) mostBlocks)
       (and-left (leb (phase (s .journal)) 1 && leb (blocks (s .journal)) mostBlocks) _ ok))
-
-  -- validity by its front
-  pub valid-not : frontValid s ≡ false → valid s ≡ false
-  valid-not = not-front (journalOk (s .journal)) empty (allZero (s .adjacency)) laid
-
-  pub valid-taking : frontValid s ≡ true → phase (s .journal) ≡ 0 → valid s ≡ true
-  valid-taking e h = front-empty (journalOk (s .journal)) empty (allZero (s .adjacency)) laid e (eq-eqb (phase (s .journal)) 0 h)
-
-  pub valid-laid : frontValid s ≡ true → (phase (s .journal) ≡ 0 → ⊥) → valid s ≡ laid
-  valid-laid e h = front-full (journalOk (s .journal)) empty (allZero (s .adjacency)) laid e (ne-eqb (phase (s .journal)) 0 h)
 
   -- the checks 1 and 2 by their front
   pub front-stop : (r : Refusal) → frontVerdict s ≡ Stop r → stateVerdict s ≡ Stop r

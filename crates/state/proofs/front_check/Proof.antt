@@ -1,7 +1,7 @@
 -- `state::front_check` meets its contract.
 -- Assumes nothing.
 use mathlib.Core.Path.{sym, _∙_}
-use borrow.Author.Tests.{not-true, not-false}
+use borrow.Author.Tests.{not-true, not-false, eq-eqb, ne-eqb}
 use Rattle.state.specs.State.{stateOf}
 use Rattle.state.proofs.Facts.{lengths-journal}
 use Rattle.state.proofs.front_check.Statement.{statement}
@@ -15,13 +15,46 @@ front-check-spec =
     (λ c. let i = c .before in rw (sym (i .before .lengths-ok .ensures) ∙ not-true _ (i .if1 .taken)) (c .stopped .ensures))  -- returns
     (λ c κs.
     let a = c .before .before .before .before .args in
-    lengths-journal (stateOf (a .journal .now) (a .adjacency .now)) (sym (c .before .lengths-ok .ensures) ∙ not-false _ (c .if1 .left)))  -- front-valid-requires
+    lengths-journal (stateOf (a .journal .now) (a .adjacency .now)) (sym (c .before .lengths-ok .ensures) ∙ not-false _ (c .if1 .left)))  -- journal-ok-requires
     (λ c κs. tt)  -- stopped-requires-2
     (λ c.
-    let v = c .before in
-    let i = v .before .before in
-    rw (sym (i .before .lengths-ok .ensures) ∙ not-false _ (i .if1 .left), sym (v .before .front-valid .ensures) ∙ not-true _ (v .if2 .taken))
+    let k = c .before in
+    let i = k .before .before in
+    rw (sym (i .before .lengths-ok .ensures) ∙ not-false _ (i .if1 .left), sym (k .before .journal-ok .ensures) ∙ not-true _ (k .if2 .taken))
     (c .stopped2 .ensures))  -- returns-2
-    (λ c.
+    (λ c κs.
     let i = c .before .before in
-    rw (sym (i .before .lengths-ok .ensures) ∙ not-false _ (i .if1 .left), sym (c .before .front-valid .ensures) ∙ not-false _ (c .if2 .left))))  -- returns-3
+    let a = i .before .before .before .before .args in
+    lengths-journal (stateOf (a .journal .now) (a .adjacency .now)) (sym (i .before .lengths-ok .ensures) ∙ not-false _ (i .if1 .left)))  -- phase-of-requires
+    (λ c.
+    let k = c .before .before in
+    let i = k .before .before in
+    rw (
+      sym (i .before .lengths-ok .ensures) ∙ not-false _ (i .if1 .left),
+      sym (k .before .journal-ok .ensures) ∙ not-false _ (k .if2 .left),
+      ne-eqb _ _ (rw (c .before .phase-of .ensures .0) at (c .if3 .taken)),
+    ))  -- returns-3
+    (λ c κs. tt)  -- all-zero-requires
+    (λ c κs. tt)  -- stopped-requires-3
+    (λ c.
+    let z = c .before in
+    let p = z .before .before in
+    let k = p .before .before in
+    let i = k .before .before in
+    rw (
+      sym (i .before .lengths-ok .ensures) ∙ not-false _ (i .if1 .left),
+      sym (k .before .journal-ok .ensures) ∙ not-false _ (k .if2 .left),
+      eq-eqb _ _ (rw (p .before .phase-of .ensures .0) at (p .if3 .left)),
+      sym (z .before .all-zero .ensures) ∙ not-true _ (z .if4 .taken),
+    )
+    (c .stopped3 .ensures))  -- returns-4
+    (λ c.
+    let p = c .before .before in
+    let k = p .before .before in
+    let i = k .before .before in
+    rw (
+      sym (i .before .lengths-ok .ensures) ∙ not-false _ (i .if1 .left),
+      sym (k .before .journal-ok .ensures) ∙ not-false _ (k .if2 .left),
+      eq-eqb _ _ (rw (p .before .phase-of .ensures .0) at (p .if3 .left)),
+      sym (c .before .all-zero .ensures) ∙ not-false _ (c .if4 .left),
+    )))  -- returns-5

@@ -18,13 +18,11 @@ use Rattle.state.specs.State.{State}
 use Rattle.state.specs.Valid.{lengthsOk}
 use Rattle.state.specs.Laid.{vertexCount}
 
--- of the check 2 all but a laid matrix
-abbrev pub frontValid : State → Bool
-frontValid s = journalOk (s .journal) && cond (eqb (phase (s .journal)) 0) (allZero (s .adjacency)) true
-
--- the check 1, and that
+-- the check 1 and, of 2, all but a laid matrix
 abbrev pub frontVerdict : State → Verdict
-frontVerdict s = unless (lengthsOk s) (stop WrongLength) (unless (frontValid s) (stop InvalidState) Go)
+frontVerdict s =
+    unless (lengthsOk s) (stop WrongLength)
+    (unless (journalOk (s .journal) && cond (eqb (phase (s .journal)) 0) (allZero (s .adjacency)) true) (stop InvalidState) Go)
 
 -- and 3, for a call that needs a laid state
 abbrev pub laidFront : State → Verdict
