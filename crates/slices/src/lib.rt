@@ -1,6 +1,8 @@
 // Byte slices: a byte as a number, the smaller of two numbers, the sum, the ones, all zero, equal, one byte stored, copied into another.
 ghost use mathlib.Core.Path.{_≡_};
+ghost use mathlib.Core.Bool.{_&&_};
 ghost use Prim.Native.Nat.{ℕ, _+_, _≤_, _<_, min};
+ghost use lib.Dec.{eqb};
 ghost use lib.ListN.{length, getD, replicate, set};
 ghost use lib.Seq.{sets};
 ghost use Rattle.finite.specs.Range.{sumTo};
@@ -54,15 +56,25 @@ pub fn ones(s: &[u8]) -> usize
     wide(sum)
 }
 
-// Every byte is 0. A flag and no early exit, so that the loop is a vector loop.
+// The larger of two bytes, which is 0 where both are.
+fn larger(a: u8, b: u8) -> u8
+    ensures { λ r. ⌜ eqb r 0 ≡ (eqb a 0 && eqb b 0) ⌝ }
+{
+    if a < b {
+        return b;
+    }
+    a
+}
+
+// Every byte is 0: the largest is. No early exit, and one operation a vector: a flag takes two.
 pub fn all_zero(s: &[u8]) -> bool
     ensures { λ r. ⌜ r ≡ allZero (now (s .entry)) ⌝ }
 {
-    let mut ok = true;
+    let mut most: u8 = 0;
     for i in 0..s.len() {
-        ok = ok & (s[i] == 0);
+        most = larger(most, s[i]);
     }
-    ok
+    most == 0
 }
 
 // The two have the same length and bytes.
