@@ -4,16 +4,16 @@ use mathlib.Core.Path.{_≡_}
 use mathlib.Core.Bool.{true}
 use lib.ListN.{length, replicate}
 use Rattle.graph.specs.Graph.{noTable}
-use Rattle.answer.specs.Refusals.{refusal, unless}
+use Rattle.answer.specs.Refusals.{refuse, unless}
 use Rattle.answer.specs.declared.Cause.the-variants.{WrongLength}
 use Rattle.answer.specs.declared.ClearAnswer.{ClearAnswer}
 use Rattle.answer.specs.declared.ClearAnswer.the-variants.{Cleared, Refused}
-use Rattle.journal.specs.Journal.{phase, blocks, tableOf}
+use Rattle.journal.specs.Journal.{phaseTaking, phase, blocks, tableOf}
 use Rattle.state.specs.State.{State, cleared}
 use Rattle.state.specs.Valid.{lengthsOk, valid}
 
 abbrev pub clearAnswer : State → ClearAnswer
-clearAnswer s = unless (lengthsOk s) (Refused (refusal WrongLength 0 0)) Cleared
+clearAnswer s = unless (lengthsOk s) (Refused (refuse WrongLength 0 0)) Cleared
 
 -- the state afterwards
 abbrev pub afterClear : ClearAnswer → State → State
@@ -27,7 +27,7 @@ clearAfter s = afterClear (clearAnswer s) s
 pub record ClearedState (s : State) : Type 0 where
   pub lengths : lengthsOk s ≡ true
   pub is-valid : valid s ≡ true
-  pub taking : phase (s .journal) ≡ 0
+  pub taking : phase (s .journal) ≡ phaseTaking
   pub no-blocks : blocks (s .journal) ≡ 0
   pub no-table : tableOf (s .journal) ≡ noTable
 

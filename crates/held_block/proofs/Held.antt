@@ -12,7 +12,8 @@ use Rattle.answer.specs.declared.Refusal.{Refusal}
 use Rattle.answer.specs.declared.LengthAnswer.{LengthAnswer}
 use Rattle.answer.specs.declared.LengthAnswer.the-variants.{Length, Refused}
 use Rattle.answer.proofs.Checks.{unless-passed, unless-stopped-passed}
-use Rattle.journal.specs.Journal.{mostBlocks, blocks, slotLength, blockAt}
+use Rattle.table.specs.Block.{mostBlocks}
+use Rattle.journal.specs.Journal.{blocks, slotLength, blockAt}
 use Rattle.journal.proofs.Facts.{journal-facts, length-block, slot-most}
 use Rattle.state.specs.State.{State}
 use Rattle.state.specs.Checks.{stateVerdict}

@@ -3,7 +3,7 @@
 use mathlib.Core.List.{List, []}
 use Prim.Native.Nat.{ℕ}
 use lib.Dec.{ltb}
-use Rattle.answer.specs.Refusals.{refusal, unless, unlessStopped}
+use Rattle.answer.specs.Refusals.{refuse, unless, unlessStopped}
 use Rattle.answer.specs.declared.Cause.the-variants.{BlockNumber}
 use Rattle.answer.specs.declared.LengthAnswer.{LengthAnswer}
 use Rattle.answer.specs.declared.LengthAnswer.the-variants.{Length, Refused}
@@ -15,7 +15,7 @@ use Rattle.state.specs.Checks.{stateVerdict}
 abbrev pub lengthAnswer : State → ℕ → LengthAnswer
 lengthAnswer s number =
     unlessStopped (stateVerdict s) Refused
-    (unless (ltb number (blocks (s .journal))) (Refused (refusal BlockNumber 0 0))
+    (unless (ltb number (blocks (s .journal))) (Refused (refuse BlockNumber 0 0))
     (Length (slotLength (s .journal) number)))
 
 -- the part of the journal that is the block; refused, an empty part

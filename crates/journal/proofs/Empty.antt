@@ -11,12 +11,12 @@ use Rattle.finite.proofs.Sum.{sumTo-none}
 use Rattle.graph.specs.Graph.{noTable}
 use Rattle.graph.proofs.Counts.{same-table}
 use Rattle.table.specs.Block.{blockCell, blockIsolated}
-use Rattle.journal.specs.Journal.{phase, blocks, slotAt, blockAt, journalOk, tableOf}
+use Rattle.journal.specs.Journal.{phaseTaking, phase, blocks, slotAt, blockAt, journalOk, tableOf}
 use Rattle.journal.proofs.Facts.{facts-journal}
 use Rattle.journal.proofs.Slot.{zero-rest}
 
 module _ (j : List ℕ) (zeros : (p : ℕ) → getD j p 0 ≡ 0) where
-  pub phase-empty : phase j ≡ 0
+  pub phase-empty : phase j ≡ phaseTaking
   phase-empty = zeros 0
 
   pub blocks-empty : blocks j ≡ 0

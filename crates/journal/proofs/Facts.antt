@@ -13,13 +13,13 @@ use borrow.Author.Tests.{leb-true, le-leb, lt-leb, eqb-true, eq-eqb, ne-eqb, lt-
 use Rattle.finite.specs.Range.{allTo}
 use Rattle.finite.proofs.All.{and-left, and-right, and-both, allTo-at, allTo-holds}
 use Rattle.slices.specs.Slices.{allZero}
-use Rattle.table.specs.Block.{blockMost, blockLength, records, firstBad, wellFormed}
+use Rattle.table.specs.Block.{blockMost, mostBlocks, blockLength, records, firstBad, wellFormed}
 use Rattle.table.proofs.Empty.{empty-well-formed}
-use Rattle.journal.specs.Journal.{journalSize, mostBlocks, phase, blocks, slotAt, slotLength, blockAt, slotRest, slotOk, journalOk}
+use Rattle.journal.specs.Journal.{journalSize, phaseLaid, phase, blocks, slotAt, slotLength, blockAt, slotRest, slotOk, journalOk}
 
 -- phase 0 or 1; at most 64 blocks; a used slot has a block's length and good records, an unused one length 0; zeros behind
 pub record Facts (j : List ℕ) : Type 0 where
-  pub phase-le : phase j ≤ 1
+  pub phase-le : phase j ≤ phaseLaid
   pub blocks-le : blocks j ≤ mostBlocks
   pub used : (i : ℕ) → i < blocks j → blockLength (slotLength j i) ≡ true
   pub good : (i : ℕ) → i < blocks j → firstBad (blockAt j i) ≡ records (blockAt j i)
@@ -65,11 +65,11 @@ module _ (j : List ℕ) (i : ℕ) where
 pub journal-facts : (j : List ℕ) → journalOk j ≡ true → Facts j
 unfolding usedOk
 journal-facts j h =
-    let two = and-left (leb (phase j) 1 && leb (blocks j) mostBlocks) (allTo mostBlocks (slotOk j)) h in
-    let slots = allTo-at (slotOk j) mostBlocks (and-right (leb (phase j) 1 && leb (blocks j) mostBlocks) (allTo mostBlocks (slotOk j)) h) in
-    let most = leb-true (blocks j) mostBlocks (and-right (leb (phase j) 1) (leb (blocks j) mostBlocks) two) in
+    let two = and-left (leb (phase j) phaseLaid && leb (blocks j) mostBlocks) (allTo mostBlocks (slotOk j)) h in
+    let slots = allTo-at (slotOk j) mostBlocks (and-right (leb (phase j) phaseLaid && leb (blocks j) mostBlocks) (allTo mostBlocks (slotOk j)) h) in
+    let most = leb-true (blocks j) mostBlocks (and-right (leb (phase j) phaseLaid) (leb (blocks j) mostBlocks) two) in
     record {
-      phase-le = leb-true (phase j) 1 (and-left (leb (phase j) 1) (leb (blocks j) mostBlocks) two);
+      phase-le = leb-true (phase j) phaseLaid (and-left (leb (phase j) phaseLaid) (leb (blocks j) mostBlocks) two);
       blocks-le = most;
       used = λ i l. and-left (blockLength (slotLength j i)) _ (usable i l (slots i (omega arith)));
       good = λ i l. eqb-true _ _ (and-right (blockLength (slotLength j i)) _ (usable i l (slots i (omega arith))));
@@ -84,7 +84,7 @@ pub facts-journal : (j : List ℕ) → Facts j → journalOk j ≡ true
 unfolding usedOk
 facts-journal j f =
     and-both _ (allTo mostBlocks (slotOk j))
-    (and-both _ _ (le-leb (phase j) 1 (f .phase-le)) (le-leb (blocks j) mostBlocks (f .blocks-le)))
+    (and-both _ _ (le-leb (phase j) phaseLaid (f .phase-le)) (le-leb (blocks j) mostBlocks (f .blocks-le)))
     (allTo-holds (slotOk j) mostBlocks (λ i l. slot i l (decLt i (blocks j))))
   where
     slot : (i : ℕ) → i < mostBlocks → Dec (i < blocks j) → slotOk j i ≡ true

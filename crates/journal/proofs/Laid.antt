@@ -11,8 +11,8 @@ use Rattle.finite.proofs.All.{allTo-cong}
 use Rattle.finite.proofs.Sum.{sumTo-cong}
 use Rattle.finite.specs.Range.{sumTo}
 use Rattle.graph.proofs.Counts.{same-table}
-use Rattle.table.specs.Block.{blockCell, blockIsolated}
-use Rattle.journal.specs.Journal.{journalSize, mostBlocks, phase, blocks, slotAt, slotLength, blockAt, slotRest, slotOk, journalOk, tableOf, laid}
+use Rattle.table.specs.Block.{mostBlocks, blockCell, blockIsolated}
+use Rattle.journal.specs.Journal.{journalSize, phaseLaid, phase, blocks, slotAt, slotLength, blockAt, slotRest, slotOk, journalOk, tableOf, laid}
 
 module _ (j : List ℕ) where
   pub length-laid : length (laid j) ≡ length j
@@ -41,9 +41,9 @@ module _ (j : List ℕ) where
   pub table-laid : tableOf (laid j) ≡ tableOf j
   table-laid = same-table (λ k l. sum-laid (λ b. blockCell b k l)) (sum-laid blockIsolated)
 
-  pub phase-laid : length j ≡ journalSize → phase (laid j) ≡ 1
-  phase-laid e = getD-set-same j 0 1 0 (omega arith)
+  pub phase-laid : length j ≡ journalSize → phase (laid j) ≡ phaseLaid
+  phase-laid e = getD-set-same j 0 phaseLaid 0 (omega arith)
 
-  pub valid-laid : length j ≡ journalSize → phase j ≤ 1 → journalOk (laid j) ≡ journalOk j
+  pub valid-laid : length j ≡ journalSize → phase j ≤ phaseLaid → journalOk (laid j) ≡ journalOk j
   valid-laid e h =
-      rw (phase-laid e, blocks-laid, le-leb (phase j) 1 h, allTo-cong (slotOk (laid j)) (slotOk j) mostBlocks (λ i l. slotOk-laid i))
+      rw (phase-laid e, blocks-laid, le-leb (phase j) phaseLaid h, allTo-cong (slotOk (laid j)) (slotOk j) mostBlocks (λ i l. slotOk-laid i))

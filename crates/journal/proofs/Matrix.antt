@@ -12,10 +12,10 @@ use Rattle.finite.proofs.Fold.{foldTo-keeps}
 use Rattle.finite.proofs.Sum.{sumTo-none, sumTo-more, sumTo-cong}
 use Rattle.slices.proofs.Part.{bytes-part}
 use Rattle.slices.proofs.Zero.{getD-zeros}
-use Rattle.table.specs.Block.{mostRecords, records, blockCell, blockIsolated}
+use Rattle.table.specs.Block.{mostRecords, mostBlocks, records, blockCell, blockIsolated}
 use Rattle.table.specs.Inner.Cells.{cellsSize, matrixOf, isolatedPlace, addBlock, AtMost, blockSumMost}
 use Rattle.table.proofs.Matrix.{noCells, length-addBlock, matrix-none, blockAmount, matrix-addBlock, atMost-addBlock, blockAmount-cell, blockAmount-isolated, taken-out, taken-cell}
-use Rattle.journal.specs.Journal.{journalSize, mostBlocks, blocks, slotAt, slotLength, blockAt, journalOk, jdmOf, isolatedOf}
+use Rattle.journal.specs.Journal.{journalSize, blocks, slotAt, slotLength, blockAt, journalOk, jdmOf, isolatedOf}
 use Rattle.journal.proofs.Facts.{Facts, journal-facts, slot-most, length-block}
 use Rattle.journal.proofs.Table.{jdm-table}
 

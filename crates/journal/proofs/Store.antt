@@ -14,8 +14,8 @@ use Rattle.finite.specs.Range.{sumTo}
 use Rattle.graph.proofs.Counts.{same-table}
 use Rattle.slices.specs.Slices.{allZero}
 use Rattle.slices.proofs.Part.{length-part, getD-part, getD-sets-before, getD-sets-after, getD-sets-in}
-use Rattle.table.specs.Block.{blockMost, blockLength, records, firstBad, wellFormed, blockCell, blockIsolated, plus}
-use Rattle.journal.specs.Journal.{journalSize, mostBlocks, slotSize, phase, blocks, slotAt, slotLength, blockAt, slotRest, journalOk, tableOf, stored}
+use Rattle.table.specs.Block.{blockMost, mostBlocks, blockLength, records, firstBad, wellFormed, blockCell, blockIsolated, plus}
+use Rattle.journal.specs.Journal.{slotSize, journalSize, phase, blocks, slotAt, slotLength, blockAt, slotRest, journalOk, tableOf, stored}
 use Rattle.journal.proofs.Facts.{Facts, journal-facts, facts-journal, length-most, slot-most, well-formed-length, well-formed-good}
 use Rattle.journal.proofs.Slot.{rest-zero, zero-rest, slotLength-kept, blockAt-kept, slotRest-kept}
 

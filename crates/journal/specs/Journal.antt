@@ -9,19 +9,23 @@ use lib.Seq.{sets}
 use Rattle.finite.specs.Range.{sumTo, allTo}
 use Rattle.graph.specs.Graph.{DegreeTable}
 use Rattle.slices.specs.Slices.{allZero, sameBytes}
-use Rattle.table.specs.Block.{blockMost, blockLength, records, firstBad, blockCell, blockIsolated}
+use Rattle.table.specs.Block.{mostBlocks, blockMost, blockLength, records, firstBad, blockCell, blockIsolated}
 
--- most blocks; bytes of a slot, 65: its length byte and a block; bytes of the journal, 4,162: phase, number of blocks, and the slots
-abbrev pub mostBlocks : ℕ
-mostBlocks = 64
-
+-- bytes of a slot, 65: its length byte and a block; bytes of the journal, 4,162: phase, number of blocks, and the slots
 abbrev pub slotSize : ℕ
 slotSize = 1 + blockMost
 
 abbrev pub journalSize : ℕ
 journalSize = 2 + slotSize * mostBlocks
 
--- byte 0: the phase (document 01: the stage), 0 taking, 1 laid; byte 1: the blocks in it
+-- the two phases (document 01: stages): blocks are taken, and the vertices are laid out
+abbrev pub phaseTaking : ℕ
+phaseTaking = 0
+
+abbrev pub phaseLaid : ℕ
+phaseLaid = 1
+
+-- byte 0: the phase; byte 1: the blocks in it
 abbrev pub phase : List ℕ → ℕ
 phase j = getD j 0 0
 
@@ -43,7 +47,7 @@ abbrev pub blockAt : List ℕ → ℕ → List ℕ
 blockAt j i = take (slotLength j i) (drop (blockFrom i) j)
 
 abbrev pub slotRest : List ℕ → ℕ → List ℕ
-slotRest j i = take (blockMost - slotLength j i) (drop (slotAt i + 1 + slotLength j i) j)
+slotRest j i = take (blockMost - slotLength j i) (drop (blockFrom i + slotLength j i) j)
 
 -- A used slot holds a block that 4 and 5 let pass, an unused one has length 0, and behind the block each has zeros. So both are zero where the block
 -- has no bytes (document 02, P4), and only the count of blocks tells them apart.
@@ -54,9 +58,9 @@ slotOk j i =
     (eqb (slotLength j i) 0)
     && allZero (slotRest j i)
 
--- phase 0 or 1, at most 64 blocks, every slot as above
+-- a phase, at most 64 blocks, every slot as above
 abbrev pub journalOk : List ℕ → Bool
-journalOk j = leb (phase j) 1 && leb (blocks j) mostBlocks && allTo mostBlocks (slotOk j)
+journalOk j = leb (phase j) phaseLaid && leb (blocks j) mostBlocks && allTo mostBlocks (slotOk j)
 
 -- the joint degree matrix that the blocks add up to (document 01: the summed table)
 abbrev pub jdmOf : List ℕ → ℕ → ℕ → ℕ
@@ -78,6 +82,6 @@ sameBlock j i b = sameBytes (blockAt j i) b
 abbrev pub stored : List ℕ → List ℕ → List ℕ
 stored j b = set (sets j (slotAt (blocks j)) (length b ∷ b)) 1 (blocks j + 1)
 
--- the journal in phase 1
+-- the journal in the phase laid
 abbrev pub laid : List ℕ → List ℕ
-laid j = set j 0 1
+laid j = set j 0 phaseLaid

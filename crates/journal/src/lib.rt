@@ -6,19 +6,23 @@ ghost use Rattle.finite.specs.Range.{allTo};
 ghost use Rattle.slices.specs.Slices.{allZero, further};
 ghost use Prim.Native.Nat.{_+_, _*_, _≤_, _<_};
 ghost use lib.ListN.{length, replicate};
-ghost use Rattle.table.specs.Block.{blockMost, blockLength, records, firstBad};
+ghost use Rattle.table.specs.Block.{mostBlocks, blockMost, blockLength, records, firstBad};
 ghost use Rattle.table.specs.Inner.Cells.{cellsSize, matrixOf, AtMost, cellSumMost};
-ghost use Rattle.journal.specs.Journal.{journalSize, mostBlocks, slotLength, blockFrom, blockAt, slotRest, slotOk, journalOk, jdmOf, isolatedOf, sameBlock, stored, laid, phase, blocks};
+ghost use Rattle.journal.specs.Journal.{journalSize, phase, blocks, slotAt, slotLength, blockFrom, blockAt, slotRest, slotOk, journalOk, jdmOf, isolatedOf, sameBlock, stored, laid};
 use slices::all_zero;
 use slices::same_bytes;
 use slices::wide;
 use table::cells::CELLS;
 use table::record::MAX_BLOCK_BYTES;
+use table::record::MAX_BLOCKS;
 use table::record::RECORD_BYTES;
 use table::record::block_length;
 use table::record::first_bad;
 
-pub const MAX_BLOCKS: usize = 64;
+// The two phases: blocks are taken, and the vertices are laid out.
+pub const PHASE_TAKING: usize = 0;
+
+pub const PHASE_LAID: usize = 1;
 
 // A length byte, and the block.
 pub const SLOT_BYTES: usize = 1 + MAX_BLOCK_BYTES;
@@ -39,12 +43,28 @@ pub fn block_count(journal: &[u8]) -> usize
     wide(journal[1])
 }
 
+// Where slot i begins.
+fn slot_at(i: usize) -> usize
+    requires { ⌜ i < mostBlocks ⌝ }
+    ensures { λ r. ⌜ r ≡ slotAt i ⌝ }
+{
+    2 + SLOT_BYTES * i
+}
+
+// Where its block begins.
+pub fn block_from(i: usize) -> usize
+    requires { ⌜ i < mostBlocks ⌝ }
+    ensures { λ r. ⌜ r ≡ blockFrom i ⌝ }
+{
+    slot_at(i) + 1
+}
+
 // The length byte of slot i.
 pub fn slot_length(journal: &[u8], i: usize) -> usize
     requires { ⌜ (length (now journal) ≡ journalSize) × (i < mostBlocks) ⌝ }
     ensures { λ r. ⌜ (r ≡ slotLength (now (journal .entry)) i) × (r < 256) ⌝ }
 {
-    wide(journal[2 + SLOT_BYTES * i])
+    wide(journal[slot_at(i)])
 }
 
 // The block of slot i, a part of the journal itself.
@@ -53,7 +73,7 @@ pub fn block_part(journal: &[u8], i: usize) -> &[u8]
     ensures { λ r. ⌜ (now r ≡ blockAt (now (journal .entry)) i) × (length (now r) ≤ blockMost) × (r .ptr ≡ further (journal .entry .ptr) (blockFrom i)) ⌝ }
 {
     let n = slot_length(journal, i);
-    let from = 3 + SLOT_BYTES * i;
+    let from = block_from(i);
     let to = from + n;
     &journal[from..to]
 }
@@ -64,8 +84,9 @@ fn rest_is_zero(journal: &[u8], i: usize) -> bool
     ensures { λ r. ⌜ r ≡ allZero (slotRest (now (journal .entry)) i) ⌝ }
 {
     let n = slot_length(journal, i);
-    let from = 3 + SLOT_BYTES * i + n;
-    let to = 3 + SLOT_BYTES * i + MAX_BLOCK_BYTES;
+    let start = block_from(i);
+    let from = start + n;
+    let to = start + MAX_BLOCK_BYTES;
     all_zero(&journal[from..to])
 }
 
@@ -110,7 +131,7 @@ pub fn journal_ok(journal: &[u8]) -> bool
     requires { ⌜ length (now journal) ≡ journalSize ⌝ }
     ensures { λ r. ⌜ r ≡ journalOk (now (journal .entry)) ⌝ }
 {
-    (phase_of(journal) <= 1) & (block_count(journal) <= MAX_BLOCKS) & slots_ok(journal)
+    (phase_of(journal) <= PHASE_LAID) & (block_count(journal) <= MAX_BLOCKS) & slots_ok(journal)
 }
 
 // The sum of all blocks, in an array of zeros: the joint degree matrix, and beside it the number of isolated vertices.
@@ -139,16 +160,15 @@ pub fn store_block(journal: &mut [u8], block: &[u8])
     ensures { λ _. ⌜ now (journal .exit) ≡ stored (now (journal .entry)) (now (block .entry)) ⌝ }
 {
     let i = block_count(journal);
-    let at = 2 + SLOT_BYTES * i;
-    journal[at] = block.len() as u8;
-    slices::copy_in(journal, at + 1, block);
+    journal[slot_at(i)] = block.len() as u8;
+    slices::copy_in(journal, block_from(i), block);
     journal[1] = (i + 1) as u8;
 }
 
-// Phase 1.
+// The phase is laid.
 pub fn set_laid(journal: &mut [u8])
     requires { ⌜ length (now journal) ≡ journalSize ⌝ }
     ensures { λ _. ⌜ now (journal .exit) ≡ laid (now (journal .entry)) ⌝ }
 {
-    journal[0] = 1;
+    journal[0] = PHASE_LAID as u8;
 }

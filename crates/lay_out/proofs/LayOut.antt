@@ -14,7 +14,7 @@ use Rattle.graph.specs.Tests.{passes, vertices}
 use Rattle.graph.specs.Theorems.{Realized}
 use Rattle.graph.proofs.Realizability.{realizability}
 use Rattle.answer.specs.Numbers.{layOutNumbers}
-use Rattle.answer.specs.Refusals.{stop}
+use Rattle.answer.specs.Refusals.{stopped}
 use Rattle.answer.specs.declared.Cause.the-variants.{TooManyVertices}
 use Rattle.answer.specs.declared.Refusal.{Refusal}
 use Rattle.answer.specs.declared.Verdict.{Verdict}
@@ -24,7 +24,7 @@ use Rattle.answer.specs.declared.LayOutAnswer.the-variants.{LaidOut, Refused}
 use Rattle.answer.proofs.Checks.{unless-stopped-passed}
 use Rattle.layout.specs.Layout.{mostVertices, layoutVerdict}
 use Rattle.layout.proofs.Verdict.{layout-go, go-layout, layout-passed, layout-refused}
-use Rattle.journal.specs.Journal.{phase, jdmOf, tableOf, laid}
+use Rattle.journal.specs.Journal.{phaseTaking, phase, jdmOf, tableOf, laid}
 use Rattle.journal.proofs.Facts.{journal-facts}
 use Rattle.journal.proofs.Laid.{length-laid, table-laid, phase-laid, valid-laid}
 use Rattle.journal.proofs.Table.{jdm-table}
@@ -48,13 +48,13 @@ refused-not-laid-out r n e = subst IsLaidOut (sym e) tt
 pub record LaidOutFacts (s : State) : Type 0 where
   pub lengths : lengthsOk s ≡ true
   pub is-valid : valid s ≡ true
-  pub taking : phase (s .journal) ≡ 0
+  pub taking : phase (s .journal) ≡ phaseTaking
   pub passed : passes (jdmOf (s .journal)) ≡ true
   pub small : vertexCount s ≤ mostVertices
 
 -- the state is in phase 0, the table passes 9 to 11, and N is at most 200
 abbrev pub laysOut : List ℕ → Bool
-laysOut j = eqb (phase j) 0 && passes (jdmOf j) && leb (vertices (tableOf j)) mostVertices
+laysOut j = eqb (phase j) phaseTaking && passes (jdmOf j) && leb (vertices (tableOf j)) mostVertices
 
 -- the state, laid
 abbrev pub laidState : State → State
@@ -67,16 +67,16 @@ isLaidOut (Refused r) = false
 module _ (s : State) where
   pub lay-out-facts : (n : ℕ) → layOutAnswer s ≡ LaidOut n → LaidOutFacts s
   lay-out-facts n e =
-      let q = unless-stopped-passed (phaseVerdict 0 s) Refused _ (LaidOut n) (λ r. refused-not-laid-out r n) e in
+      let q = unless-stopped-passed (phaseVerdict phaseTaking s) Refused _ (LaidOut n) (λ r. refused-not-laid-out r n) e in
       let v = unless-stopped-passed (layoutVerdict (tableOf (s .journal))) Refused _ (LaidOut n) (λ r. refused-not-laid-out r n) (q .1) in
-      let p = phase-passed 0 s (q .0) in
+      let p = phase-passed phaseTaking s (q .0) in
       let t = layout-go (tableOf (s .journal)) (v .0) in
       record { lengths = p .0; is-valid = p .1; taking = p .2; passed = t .0; small = t .1 }
 
   -- on a valid state in phase 0 the tests 9 to 12 decide
-  lay-out-verdict : lengthsOk s ≡ true → valid s ≡ true → phase (s .journal) ≡ 0
+  lay-out-verdict : lengthsOk s ≡ true → valid s ≡ true → phase (s .journal) ≡ phaseTaking
       → layOutAnswer s ≡ laidOut (layoutVerdict (tableOf (s .journal))) (vertexCount s)
-  lay-out-verdict l v p = rw (phase-go 0 s l v p)
+  lay-out-verdict l v p = rw (phase-go phaseTaking s l v p)
 
   pub facts-lay-out : LaidOutFacts s → layOutAnswer s ≡ LaidOut (vertexCount s)
   facts-lay-out f =
@@ -94,19 +94,19 @@ module _ (s : State) where
   lays-out-facts : lengthsOk s ≡ true → valid s ≡ true → laysOut (s .journal) ≡ true → LaidOutFacts s
   lays-out-facts l v h =
       let t = leb (vertexCount s) mostVertices in
-      let a = and-left (eqb (phase (s .journal)) 0 && passes (jdmOf (s .journal))) t h in
+      let a = and-left (eqb (phase (s .journal)) phaseTaking && passes (jdmOf (s .journal))) t h in
       record {
         lengths = l;
         is-valid = v;
-        taking = eqb-true (phase (s .journal)) 0 (and-left (eqb (phase (s .journal)) 0) (passes (jdmOf (s .journal))) a);
-        passed = and-right (eqb (phase (s .journal)) 0) (passes (jdmOf (s .journal))) a;
-        small = leb-true (vertexCount s) mostVertices (and-right (eqb (phase (s .journal)) 0 && passes (jdmOf (s .journal))) t h);
+        taking = eqb-true (phase (s .journal)) phaseTaking (and-left (eqb (phase (s .journal)) phaseTaking) (passes (jdmOf (s .journal))) a);
+        passed = and-right (eqb (phase (s .journal)) phaseTaking) (passes (jdmOf (s .journal))) a;
+        small = leb-true (vertexCount s) mostVertices (and-right (eqb (phase (s .journal)) phaseTaking && passes (jdmOf (s .journal))) t h);
       }
 
   laid-out-lays : (n : ℕ) → layOutAnswer s ≡ LaidOut n → laysOut (s .journal) ≡ true
   laid-out-lays n e =
       let f = lay-out-facts n e in
-      and-both (eqb (phase (s .journal)) 0 && passes (jdmOf (s .journal))) _ (and-both _ _ (eq-eqb (phase (s .journal)) 0 (f .taking)) (f .passed))
+      and-both (eqb (phase (s .journal)) phaseTaking && passes (jdmOf (s .journal))) _ (and-both _ _ (eq-eqb (phase (s .journal)) phaseTaking (f .taking)) (f .passed))
       (le-leb (vertexCount s) mostVertices (f .small))
 
   -- On a valid state: laid out exactly where the table passes 9 to 12, and the journal then is in phase 1, else as it was.
@@ -152,7 +152,7 @@ module _ (s : State) where
   IsWant = (9 ≤ layOutNumbers (layOutAnswer s) .number) × (layOutNumbers (layOutAnswer s) .number ≤ 11)
 
   -- in phase 0 the tests 9, 10, 11 turn a table down exactly where it does not pass them
-  module _ (l : lengthsOk s ≡ true) (v : valid s ≡ true) (p : phase (s .journal) ≡ 0) where
+  module _ (l : lengthsOk s ≡ true) (v : valid s ≡ true) (p : phase (s .journal) ≡ phaseTaking) where
     fails-want : passes (jdmOf (s .journal)) ≡ false → IsWant
     fails-want h =
         let r = layout-refused (tableOf (s .journal)) h in
@@ -164,8 +164,8 @@ module _ (s : State) where
         at : (d : Verdict) → layoutVerdict (tableOf (s .journal)) ≡ d → layOutAnswer s ≡ laidOut d (vertexCount s)
         at d e = lay-out-verdict l v p ∙ ap (λ (w : Verdict). laidOut w (vertexCount s)) e
 
-        none : (layoutVerdict (tableOf (s .journal)) ≡ Go) ⊎ (layoutVerdict (tableOf (s .journal)) ≡ stop TooManyVertices) → ⊥
-        none = ⊎-elim (λ e. omega (arith, rw (at Go e) at w)) (λ e. omega (arith, rw (at (stop TooManyVertices) e) at w))
+        none : (layoutVerdict (tableOf (s .journal)) ≡ Go) ⊎ (layoutVerdict (tableOf (s .journal)) ≡ stopped TooManyVertices) → ⊥
+        none = ⊎-elim (λ e. omega (arith, rw (at Go e) at w)) (λ e. omega (arith, rw (at (stopped TooManyVertices) e) at w))
 
         go : (t : Bool) → passes (jdmOf (s .journal)) ≡ t → t ≡ false
         go true e = absurd (none (layout-passed (tableOf (s .journal)) e))

@@ -8,7 +8,7 @@ use Rattle.answer.specs.declared.LayOutAnswer.{LayOutAnswer}
 use Rattle.answer.specs.declared.LayOutAnswer.the-variants.{LaidOut, Refused}
 use Rattle.graph.specs.Tests.{vertices}
 use Rattle.layout.specs.Layout.{layoutVerdict}
-use Rattle.journal.specs.Journal.{tableOf, laid}
+use Rattle.journal.specs.Journal.{phaseTaking, tableOf, laid}
 use Rattle.state.specs.State.{State, withJournal}
 use Rattle.state.specs.Checks.{phaseVerdict}
 
@@ -19,7 +19,7 @@ laidOut v n = unlessStopped v Refused (LaidOut n)
 -- the checks 1, 2, 3, then 9, 10, 11, 12
 abbrev pub layOutAnswer : State → LayOutAnswer
 layOutAnswer s =
-    unlessStopped (phaseVerdict 0 s) Refused (laidOut (layoutVerdict (tableOf (s .journal))) (vertices (tableOf (s .journal))))
+    unlessStopped (phaseVerdict phaseTaking s) Refused (laidOut (layoutVerdict (tableOf (s .journal))) (vertices (tableOf (s .journal))))
 
 -- the state afterwards
 abbrev pub afterLayOut : LayOutAnswer → State → State

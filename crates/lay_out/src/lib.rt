@@ -9,6 +9,7 @@ ghost use Rattle.state.specs.State.{stateOf};
 ghost use Rattle.lay_out.specs.LayOut.{laidOut, layOutAnswer, layOutAfter};
 use answer::LayOutAnswer;
 use answer::Verdict;
+use journal::PHASE_TAKING;
 use state::phase_check;
 use state::sum_table;
 use table::cells::CELLS;
@@ -32,7 +33,7 @@ fn lay_out_table(journal: &[u8]) -> LayOutAnswer
 fn lay_out_check(journal: &[u8], adjacency: &[u8]) -> LayOutAnswer
     ensures { λ r. ⌜ r ≡ layOutAnswer (stateOf (now (journal .entry)) (now (adjacency .entry))) ⌝ }
 {
-    let verdict = phase_check(journal, adjacency, 0);
+    let verdict = phase_check(journal, adjacency, PHASE_TAKING);
     match verdict {
         Verdict::Stop(r) => LayOutAnswer::Refused(r),
         Verdict::Go => lay_out_table(journal),

@@ -2,7 +2,7 @@
 ghost use mathlib.Core.Path.{_≡_};
 ghost use Prim.Native.Nat.{ℕ, _<_};
 ghost use Rattle.answer.specs.Numbers.{refused, clearNumbers, takeNumbers, layOutNumbers, figuresNumbers, addNumbers, removeNumbers, completeNumbers, shuffleNumbers, writtenNumbers, readNumbers};
-ghost use Rattle.journal.specs.Journal.{mostBlocks};
+ghost use Rattle.table.specs.Block.{mostBlocks};
 ghost use Rattle.numbers.specs.Flat.{flat, flatJoin, heldNumbers};
 use answer::AddAnswer;
 use answer::ClearAnswer;
@@ -21,6 +21,7 @@ use answer::switches::Switches;
 use answer::switches::first_switch;
 use answer::switches::second_switch;
 use answer::switches::switch_count;
+use journal::block_from;
 use table::cells::wide32;
 
 // number is 0 where the call did its work, else the refusal's number with its places in first and second. What is not named is 0.
@@ -93,7 +94,7 @@ pub fn of_held(number: usize, answer: LengthAnswer) -> ReplicaAnswer
     ensures { λ r. ⌜ r ≡ flat (heldNumbers number answer) ⌝ }
 {
     match answer {
-        LengthAnswer::Length(n) => two(0, 3 + journal::SLOT_BYTES * number, n),
+        LengthAnswer::Length(n) => two(0, block_from(number), n),
         LengthAnswer::Refused(r) => of_refusal(r),
     }
 }

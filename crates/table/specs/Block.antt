@@ -12,7 +12,7 @@ use Rattle.graph.specs.Tests.{leastDegree, mostDegree}
 use Rattle.table.specs.declared.degree.MadeDegree.{MadeDegree}
 use Rattle.table.specs.declared.degree.MadeDegree.the-variants.{Made, OutOfRange}
 
--- bytes of a record, most records of a block, and the most bytes of a block, 64
+-- bytes of a record, most records of a block, the most bytes of a block, 64, and most blocks of a table
 abbrev pub recordSize : ℕ
 recordSize = 4
 
@@ -21,6 +21,9 @@ mostRecords = 16
 
 abbrev pub blockMost : ℕ
 blockMost = recordSize * mostRecords
+
+abbrev pub mostBlocks : ℕ
+mostBlocks = 64
 
 -- a degree runs from 1 to 40
 abbrev pub isDegree : ℕ → Bool

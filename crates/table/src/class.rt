@@ -1,5 +1,7 @@
 // Classes of vertices. Today a class is a degree, and `class_degree` is the one place that says so.
 ghost use mathlib.Core.Path.{_≡_};
+ghost use Prim.Native.Nat.{_≤_, _<_};
+ghost use Rattle.graph.specs.Graph.{timesCounted};
 ghost use Rattle.graph.specs.Tests.{classDegree};
 use crate::degree::MAX_DEGREE;
 
@@ -13,4 +15,14 @@ pub fn class_degree(k: usize) -> usize
     ensures { λ r. ⌜ r ≡ classDegree k ⌝ }
 {
     k
+}
+
+// How often an edge between vertices of classes k and l counts in their cell: twice on the diagonal.
+pub fn times_counted(k: usize, l: usize) -> usize
+    ensures { λ r. ⌜ (r ≡ timesCounted k l) × (0 < r) × (r ≤ 2) ⌝ }
+{
+    if k == l {
+        return 2;
+    }
+    1
 }

@@ -16,6 +16,9 @@ pub const MAX_BLOCK_RECORDS: usize = 16;
 
 pub const MAX_BLOCK_BYTES: usize = RECORD_BYTES * MAX_BLOCK_RECORDS;
 
+// Most blocks of a table.
+pub const MAX_BLOCKS: usize = 64;
+
 // Whether a block may have n bytes. It may have none.
 pub fn block_length(n: usize) -> bool
     ensures { λ r. ⌜ r ≡ blockLength n ⌝ }

@@ -9,15 +9,15 @@ use lib.Dec.{eqb, ltb, leb}
 use lib.ListN.{length}
 use borrow.Author.Tests.{eqb-true, eq-eqb, ne-eqb, leb-true, le-leb, ltb-true, lt-ltb, ltb-false, le-ltb}
 use Rattle.finite.proofs.All.{and-left, and-right, and-both}
-use Rattle.answer.specs.Refusals.{refusal, unless}
+use Rattle.answer.specs.Refusals.{refuse, unless}
 use Rattle.answer.specs.declared.Cause.the-variants.{WrongPhase, BlockDiffers}
 use Rattle.answer.specs.declared.Refusal.{Refusal}
 use Rattle.answer.specs.declared.TakeAnswer.{TakeAnswer}
 use Rattle.answer.specs.declared.TakeAnswer.the-variants.{Taken, Held, Refused}
 use Rattle.answer.proofs.Checks.{unless-passed, unless-stopped-passed}
 use Rattle.slices.proofs.Same.{same-bytes-eq, eq-same-bytes}
-use Rattle.table.specs.Block.{blockLength, records, firstBad, wellFormed, plus}
-use Rattle.journal.specs.Journal.{journalSize, mostBlocks, phase, blocks, blockAt, sameBlock, journalOk, tableOf, stored, laid}
+use Rattle.table.specs.Block.{mostBlocks, blockLength, records, firstBad, wellFormed, plus}
+use Rattle.journal.specs.Journal.{journalSize, phaseTaking, phaseLaid, phase, blocks, blockAt, journalOk, tableOf, sameBlock, stored, laid}
 use Rattle.journal.proofs.Facts.{journal-facts, used-well-formed}
 use Rattle.journal.proofs.Laid.{blocks-laid, blockAt-laid}
 use Rattle.journal.proofs.Store.{length-stored, phase-stored, blocks-stored, blockAt-new, valid-stored, table-stored}
@@ -46,7 +46,7 @@ refused-not-held r e = true≢false (ap isHeld (sym e))
 
 -- a block that 4 and 5 let pass, numbered as the blocks are, in phase 0, with room for it
 abbrev pub isNext : List ℕ → ℕ → List ℕ → Bool
-isNext j number b = wellFormed b && eqb number (blocks j) && eqb (phase j) 0 && ltb (blocks j) mostBlocks
+isNext j number b = wellFormed b && eqb number (blocks j) && eqb (phase j) phaseTaking && ltb (blocks j) mostBlocks
 
 -- a state with the block stored in it
 abbrev pub withBlock : State → List ℕ → State
@@ -58,7 +58,7 @@ pub record TakenFacts (s : State) (number : ℕ) (b : List ℕ) : Type 0 where
   pub is-valid : valid s ≡ true
   pub good : wellFormed b ≡ true
   pub next : number ≡ blocks (s .journal)
-  pub taking : phase (s .journal) ≡ 0
+  pub taking : phase (s .journal) ≡ phaseTaking
   pub room : blocks (s .journal) < mostBlocks
 
 -- what a block that is held passed: it is the block of that number
@@ -102,17 +102,17 @@ module _ (s : State) (number : ℕ) (b : List ℕ) where
       )
 
   -- a new block on a laid state is refused with 3, also where the journal is full
-  pub take-new-laid : lengthsOk s ≡ true → valid s ≡ true → wellFormed b ≡ true → number ≡ blocks (s .journal) → phase (s .journal) ≡ 1
-      → takeAnswer s number b ≡ Refused (refusal WrongPhase 0 0)
+  pub take-new-laid : lengthsOk s ≡ true → valid s ≡ true → wellFormed b ≡ true → number ≡ blocks (s .journal) → phase (s .journal) ≡ phaseLaid
+      → takeAnswer s number b ≡ Refused (refuse WrongPhase 0 0)
   take-new-laid l v h e p =
       take-numbered l v h
       ∙ rw (
         le-leb number (blocks (s .journal)) (omega arith),
         le-ltb number (blocks (s .journal)) (omega arith),
-        ne-eqb (phase (s .journal)) 0 (λ z. absurd (omega (arith, z, p))),
+        ne-eqb (phase (s .journal)) phaseTaking (λ z. absurd (omega (arith, z, p))),
       )
 
-  held-not-taken : (t : Bool) (m : ℕ) → unless t (Refused (refusal BlockDiffers 0 0)) Held ≡ Taken m → ⊥
+  held-not-taken : (t : Bool) (m : ℕ) → unless t (Refused (refuse BlockDiffers 0 0)) Held ≡ Taken m → ⊥
   held-not-taken true m e = true≢false (ap isTaken (sym e))
   held-not-taken false m e = true≢false (ap isTaken (sym e))
 
@@ -123,14 +123,14 @@ module _ (s : State) (number : ℕ) (b : List ℕ) where
           → TakenFacts s number b
       go p true h f = absurd (held-not-taken (sameBlock (s .journal) number b) m f)
       go p false h f =
-          let o = unless-passed (eqb (phase (s .journal)) 0) _ _ (Taken m) (refused-not-taken _ m) f in
+          let o = unless-passed (eqb (phase (s .journal)) phaseTaking) _ _ (Taken m) (refused-not-taken _ m) f in
           let q = unless-passed (ltb (blocks (s .journal)) mostBlocks) _ _ (Taken m) (refused-not-taken _ m) (o .1) in
           record {
             lengths = p .lengths;
             is-valid = p .is-valid;
             good = p .good;
             next = omega (arith, p .low, ltb-false number (blocks (s .journal)) h);
-            taking = eqb-true (phase (s .journal)) 0 (o .0);
+            taking = eqb-true (phase (s .journal)) phaseTaking (o .0);
             room = ltb-true (blocks (s .journal)) mostBlocks (q .0);
           }
 
@@ -141,7 +141,7 @@ module _ (s : State) (number : ℕ) (b : List ℕ) where
       ∙ rw (
         le-leb number (blocks (s .journal)) (omega (arith, f .next)),
         le-ltb number (blocks (s .journal)) (omega (arith, f .next)),
-        eq-eqb (phase (s .journal)) 0 (f .taking),
+        eq-eqb (phase (s .journal)) phaseTaking (f .taking),
         lt-ltb (blocks (s .journal)) mostBlocks (f .room),
       )
 
@@ -162,7 +162,7 @@ module _ (s : State) (number : ℕ) (b : List ℕ) where
             low = ltb-true number (blocks (s .journal)) h;
             same = same-bytes-eq (blockAt (s .journal) number) b (unless-passed (sameBlock (s .journal) number b) _ _ Held (refused-not-held _) f .0);
           }
-      go p false h f = absurd (new-not-held (eqb (phase (s .journal)) 0) (ltb (blocks (s .journal)) mostBlocks) _ _ (blocks (s .journal) + 1) f)
+      go p false h f = absurd (new-not-held (eqb (phase (s .journal)) phaseTaking) (ltb (blocks (s .journal)) mostBlocks) _ _ (blocks (s .journal) + 1) f)
 
   -- the block of that number is held, in either phase
   pub facts-held : HeldFacts s number b → takeAnswer s number b ≡ Held
@@ -178,7 +178,7 @@ module _ (s : State) (number : ℕ) (b : List ℕ) where
 
   -- any other block under the number of a held one is refused with 7, in either phase
   pub take-differs : lengthsOk s ≡ true → valid s ≡ true → wellFormed b ≡ true → number < blocks (s .journal) → (blockAt (s .journal) number ≡ b → ⊥)
-      → takeAnswer s number b ≡ Refused (refusal BlockDiffers 0 0)
+      → takeAnswer s number b ≡ Refused (refuse BlockDiffers 0 0)
   take-differs l v h low other =
       take-numbered l v h
       ∙ rw (le-leb number (blocks (s .journal)) (omega arith), lt-ltb number (blocks (s .journal)) low, go (sameBlock (s .journal) number b) refl)
@@ -193,24 +193,24 @@ module _ (s : State) (number : ℕ) (b : List ℕ) where
 
   next-facts : lengthsOk s ≡ true → valid s ≡ true → isNext (s .journal) number b ≡ true → TakenFacts s number b
   next-facts l v h =
-      let x = and-left (wellFormed b && eqb number (blocks (s .journal)) && eqb (phase (s .journal)) 0) (ltb (blocks (s .journal)) mostBlocks) h in
-      let y = and-left (wellFormed b && eqb number (blocks (s .journal))) (eqb (phase (s .journal)) 0) x in
+      let x = and-left (wellFormed b && eqb number (blocks (s .journal)) && eqb (phase (s .journal)) phaseTaking) (ltb (blocks (s .journal)) mostBlocks) h in
+      let y = and-left (wellFormed b && eqb number (blocks (s .journal))) (eqb (phase (s .journal)) phaseTaking) x in
       record {
         lengths = l;
         is-valid = v;
         good = and-left (wellFormed b) (eqb number (blocks (s .journal))) y;
         next = eqb-true number (blocks (s .journal)) (and-right (wellFormed b) (eqb number (blocks (s .journal))) y);
-        taking = eqb-true (phase (s .journal)) 0 (and-right (wellFormed b && eqb number (blocks (s .journal))) (eqb (phase (s .journal)) 0) x);
+        taking = eqb-true (phase (s .journal)) phaseTaking (and-right (wellFormed b && eqb number (blocks (s .journal))) (eqb (phase (s .journal)) phaseTaking) x);
         room =
             ltb-true (blocks (s .journal)) mostBlocks
-            (and-right (wellFormed b && eqb number (blocks (s .journal)) && eqb (phase (s .journal)) 0) (ltb (blocks (s .journal)) mostBlocks) h);
+            (and-right (wellFormed b && eqb number (blocks (s .journal)) && eqb (phase (s .journal)) phaseTaking) (ltb (blocks (s .journal)) mostBlocks) h);
       }
 
   facts-next : TakenFacts s number b → isNext (s .journal) number b ≡ true
   facts-next f =
-      and-both (wellFormed b && eqb number (blocks (s .journal)) && eqb (phase (s .journal)) 0) _
+      and-both (wellFormed b && eqb number (blocks (s .journal)) && eqb (phase (s .journal)) phaseTaking) _
       (and-both (wellFormed b && eqb number (blocks (s .journal))) _ (and-both (wellFormed b) _ (f .good) (eq-eqb number (blocks (s .journal)) (f .next)))
-      (eq-eqb (phase (s .journal)) 0 (f .taking)))
+      (eq-eqb (phase (s .journal)) phaseTaking (f .taking)))
       (lt-ltb (blocks (s .journal)) mostBlocks (f .room))
 
   -- On a valid state: a block is taken exactly where it is the next one, and the journal then has it, else is as it was.

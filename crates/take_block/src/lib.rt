@@ -10,11 +10,12 @@ use answer::Cause;
 use answer::TakeAnswer;
 use answer::Verdict;
 use answer::refuse;
-use journal::MAX_BLOCKS;
+use journal::PHASE_TAKING;
 use journal::block_count;
 use journal::is_block;
 use journal::phase_of;
 use state::state_check;
+use table::record::MAX_BLOCKS;
 
 // A low number: held, or a conflict.
 fn take_held(journal: &[u8], number: usize, block: &[u8]) -> TakeAnswer
@@ -32,7 +33,7 @@ fn take_new(journal: &[u8]) -> TakeAnswer
     requires { ⌜ length (now journal) ≡ journalSize ⌝ }
     ensures { λ r. ⌜ r ≡ takeNew (now (journal .entry)) ⌝ }
 {
-    if phase_of(journal) != 0 {
+    if phase_of(journal) != PHASE_TAKING {
         return TakeAnswer::Refused(refuse(Cause::WrongPhase, 0, 0));
     }
     let n = block_count(journal);

@@ -5,7 +5,7 @@ use Prim.Native.Nat.{_<_}
 use native.Mathlib.Omega.{arith}
 use borrow.Author.Needs.{needs}
 use Rattle.slices.proofs.Part.{further-none}
-use Rattle.journal.specs.Journal.{mostBlocks}
+use Rattle.table.specs.Block.{mostBlocks}
 use Rattle.journal.proofs.Facts.{journal-facts, slot-most}
 use Rattle.state.specs.State.{stateOf}
 use Rattle.state.proofs.Facts.{lengths-journal, valid-journal}

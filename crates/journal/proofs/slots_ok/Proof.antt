@@ -7,7 +7,8 @@ use native.Mathlib.Omega.{arith}
 use borrow.Author.Tests.{not-true, not-false}
 use Rattle.finite.specs.Range.{allTo}
 use Rattle.finite.proofs.All.{allTo-none, allTo-more, allTo-fails}
-use Rattle.journal.specs.Journal.{mostBlocks, slotOk}
+use Rattle.table.specs.Block.{mostBlocks}
+use Rattle.journal.specs.Journal.{slotOk}
 use Rattle.journal.proofs.slots_ok.Statement.{statement}
 use Rattle.journal.proofs.slots_ok.Tie as tie
 

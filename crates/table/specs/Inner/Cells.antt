@@ -7,7 +7,7 @@ use lib.Dec.{ltb}
 use lib.ListN.{getD, set}
 use Rattle.finite.specs.Range.{foldTo}
 use Rattle.graph.specs.Tests.{mostClasses}
-use Rattle.table.specs.Block.{mostRecords, records, recordK, recordL, recordCount}
+use Rattle.table.specs.Block.{mostRecords, mostBlocks, records, recordK, recordL, recordCount}
 
 -- how many numbers the array has
 abbrev pub cellsSize : ℕ
@@ -45,6 +45,6 @@ recordMost = 65535
 abbrev pub blockSumMost : ℕ
 blockSumMost = mostRecords * recordMost
 
--- the most that a journal's blocks can add to one cell: 64 blocks
+-- the most that all blocks of a table can add to one cell
 abbrev pub cellSumMost : ℕ
-cellSumMost = 64 * blockSumMost
+cellSumMost = mostBlocks * blockSumMost

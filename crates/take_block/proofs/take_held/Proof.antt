@@ -5,7 +5,7 @@ use Prim.Native.Nat.{_<_}
 use native.Mathlib.Omega.{arith}
 use borrow.Author.Tests.{not-true, not-false}
 use Rattle.answer.specs.declared.TakeAnswer.the-variants.{Refused}
-use Rattle.journal.specs.Journal.{mostBlocks}
+use Rattle.table.specs.Block.{mostBlocks}
 use Rattle.journal.proofs.Facts.{journal-facts, slot-most}
 use Rattle.take_block.proofs.take_held.Statement.{statement}
 use Rattle.take_block.proofs.take_held.Tie as tie
