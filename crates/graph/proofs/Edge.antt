@@ -2,18 +2,16 @@
 -- its vertices alone.
 -- Assumes nothing.
 use mathlib.Core.Path.{_≡_, refl, sym, ap, ap₂, _∙_}
-use mathlib.Core.Bool.{cond}
 use mathlib.Core.Logic.{_≢_}
 use Prim.Native.Nat.{ℕ, _+_, _-_, _*_, _≤_, _<_}
 use native.Mathlib.Nat.{mul-comm, mul-assoc, mul-add, zero-mul, mul-zero}
 use native.Mathlib.Decide.{ℕ-discrete}
 use native.Mathlib.Omega.{arith}
-use lib.Dec.{eqb}
 use borrow.Author.Tests.{eq-eqb, ne-eqb}
 use Rattle.finite.specs.Range.{δ, sumTo}
 use Rattle.finite.proofs.Delta.{δ-self, δ-other, δ-sym}
 use Rattle.finite.proofs.Sum.{sumTo-cong, sumTo-add, sumTo-at}
-use Rattle.graph.specs.Graph.{Graph, Simple, degree, edges, jdm, atEdge, AddsEdge, SameOn}
+use Rattle.graph.specs.Graph.{Graph, Simple, degree, edges, jdm, timesCounted, atEdge, AddsEdge, SameOn}
 use Rattle.graph.proofs.Functions.{addEdge, removeEdge}
 use Rattle.graph.specs.Target.{Partial}
 use Rattle.graph.proofs.Matrix.{jdm-cong}
@@ -58,10 +56,10 @@ pub atEdge-back : (x y : ℕ) → x ≢ y → atEdge x y y x ≡ 1
 atEdge-back x y h = atEdge-sym x y y x ∙ atEdge-here x y h
 
 -- as cells: an edge adds 1 to the cell of its ends' classes, or 2 on the diagonal, and of the cells from the diagonal on it changes no other
-pub atEdge-cell : (k l : ℕ) → atEdge k l k l ≡ cond (eqb k l) 2 1
+pub atEdge-cell : (k l : ℕ) → atEdge k l k l ≡ timesCounted k l
 atEdge-cell k l = go (ℕ-discrete k l)
   where
-    go : Dec (k ≡ l) → atEdge k l k l ≡ cond (eqb k l) 2 1
+    go : Dec (k ≡ l) → atEdge k l k l ≡ timesCounted k l
     go (yes e) = rw (e, eq-eqb l l refl, δ-self l)
     go (no e) = rw (ne-eqb k l e) (atEdge-here k l e)
 

@@ -2,7 +2,9 @@
 -- The vertices are the numbers below n. A vertex has a class; today that is its degree, and no law may rely on that.
 -- Assumes nothing.
 use mathlib.Core.Path.{_≡_}
+use mathlib.Core.Bool.{cond}
 use Prim.Native.Nat.{ℕ, _+_, _*_, _≤_, _<_}
+use lib.Dec.{eqb}
 use Rattle.finite.specs.Range.{δ, sumTo}
 
 -- E v w is 1 where v and w are linked, else 0
@@ -31,6 +33,10 @@ size n cls k = sumTo n (λ v. δ (cls v) k)
 -- For k = l the edge {v, w} comes twice, as (v, w) and as (w, v).
 unfoldable pub jdm : ℕ → (ℕ → ℕ) → Graph → ℕ → ℕ → ℕ
 jdm n cls E k l = sumTo n (λ v. δ (cls v) k * sumTo n (λ w. δ (cls w) l * E v w))
+
+-- how often equation (1) counts an edge in its cell (k, l): twice on the diagonal
+abbrev pub timesCounted : ℕ → ℕ → ℕ
+timesCounted k l = cond (eqb k l) 2 1
 
 -- equation (1) at the graph's own degrees
 abbrev pub ownJdm : ℕ → Graph → ℕ → ℕ → ℕ

@@ -1,9 +1,9 @@
 -- A target matrix over classes, and the graphs on the way to it.
 -- Assumes nothing.
 use mathlib.Core.Path.{_≡_}
-use mathlib.Core.Bool.{cond}
+use mathlib.Core.Bool.{Bool, cond}
 use Prim.Native.Nat.{ℕ, _-_, _*_, _%_, _≤_, _<_}
-use lib.Dec.{eqb}
+use lib.Dec.{eqb, ltb}
 use Rattle.finite.specs.Range.{sumTo}
 use Rattle.graph.specs.Graph.{Graph, Simple, degree, size, jdm}
 
@@ -26,10 +26,17 @@ pub record Partial (n C : ℕ) (cls deg : ℕ → ℕ) (T : ℕ → ℕ → ℕ)
   pub within : (k l : ℕ) → k < C → l < C → jdm n cls E k l ≤ T k l
   pub room : (v : ℕ) → v < n → degree n E v ≤ deg (cls v)
 
+-- cell (k, l) is below its target (document 01: it is short); and the test of it
+abbrev pub Short : ℕ → (ℕ → ℕ) → (ℕ → ℕ → ℕ) → Graph → ℕ → ℕ → Type 0
+Short n cls T E k l = jdm n cls E k l < T k l
+
+abbrev pub isShort : ℕ → (ℕ → ℕ) → (ℕ → ℕ → ℕ) → Graph → ℕ → ℕ → Bool
+isShort n cls T E k l = ltb (jdm n cls E k l) (T k l)
+
 -- the vertices v and w may be joined: two different ones, unlinked, with their cell short
 pub record Open (n : ℕ) (cls : ℕ → ℕ) (T : ℕ → ℕ → ℕ) (E : Graph) (v w : ℕ) : Type 0 where
   pub first : v < n
   pub second : w < n
   pub distinct : v ≡ w → ⊥
   pub unlinked : E v w ≡ 0
-  pub short : jdm n cls E (cls v) (cls w) < T (cls v) (cls w)
+  pub short : Short n cls T E (cls v) (cls w)

@@ -7,7 +7,7 @@ use mathlib.Core.Logic.{_↔_, _≢_}
 use Prim.Native.Nat.{ℕ, _+_, _*_, _%_, _≤_, _<_}
 use Rattle.finite.specs.Range.{δ, sumTo, iterate}
 use Rattle.graph.specs.Graph.{Graph, Simple, degree, edges, size, jdm, ownJdm, atEdge, AddsEdge}
-use Rattle.graph.specs.Target.{cellMost, Target, Partial, Open}
+use Rattle.graph.specs.Target.{cellMost, Target, Partial, Short, Open}
 use Rattle.graph.specs.Switch.{unsaturated, substitute, transfer, Switched, Joined}
 use Rattle.graph.specs.Tests.{Table, passes}
 
@@ -94,7 +94,7 @@ abbrev pub ShortHasOpenPair : Type 0
 ShortHasOpenPair =
     (n C : ℕ) (cls deg : ℕ → ℕ) (T : ℕ → ℕ → ℕ) (E : Graph) →
     Target n C cls deg T → Partial n C cls deg T E →
-    (k l : ℕ) → k < C → l < C → jdm n cls E k l < T k l →
+    (k l : ℕ) → k < C → l < C → Short n cls T E k l →
     (v w : ℕ) × (cls v ≡ k) × (cls w ≡ l) × (k ≡ l → v < w) × Open n cls T E v w
 
 -- 6. Complete means exact (proofs/Complete.antt).

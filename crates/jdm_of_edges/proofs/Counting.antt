@@ -16,7 +16,7 @@ use Rattle.finite.proofs.All.{and-false}
 use Rattle.finite.proofs.Delta.{δ-self, δ-same, δ-other, δ-le}
 use Rattle.finite.proofs.Lowest.{lowest-before, lowest-cong}
 use Rattle.finite.proofs.Sum.{sumTo-none, sumTo-mono, sumTo-const, sumTo-cong, sumTo-zero}
-use Rattle.graph.specs.Graph.{degree, size, isolated, jdm, atEdge}
+use Rattle.graph.specs.Graph.{degree, size, isolated, jdm, timesCounted, atEdge}
 use Rattle.graph.specs.Tests.{mostDegree, mostClasses}
 use Rattle.graph.proofs.Edge.{Place, forth, back, elsewhere, place as placed, atEdge-here, atEdge-back}
 use Rattle.graph.proofs.Matrix.{jdm-cong, jdm-empty}
@@ -28,7 +28,7 @@ use Rattle.layout.specs.Layout.{mostVertices}
 use Rattle.edge_lists.specs.EdgeList.{listed, endV, endW, firstBadEdge, graphOf}
 use Rattle.jdm_of_edges.specs.Survey.{firstAbove}
 use Rattle.edge_lists.proofs.List.{graphTo, Good, good, graphTo-adds, simple-to, edges-to}
-use Rattle.jdm_of_edges.specs.Inner.Counting.{addAt, countEdge, degreeIn, timesCounted, countCell, HasDegrees, HasCells, firstAboveIn, isolatedIn, cellMostOwn, CellsSmall}
+use Rattle.jdm_of_edges.specs.Inner.Counting.{addAt, countEdge, degreeIn, countCell, HasDegrees, HasCells, firstAboveIn, isolatedIn, cellMostOwn, CellsSmall}
 
 -- 1. Degrees.
 

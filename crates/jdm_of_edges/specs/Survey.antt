@@ -9,8 +9,8 @@ use lib.Seq.{sets}
 use Rattle.finite.specs.Range.{lowest, catTo}
 use Rattle.graph.specs.Graph.{degree, DegreeTable, ownTable}
 use Rattle.graph.specs.Tests.{mostDegree, mostClasses}
-use Rattle.answer.specs.Refusals.{refusal, unless, unlessStopped}
-use Rattle.answer.specs.declared.Cause.the-variants.{DegreeTooHigh, OutputTooShort}
+use Rattle.answer.specs.Refusals.{refuse, unless, unlessTooShort, unlessStopped}
+use Rattle.answer.specs.declared.Cause.the-variants.{DegreeTooHigh}
 use Rattle.answer.specs.declared.WrittenAnswer.{WrittenAnswer}
 use Rattle.answer.specs.declared.WrittenAnswer.the-variants.{Written, Refused}
 use Rattle.edge_lists.specs.EdgeList.{listVerdict, graphOf}
@@ -42,9 +42,8 @@ surveyRecords e total = recordsOf (ownTable total (graphOf e))
 -- of a list that passes the checks 19, for an output of n bytes: the checks 20 and 18
 abbrev pub surveyListed : List ℕ → ℕ → ℕ → WrittenAnswer
 surveyListed e total n =
-    unless (eqb (firstAbove e total) total) (Refused (refusal DegreeTooHigh (firstAbove e total) 0))
-    (unless (leb (length (surveyRecords e total)) n) (Refused (refusal OutputTooShort 0 0))
-    (Written (length (surveyRecords e total))))
+    unless (eqb (firstAbove e total) total) (Refused (refuse DegreeTooHigh (firstAbove e total) 0))
+    (unlessTooShort (length (surveyRecords e total)) n Refused (Written (length (surveyRecords e total))))
 
 -- the checks 19, then 20, then 18
 abbrev pub surveyAnswer : List ℕ → ℕ → ℕ → WrittenAnswer

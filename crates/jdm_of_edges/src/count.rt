@@ -9,23 +9,24 @@ ghost use Rattle.table.specs.Inner.Cells.{place};
 ghost use Rattle.layout.specs.Layout.{mostVertices};
 ghost use Rattle.edge_lists.specs.EdgeList.{listed, endV, endW, firstBadEdge, graphOf};
 ghost use Rattle.jdm_of_edges.specs.Survey.{firstAbove};
-ghost use Rattle.jdm_of_edges.specs.Inner.Counting.{countEdge, countCell, timesCounted, degreeIn, firstAboveIn, isolatedIn, HasRoom, HasDegrees, HasCells, cellMostOwn, CellsSmall};
+ghost use Rattle.jdm_of_edges.specs.Inner.Counting.{countEdge, countCell, degreeIn, firstAboveIn, isolatedIn, HasRoom, HasDegrees, HasCells, cellMostOwn, CellsSmall};
 use layout::MAX_VERTICES;
 use slices::wide;
 use table::cells::CELLS;
 use table::cells::place_of;
 use table::cells::wide32;
+use table::class::times_counted;
 use table::degree::MAX_DEGREE;
 
 // Edge i is one more for both its ends.
-fn count_edge(counts: &mut [usize; MAX_VERTICES], edges: &[u8], i: usize)
-    requires { ⌜ (2 * i + 2 ≤ length (now edges)) × (endV (now edges) i < endW (now edges) i) × (endW (now edges) i < mostVertices) × HasRoom (now edges) i (now counts) ⌝ }
-    ensures { λ _. ⌜ now (counts .exit) ≡ countEdge (endV (now (edges .entry)) i) (endW (now (edges .entry)) i) (now (counts .entry)) ⌝ }
+fn count_edge(degrees: &mut [usize; MAX_VERTICES], edges: &[u8], i: usize)
+    requires { ⌜ (2 * i + 2 ≤ length (now edges)) × (endV (now edges) i < endW (now edges) i) × (endW (now edges) i < mostVertices) × HasRoom (now edges) i (now degrees) ⌝ }
+    ensures { λ _. ⌜ now (degrees .exit) ≡ countEdge (endV (now (edges .entry)) i) (endW (now (edges .entry)) i) (now (degrees .entry)) ⌝ }
 {
     let v = wide(edges[2 * i]);
     let w = wide(edges[2 * i + 1]);
-    counts[v] = counts[v] + 1;
-    counts[w] = counts[w] + 1;
+    degrees[v] = degrees[v] + 1;
+    degrees[w] = degrees[w] + 1;
 }
 
 // The degree of each vertex below the total, which the contract alone uses.
@@ -34,21 +35,21 @@ pub fn degrees_of(edges: &[u8], total: usize) -> [usize; MAX_VERTICES]
     ensures { λ r. ⌜ HasDegrees r total (graphOf (now (edges .entry))) ⌝ }
 {
     let n = edges.len() / 2;
-    let mut counts = [0usize; MAX_VERTICES];
+    let mut degrees = [0usize; MAX_VERTICES];
     for i in 0..n {
-        count_edge(&mut counts, edges, i);
+        count_edge(&mut degrees, edges, i);
     }
-    counts
+    degrees
 }
 
 // The lowest vertex whose degree is over 40, or the total.
-pub fn first_above(counts: &[usize; MAX_VERTICES], total: usize) -> usize
+pub fn first_above(degrees: &[usize; MAX_VERTICES], total: usize) -> usize
     requires { ⌜ total ≤ mostVertices ⌝ }
-    ensures { λ r. ⌜ r ≡ firstAboveIn (now (counts .entry)) total ⌝ }
+    ensures { λ r. ⌜ r ≡ firstAboveIn (now (degrees .entry)) total ⌝ }
 {
     let mut v = 0;
     while v < total {
-        if MAX_DEGREE < counts[v] {
+        if MAX_DEGREE < degrees[v] {
             return v;
         }
         v += 1;
@@ -67,25 +68,15 @@ fn is_isolated(degree: usize) -> usize
 }
 
 // How many vertices below the total have no edge.
-pub fn isolated_in(counts: &[usize; MAX_VERTICES], total: usize) -> usize
+pub fn isolated_in(degrees: &[usize; MAX_VERTICES], total: usize) -> usize
     requires { ⌜ total ≤ mostVertices ⌝ }
-    ensures { λ r. ⌜ (r ≡ isolatedIn (now (counts .entry)) total) × (r ≤ total) ⌝ }
+    ensures { λ r. ⌜ (r ≡ isolatedIn (now (degrees .entry)) total) × (r ≤ total) ⌝ }
 {
     let mut n = 0;
     for v in 0..total {
-        n += is_isolated(counts[v]);
+        n += is_isolated(degrees[v]);
     }
     n
-}
-
-// How often an edge between vertices of degrees a and b counts in their cell.
-fn times_counted(a: usize, b: usize) -> usize
-    ensures { λ r. ⌜ (r ≡ timesCounted a b) × (r ≤ 2) ⌝ }
-{
-    if a == b {
-        return 2;
-    }
-    1
 }
 
 fn count_cell(cells: &mut [u32; CELLS], a: usize, b: usize)
@@ -98,23 +89,23 @@ fn count_cell(cells: &mut [u32; CELLS], a: usize, b: usize)
 }
 
 // The degree of the vertex that a byte names.
-fn degree_at(counts: &[usize; MAX_VERTICES], v: u8) -> usize
+fn degree_at(degrees: &[usize; MAX_VERTICES], v: u8) -> usize
     requires { ⌜ v < mostVertices ⌝ }
-    ensures { λ r. ⌜ r ≡ degreeIn (now (counts .entry)) v ⌝ }
+    ensures { λ r. ⌜ r ≡ degreeIn (now (degrees .entry)) v ⌝ }
 {
-    counts[wide(v)]
+    degrees[wide(v)]
 }
 
 // The joint degree matrix at the graph's own degrees. The contract alone uses the total.
-pub fn cells_of(edges: &[u8], total: usize, counts: &[usize; MAX_VERTICES]) -> [u32; CELLS]
-    requires { ⌜ (total ≤ mostVertices) × (firstBadEdge (now edges) total ≡ listed (now edges)) × (firstAbove (now edges) total ≡ total) × HasDegrees (now counts) total (graphOf (now edges)) ⌝ }
+pub fn cells_of(edges: &[u8], total: usize, degrees: &[usize; MAX_VERTICES]) -> [u32; CELLS]
+    requires { ⌜ (total ≤ mostVertices) × (firstBadEdge (now edges) total ≡ listed (now edges)) × (firstAbove (now edges) total ≡ total) × HasDegrees (now degrees) total (graphOf (now edges)) ⌝ }
     ensures { λ r. ⌜ HasCells r total (degree total (graphOf (now (edges .entry)))) (graphOf (now (edges .entry))) × CellsSmall r ⌝ }
 {
     let n = edges.len() / 2;
     let mut cells = [0u32; CELLS];
     for i in 0..n {
-        let a = degree_at(counts, edges[2 * i]);
-        let b = degree_at(counts, edges[2 * i + 1]);
+        let a = degree_at(degrees, edges[2 * i]);
+        let b = degree_at(degrees, edges[2 * i + 1]);
         count_cell(&mut cells, a, b);
     }
     cells

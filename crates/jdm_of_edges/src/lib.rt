@@ -32,15 +32,15 @@ const MAX_RECORDS_BYTES: usize = RECORD_BYTES * (CELLS + 1);
 fn own_records(
     edges: &[u8],
     total: usize,
-    counts: &[usize; MAX_VERTICES],
+    degrees: &[usize; MAX_VERTICES],
     records: &mut [u8; MAX_RECORDS_BYTES],
 ) -> usize
-    requires { ⌜ (listVerdict (now edges) total ≡ Go) × (firstAbove (now edges) total ≡ total) × HasDegrees (now counts) total (graphOf (now edges)) ⌝ }
+    requires { ⌜ (listVerdict (now edges) total ≡ Go) × (firstAbove (now edges) total ≡ total) × HasDegrees (now degrees) total (graphOf (now edges)) ⌝ }
     ensures { λ r. ⌜ (r ≡ length (surveyRecords (now (edges .entry)) total)) × (r ≤ recordsMost) ⌝ }
     ensures { λ _. ⌜ now (records .exit) ≡ sets (now (records .entry)) 0 (surveyRecords (now (edges .entry)) total) ⌝ }
 {
-    let isolated = isolated_in(counts, total);
-    let cells = cells_of(edges, total, counts);
+    let isolated = isolated_in(degrees, total);
+    let cells = cells_of(edges, total, degrees);
     put_records(isolated, &cells, records)
 }
 
@@ -50,13 +50,13 @@ fn survey_listed(edges: &[u8], total: usize, output: &mut [u8]) -> WrittenAnswer
     ensures { λ r. ⌜ r ≡ surveyListed (now (edges .entry)) total (length (now (output .entry))) ⌝ }
     ensures { λ _. ⌜ now (output .exit) ≡ surveyOutput (surveyListed (now (edges .entry)) total (length (now (output .entry)))) (now (edges .entry)) total (now (output .entry)) ⌝ }
 {
-    let counts = degrees_of(edges, total);
-    let above = first_above(&counts, total);
+    let degrees = degrees_of(edges, total);
+    let above = first_above(&degrees, total);
     if above != total {
         return WrittenAnswer::Refused(refuse(Cause::DegreeTooHigh, above, 0));
     }
     let mut records = [0u8; MAX_RECORDS_BYTES];
-    let length = own_records(edges, total, &counts, &mut records);
+    let length = own_records(edges, total, &degrees, &mut records);
     if output.len() < length {
         return WrittenAnswer::Refused(refuse(Cause::OutputTooShort, 0, 0));
     }

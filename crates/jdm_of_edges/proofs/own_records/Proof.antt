@@ -28,6 +28,6 @@ own-records-spec =
     let s = z .before .before in
     let e = s .args .edges .now in
     let t = s .args .total in
-    let counted = z .isolated-in .ensures .0 ∙ isolated-same e (s .args .counts .now) t (s .pre .2) in
+    let counted = z .isolated-in .ensures .0 ∙ isolated-same e (s .args .degrees .now) t (s .pre .2) in
     let own = own-records e t (z .isolated-in .result) (q .cells-of .result) counted (q .cells-of .ensures .0) in
     rw own at (c .put-records .ensures)))  -- returns

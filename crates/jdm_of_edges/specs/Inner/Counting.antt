@@ -1,13 +1,12 @@
 -- What the code keeps while it goes through an edge list: the degrees and the cells that the edges so far make.
 -- Assumes nothing.
 use mathlib.Core.Path.{_≡_}
-use mathlib.Core.Bool.{cond}
 use mathlib.Core.List.{List}
 use Prim.Native.Nat.{ℕ, _+_, _*_, _≤_, _<_}
-use lib.Dec.{eqb, ltb}
+use lib.Dec.{ltb}
 use lib.ListN.{getD, set}
 use Rattle.finite.specs.Range.{lowest}
-use Rattle.graph.specs.Graph.{Graph, degree, size, jdm}
+use Rattle.graph.specs.Graph.{Graph, degree, size, jdm, timesCounted}
 use Rattle.graph.specs.Tests.{mostDegree, mostClasses}
 use Rattle.table.specs.Block.{recordSize}
 use Rattle.table.specs.Inner.Cells.{cellsSize, matrixOf, place}
@@ -29,10 +28,6 @@ degreeIn d v = getD d v 0
 -- the ends of edge i have at most 2 for each edge before it
 abbrev pub HasRoom : List ℕ → ℕ → List ℕ → Type 0
 HasRoom e i d = (degreeIn d (endV e i) ≤ 2 * i) × (degreeIn d (endW e i) ≤ 2 * i)
-
--- how often equation (1) counts an edge in the cell of its degrees a and b: twice on the diagonal
-abbrev pub timesCounted : ℕ → ℕ → ℕ
-timesCounted a b = cond (eqb a b) 2 1
 
 -- the cells after one edge more, between vertices of degrees a and b
 abbrev pub countCell : ℕ → ℕ → List ℕ → List ℕ

@@ -15,11 +15,11 @@ use Rattle.jdm_of_edges.proofs.count.cells_of.Statement.{statement}
 use Rattle.jdm_of_edges.proofs.count.cells_of.Tie as tie
 
 abbrev Inv-loop : tie.InvT-loop
-Inv-loop edges total counts n cells₀ i₀ cells i =
+Inv-loop edges total degrees n cells₀ i₀ cells i =
     (i ≤ listed edges) × (length cells ≡ cellsSize) × HasCells cells total (degree total (graphOf edges)) (graphTo edges i)
 
 abbrev μ-loop : tie.MeasureT-loop
-μ-loop edges total counts n cells₀ i₀ cells i = listed edges - i
+μ-loop edges total degrees n cells₀ i₀ cells i = listed edges - i
 
 pub cells-of-spec : {M : Type 1} → statement M
 cells-of-spec =

@@ -17,26 +17,26 @@ count-edge-spec =
     (λ c. omega arith)  -- add-wide
     (λ c. omega arith)  -- shared-slice-read-wide-2
     (λ c κs. tt)  -- wide-requires-2
-    (λ c. omega arith)  -- mul-counts
-    (λ c. omega arith)  -- element-copy-out-counts
+    (λ c. omega arith)  -- mul-degrees
+    (λ c. omega arith)  -- element-copy-out-degrees
     (λ c.
     let w = c .before .before .before in
     let s = w .before .before .before in
-    let room : degreeIn (s .args .counts .now) (w .wide .result) ≤ 2 * s .args .i = rw (w .wide .ensures .0) (s .pre .3 .0) in
-    omega arith)  -- add-counts
-    (λ c. omega arith)  -- mul-counts-2
-    (λ c. omega arith)  -- element-write-counts
-    (λ c. omega arith)  -- mul-counts-3
-    (λ c. omega arith)  -- element-copy-out-counts-2
+    let room : degreeIn (s .args .degrees .now) (w .wide .result) ≤ 2 * s .args .i = rw (w .wide .ensures .0) (s .pre .3 .0) in
+    omega arith)  -- add-degrees
+    (λ c. omega arith)  -- mul-degrees-2
+    (λ c. omega arith)  -- element-write-degrees
+    (λ c. omega arith)  -- mul-degrees-3
+    (λ c. omega arith)  -- element-copy-out-degrees-2
     (λ c.
     let x = c .before .before in
     let w = x .before .before in
     let s = w .before .before .before in
-    let room : degreeIn (s .args .counts .now) (x .wide2 .result) ≤ 2 * s .args .i = rw (x .wide2 .ensures .0) (s .pre .3 .1) in
-    let d = s .args .counts .now in
-    omega (arith, getD-set-other d (w .wide .result) (x .wide2 .result) (degreeIn d (w .wide .result) + 1) 0 (omega arith)))  -- add-counts-2
-    (λ c. omega arith)  -- mul-counts-4
-    (λ c. omega arith)  -- element-write-counts-2
+    let room : degreeIn (s .args .degrees .now) (x .wide2 .result) ≤ 2 * s .args .i = rw (x .wide2 .ensures .0) (s .pre .3 .1) in
+    let d = s .args .degrees .now in
+    omega (arith, getD-set-other d (w .wide .result) (x .wide2 .result) (degreeIn d (w .wide .result) + 1) 0 (omega arith)))  -- add-degrees-2
+    (λ c. omega arith)  -- mul-degrees-4
+    (λ c. omega arith)  -- element-write-degrees-2
     (λ c.
     let x = c .before .before in
     rw (x .wide2 .ensures .0, x .before .before .wide .ensures .0)))  -- returns

@@ -13,10 +13,10 @@ use Rattle.jdm_of_edges.proofs.count.degrees_of.Statement.{statement}
 use Rattle.jdm_of_edges.proofs.count.degrees_of.Tie as tie
 
 abbrev Inv-loop : tie.InvT-loop
-Inv-loop edges total n counts₀ i₀ counts i = (i ≤ listed edges) × (length counts ≡ mostVertices) × HasDegrees counts total (graphTo edges i)
+Inv-loop edges total n degrees₀ i₀ degrees i = (i ≤ listed edges) × (length degrees ≡ mostVertices) × HasDegrees degrees total (graphTo edges i)
 
 abbrev μ-loop : tie.MeasureT-loop
-μ-loop edges total n counts₀ i₀ counts i = listed edges - i
+μ-loop edges total n degrees₀ i₀ degrees i = listed edges - i
 
 pub degrees-of-spec : {M : Type 1} → statement M
 degrees-of-spec =
@@ -28,7 +28,7 @@ degrees-of-spec =
     let e = s .args .edges .now in
     let i = l .loop .i in
     let g = good e (s .args .total) (s .pre .1) i (omega arith) in
-    let room : (v : ℕ) → v < s .args .total → degreeIn (l .loop .counts) v ≤ 2 * i =
+    let room : (v : ℕ) → v < s .args .total → degreeIn (l .loop .degrees) v ≤ 2 * i =
     λ v h. rw (l .loop .inv .2 v h) (degree-most e (s .args .total) (s .pre .1) v i h (omega arith)) in
     (omega arith, g .ordered, omega arith, (room (endV e i) (omega arith), room (endW e i) (omega arith))))  -- count-edge-requires
     (λ c. omega arith)  -- add-i
@@ -40,7 +40,7 @@ degrees-of-spec =
     let i = l .loop .i in (
       omega arith,
       rw (c .count-edge .ensures, length-countEdge) (l .loop .inv .1),
-      rw (c .count-edge .ensures) (degrees-more e (s .args .total) i (l .loop .counts) (s .pre .0) (good e (s .args .total) (s .pre .1) i (omega arith)) (l .loop .inv .1) (l .loop .inv .2)),
+      rw (c .count-edge .ensures) (degrees-more e (s .args .total) i (l .loop .degrees) (s .pre .0) (good e (s .args .total) (s .pre .1) i (omega arith)) (l .loop .inv .1) (l .loop .inv .2)),
     ))  -- loop-again
     (λ c.
     let l = c .before in

@@ -13,10 +13,10 @@ use Rattle.jdm_of_edges.proofs.count.first_above.Statement.{statement}
 use Rattle.jdm_of_edges.proofs.count.first_above.Tie as tie
 
 abbrev Inv-loop : tie.InvT-loop
-Inv-loop counts total v₀ v = (firstAboveIn counts total ≡ lowest v total (λ v. ltb mostDegree (degreeIn counts v))) × (v ≤ total)
+Inv-loop degrees total v₀ v = (firstAboveIn degrees total ≡ lowest v total (λ v. ltb mostDegree (degreeIn degrees v))) × (v ≤ total)
 
 abbrev μ-loop : tie.MeasureT-loop
-μ-loop counts total v₀ v = total - v
+μ-loop degrees total v₀ v = total - v
 
 pub first-above-spec : {M : Type 1} → statement M
 first-above-spec =

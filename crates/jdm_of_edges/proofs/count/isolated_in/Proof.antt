@@ -9,10 +9,10 @@ use Rattle.jdm_of_edges.proofs.count.isolated_in.Statement.{statement}
 use Rattle.jdm_of_edges.proofs.count.isolated_in.Tie as tie
 
 abbrev Inv-loop : tie.InvT-loop
-Inv-loop counts total n₀ v₀ n v = (v ≤ total) × (n ≡ isolatedIn counts v) × (n ≤ v)
+Inv-loop degrees total n₀ v₀ n v = (v ≤ total) × (n ≡ isolatedIn degrees v) × (n ≤ v)
 
 abbrev μ-loop : tie.MeasureT-loop
-μ-loop counts total n₀ v₀ n v = total - v
+μ-loop degrees total n₀ v₀ n v = total - v
 
 pub isolated-in-spec : {M : Type 1} → statement M
 isolated-in-spec =
