@@ -1,7 +1,7 @@
 // What the entries answer, and which way of completing is asked for. specs/Numbers.antt gives document 01's number and values for each answer.
 ghost use mathlib.Core.Path.{_≡_};
 ghost use Rattle.answer.specs.Numbers.{numberOf};
-ghost use Rattle.answer.specs.Refusals.{refusal, stop};
+ghost use Rattle.answer.specs.Refusals.{refuse, stopped};
 
 pub mod switches;
 
@@ -127,7 +127,7 @@ pub enum ReadAnswer {
 
 // The refusal of a cause at two places.
 pub fn refuse(cause: Cause, first: usize, second: usize) -> Refusal
-    ensures { λ r. ⌜ r ≡ refusal cause first second ⌝ }
+    ensures { λ r. ⌜ r ≡ refuse cause first second ⌝ }
 {
     Refusal {
         cause,
@@ -138,7 +138,7 @@ pub fn refuse(cause: Cause, first: usize, second: usize) -> Refusal
 
 // The verdict that refuses, with no place named.
 pub fn stopped(cause: Cause) -> Verdict
-    ensures { λ r. ⌜ r ≡ stop cause ⌝ }
+    ensures { λ r. ⌜ r ≡ stopped cause ⌝ }
 {
     Verdict::Stop(refuse(cause, 0, 0))
 }

@@ -8,7 +8,7 @@ use lib.Dec.{eqb, ltb, leb}
 use lib.ListN.{length, getD}
 use Rattle.finite.specs.Range.{sumTo, lowest, catTo}
 use Rattle.graph.specs.Graph.{Graph, atEdge}
-use Rattle.answer.specs.Refusals.{refusal, unless}
+use Rattle.answer.specs.Refusals.{refuse, unless}
 use Rattle.answer.specs.declared.Cause.the-variants.{BadEdgeList}
 use Rattle.answer.specs.declared.Verdict.{Verdict}
 use Rattle.answer.specs.declared.Verdict.the-variants.{Go, Stop}
@@ -44,9 +44,9 @@ graphOf e v w = sumTo (listed e) (λ i. atEdge (endV e i) (endW e i) v w)
 -- the checks 19 of a list and its total, in their order: for the total, for an odd length, and for the edges
 abbrev pub listVerdict : List ℕ → ℕ → Verdict
 listVerdict e total =
-    unless (leb total mostVertices) (Stop (refusal BadEdgeList 0 0))
-    (unless (eqb (length e % 2) 0) (Stop (refusal BadEdgeList (listed e) 0))
-    (unless (eqb (firstBadEdge e total) (listed e)) (Stop (refusal BadEdgeList (firstBadEdge e total) 0)) Go))
+    unless (leb total mostVertices) (Stop (refuse BadEdgeList 0 0))
+    (unless (eqb (length e % 2) 0) (Stop (refuse BadEdgeList (listed e) 0))
+    (unless (eqb (firstBadEdge e total) (listed e)) (Stop (refuse BadEdgeList (firstBadEdge e total) 0)) Go))
 
 -- the bytes of the edge v – w, where v < w and the matrix's row of v has it
 abbrev pub edgeBytes : (ℕ → ℕ) → ℕ → ℕ → List ℕ

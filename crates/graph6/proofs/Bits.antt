@@ -16,7 +16,7 @@ use Rattle.finite.specs.Range.{allTo, catTo}
 use Rattle.finite.proofs.All.{allTo-at}
 use Rattle.finite.proofs.Fold.{catTo-cong}
 use Rattle.graph.specs.Graph.{Graph, Simple}
-use Rattle.graph6.specs.Format.{plus, mostByte, triangle, sixBits, packed, columnStart, bitsOf, unpacked}
+use Rattle.graph6.specs.Format.{offset, mostByte, triangle, sixBits, packed, columnStart, bitsOf, unpacked}
 use Rattle.finite.proofs.Blocks.{singles-length, singles-at, sixes-length, sixes-at}
 use Rattle.graph6.proofs.Columns.{columns-none, columns-next, place-before, place-of}
 
@@ -69,18 +69,18 @@ triangle-cong n E E′ same =
 -- bits as bytes
 module _ (x : List ℕ) where
   pub packed-length : length (packed x) ≡ (length x + 5) / 6
-  packed-length = singles-length (λ p. sixBits x p + plus) ((length x + 5) / 6)
+  packed-length = singles-length (λ p. sixBits x p + offset) ((length x + 5) / 6)
 
-  pub packed-at : (p : ℕ) → p < (length x + 5) / 6 → getD (packed x) p 0 ≡ sixBits x p + plus
-  packed-at p h = singles-at (λ p. sixBits x p + plus) ((length x + 5) / 6) p h
+  pub packed-at : (p : ℕ) → p < (length x + 5) / 6 → getD (packed x) p 0 ≡ sixBits x p + offset
+  packed-at p h = singles-at (λ p. sixBits x p + offset) ((length x + 5) / 6) p h
 
 -- bytes as bits
 module _ (b : List ℕ) where
   pub unpacked-length : length (unpacked b) ≡ 6 * length b
-  unpacked-length = sixes-length (λ p. bitsOf (getD b p 0 - plus)) (λ p. refl) (length b)
+  unpacked-length = sixes-length (λ p. bitsOf (getD b p 0 - offset)) (λ p. refl) (length b)
 
-  pub unpacked-at : (p i : ℕ) → p < length b → i < 6 → getD (unpacked b) (6 * p + i) 0 ≡ getD (bitsOf (getD b p 0 - plus)) i 0
-  unpacked-at p i h l = sixes-at (λ p. bitsOf (getD b p 0 - plus)) (λ p. refl) (length b) p i h l
+  pub unpacked-at : (p i : ℕ) → p < length b → i < 6 → getD (unpacked b) (6 * p + i) 0 ≡ getD (bitsOf (getD b p 0 - offset)) i 0
+  unpacked-at p i h l = sixes-at (λ p. bitsOf (getD b p 0 - offset)) (λ p. refl) (length b) p i h l
 
   pub unpacked-past : (q : ℕ) → 6 * length b ≤ q → getD (unpacked b) q 0 ≡ 0
   unpacked-past q h = List·getD-eq-default (unpacked b) 0 (omega (arith, unpacked-length))
@@ -101,7 +101,7 @@ unpacked-binary b q = go (decLt q (6 * length b))
     go : Dec (q < 6 * length b) → getD (unpacked b) q 0 ≤ 1
     go (yes l) =
         let e : q ≡ 6 * (q / 6) + q % 6 = omega arith in
-        rw e (rw (unpacked-at b (q / 6) (q % 6) (omega arith) (omega arith)) (bit-binary (getD b (q / 6) 0 - plus) (q % 6)))
+        rw e (rw (unpacked-at b (q / 6) (q % 6) (omega arith) (omega arith)) (bit-binary (getD b (q / 6) 0 - offset) (q % 6)))
     go (no l) = omega (arith, unpacked-past b q (omega arith))
 
 -- a number below 64 is that of its six bits: computed for each
@@ -110,9 +110,9 @@ unfolding allTo
 sum-test = refl
 
 -- so a byte of 63 to 126 is that of its six bits
-pub unpacked-six : (b : List ℕ) (p : ℕ) → p < length b → plus ≤ getD b p 0 → getD b p 0 ≤ mostByte → sixBits (unpacked b) p + plus ≡ getD b p 0
+pub unpacked-six : (b : List ℕ) (p : ℕ) → p < length b → offset ≤ getD b p 0 → getD b p 0 ≤ mostByte → sixBits (unpacked b) p + offset ≡ getD b p 0
 unpacked-six b p h low high =
-    let x = getD b p 0 - plus in
+    let x = getD b p 0 - offset in
     let whole = eqb-true (sixBits (bitsOf x) 0) x (allTo-at (λ x. eqb (sixBits (bitsOf x) 0) x) 64 sum-test x (omega arith)) in
     rw (
       rw add-zero at (unpacked-at b p 0 h (omega arith)),
@@ -122,11 +122,11 @@ unpacked-six b p h low high =
       unpacked-at b p 4 h (omega arith),
       unpacked-at b p 5 h (omega arith),
     )
-    (ap (λ (y : ℕ). y + plus) whole ∙ omega arith)
+    (ap (λ (y : ℕ). y + offset) whole ∙ omega arith)
 
 -- bits that were packed come out again
 module _ (x : List ℕ) (binary : (q : ℕ) → getD x q 0 ≤ 1) where
-  pub packed-bytes : (p : ℕ) → p < length (packed x) → (plus ≤ getD (packed x) p 0) × (getD (packed x) p 0 ≤ mostByte)
+  pub packed-bytes : (p : ℕ) → p < length (packed x) → (offset ≤ getD (packed x) p 0) × (getD (packed x) p 0 ≤ mostByte)
   packed-bytes p h =
       let e = packed-at x p (omega (arith, packed-length x)) in
       let a = binary (6 * p) in
@@ -152,11 +152,11 @@ module _ (x : List ℕ) (binary : (q : ℕ) → getD x q 0 ≤ 1) where
       go : Dec (q < 6 * length (packed x)) → getD (unpacked (packed x)) q 0 ≡ getD x q 0
       go (yes l) =
           let e : q ≡ 6 * (q / 6) + q % 6 = omega arith in
-          let d : sixBits x (q / 6) + plus - plus ≡ sixBits x (q / 6) = omega arith in
+          let d : sixBits x (q / 6) + offset - offset ≡ sixBits x (q / 6) = omega arith in
           let h : q / 6 < (length x + 5) / 6 = omega (arith, packed-length x) in
           rw e
           (unpacked-at (packed x) (q / 6) (q % 6) (omega (arith, packed-length x)) (omega arith)
-          ∙ ap (λ (y : ℕ). getD (bitsOf (y - plus)) (q % 6) 0) (packed-at x (q / 6) h)
+          ∙ ap (λ (y : ℕ). getD (bitsOf (y - offset)) (q % 6) 0) (packed-at x (q / 6) h)
           ∙ ap (λ (y : ℕ). getD (bitsOf y) (q % 6) 0) d
           ∙ six-at (q / 6) (q % 6) (omega arith))
       go (no l) = unpacked-past (packed x) q (omega arith) ∙ sym (List·getD-eq-default x 0 (omega (arith, packed-length x)))

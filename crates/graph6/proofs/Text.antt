@@ -15,16 +15,16 @@ use Rattle.finite.proofs.All.{and-left, and-right, and-both, and-false, allTo-a
 use Rattle.graph.specs.Graph.{Graph, Simple, SameOn}
 use Rattle.slices.proofs.Zero.{all-zero-at, zeros-all-zero}
 use Rattle.layout.specs.Layout.{mostVertices}
-use Rattle.graph6.specs.Format.{plus, mostByte, shortMost, sizeBytes, triangle, packed, graph6Text, columnStart, bodyLength, bodyMost, isLong, sizeLength, longSize, sizeOf, upTo, tooLarge, unpacked, bodyBits, framed, zeroPadded, wellFormed, bitOf, textGraph}
+use Rattle.graph6.specs.Format.{offset, mostByte, shortMost, sizeBytes, triangle, packed, graph6Text, columnStart, bodyLength, bodyMost, isLong, sizeLength, longSize, sizeOf, upTo, tooLarge, unpacked, bodyBits, framed, zeroPadded, wellFormed, bitOf, textGraph}
 use Rattle.graph6.proofs.Columns.{columns-most, place-of}
 use Rattle.graph6.proofs.Bits.{triangle-length, triangle-at, triangle-past, triangle-binary, triangle-cong, packed-length, packed-at, packed-bytes, packed-unpacked, unpacked-binary, unpacked-six}
 
-pub up-to : (m x : ℕ) → plus ≤ x → x ≤ m → upTo m x ≡ true
-up-to m x low high = and-both (leb plus x) (leb x m) (le-leb plus x low) (le-leb x m high)
+pub up-to : (m x : ℕ) → offset ≤ x → x ≤ m → upTo m x ≡ true
+up-to m x low high = and-both (leb offset x) (leb x m) (le-leb offset x low) (le-leb x m high)
 
 -- what the test of a frame says
 pub record Framed (t : List ℕ) : Type 0 where
-  pub low : (i : ℕ) → i < length t → plus ≤ getD t i 0
+  pub low : (i : ℕ) → i < length t → offset ≤ getD t i 0
   pub high : (i : ℕ) → i < length t → getD t i 0 ≤ mostByte
   pub few : sizeOf t ≤ mostVertices
   pub needed : not (isLong t) || ltb shortMost (sizeOf t) ≡ true
@@ -40,8 +40,8 @@ framed-facts t h =
     let b = and-left (bytes && few) needed a in
     let byte = allTo-at (λ i. upTo mostByte (getD t i 0)) (length t) (and-left bytes few b) in
     record {
-      low = λ i l. leb-true plus (getD t i 0) (and-left (leb plus (getD t i 0)) (leb (getD t i 0) mostByte) (byte i l));
-      high = λ i l. leb-true (getD t i 0) mostByte (and-right (leb plus (getD t i 0)) (leb (getD t i 0) mostByte) (byte i l));
+      low = λ i l. leb-true offset (getD t i 0) (and-left (leb offset (getD t i 0)) (leb (getD t i 0) mostByte) (byte i l));
+      high = λ i l. leb-true (getD t i 0) mostByte (and-right (leb offset (getD t i 0)) (leb (getD t i 0) mostByte) (byte i l));
       few = leb-true (sizeOf t) mostVertices (and-right bytes few b);
       needed = and-right (bytes && few) needed a;
       whole = eqb-true (length t) (sizeLength t + bodyLength (sizeOf t)) (and-right (bytes && few && needed) whole h);
@@ -66,16 +66,16 @@ pub record Sized (n : ℕ) (t b : List ℕ) : Type 0 where
   pub needed : not (isLong t) || ltb shortMost (sizeOf t) ≡ true
   pub behind : drop (sizeLength t) t ≡ b
   pub together : length t ≡ sizeLength t + length b
-  pub low : (i : ℕ) → i < sizeLength t → plus ≤ getD t i 0
+  pub low : (i : ℕ) → i < sizeLength t → offset ≤ getD t i 0
   pub high : (i : ℕ) → i < sizeLength t → getD t i 0 ≤ mostByte
 
 pub size-written : (n : ℕ) → n ≤ mostVertices → (b : List ℕ) → Sized n (sizeBytes n ++ b) b
 size-written n few b = go (decLt shortMost n)
   where
     go : Dec (shortMost < n) → Sized n (sizeBytes n ++ b) b
-    go (no h) = rw (le-leb n shortMost (omega arith)) (short (ne-eqb (n + plus) mostByte (omega arith)))
+    go (no h) = rw (le-leb n shortMost (omega arith)) (short (ne-eqb (n + offset) mostByte (omega arith)))
       where
-        short : eqb (n + plus) mostByte ≡ false → Sized n ((n + plus) ∷ b) b
+        short : eqb (n + offset) mostByte ≡ false → Sized n ((n + offset) ∷ b) b
         short e =
             record {
               said = rw e (omega arith);
@@ -86,17 +86,17 @@ size-written n few b = go (decLt shortMost n)
               high = rw e (λ i l. byte i l .1);
             }
           where
-            byte : (i : ℕ) → i < 1 → (plus ≤ getD ((n + plus) ∷ b) i 0) × (getD ((n + plus) ∷ b) i 0 ≤ mostByte)
+            byte : (i : ℕ) → i < 1 → (offset ≤ getD ((n + offset) ∷ b) i 0) × (getD ((n + offset) ∷ b) i 0 ≤ mostByte)
             byte i l = let z : i ≡ 0 = omega arith in rw z (omega arith, omega arith)
     go (yes h) = rw (lt-leb n shortMost h) long
       where
         t : List ℕ
-        t = mostByte ∷ (n / 4096 + plus) ∷ (n / 64 % 64 + plus) ∷ (n % 64 + plus) ∷ b
+        t = mostByte ∷ (n / 4096 + offset) ∷ (n / 64 % 64 + offset) ∷ (n % 64 + offset) ∷ b
 
         said : sizeOf t ≡ n
         said = omega arith
 
-        byte : (i : ℕ) → i < 4 → (plus ≤ getD t i 0) × (getD t i 0 ≤ mostByte)
+        byte : (i : ℕ) → i < 4 → (offset ≤ getD t i 0) × (getD t i 0 ≤ mostByte)
         byte zero l = (omega arith, omega arith)
         byte (suc zero) l = (omega arith, omega arith)
         byte (suc (suc zero)) l = (omega arith, omega arith)
@@ -119,28 +119,28 @@ pub size-back : (t : List ℕ) → Framed t → sizeBytes (sizeOf t) ++ drop (si
 size-back t f = go t (ℕ-discrete (getD t 0 0) mostByte) (f .whole) (f .needed) (f .low) (f .high)
   where
     long : (x y z : ℕ) (r : List ℕ) → let t = mostByte ∷ x ∷ y ∷ z ∷ r in
-        ltb shortMost (longSize t) ≡ true → (plus ≤ x) → (plus ≤ y) → (y ≤ mostByte) → (plus ≤ z) → (z ≤ mostByte)
+        ltb shortMost (longSize t) ≡ true → (offset ≤ x) → (offset ≤ y) → (y ≤ mostByte) → (offset ≤ z) → (z ≤ mostByte)
         → sizeBytes (longSize t) ++ r ≡ t
     long x y z r above x1 y1 y2 z1 z2 =
-        let n = (x - plus) * 4096 + (y - plus) * 64 + (z - plus) in
-        let a : n / 4096 + plus ≡ x = omega arith in
-        let h : n / 64 ≡ (x - plus) * 64 + (y - plus) = omega arith in
-        let b : n / 64 % 64 + plus ≡ y = middle (n / 64) h in
-        let c : n % 64 + plus ≡ z = omega arith in
+        let n = (x - offset) * 4096 + (y - offset) * 64 + (z - offset) in
+        let a : n / 4096 + offset ≡ x = omega arith in
+        let h : n / 64 ≡ (x - offset) * 64 + (y - offset) = omega arith in
+        let b : n / 64 % 64 + offset ≡ y = middle (n / 64) h in
+        let c : n % 64 + offset ≡ z = omega arith in
         rw (lt-leb n shortMost (ltb-true shortMost n above), a, b, c)
       where
-        middle : (m : ℕ) → m ≡ (x - plus) * 64 + (y - plus) → m % 64 + plus ≡ y
+        middle : (m : ℕ) → m ≡ (x - offset) * 64 + (y - offset) → m % 64 + offset ≡ y
         middle m e = omega arith
 
     go : (t : List ℕ) → Dec (getD t 0 0 ≡ mostByte) → length t ≡ sizeLength t + bodyLength (sizeOf t) → not (isLong t) || ltb shortMost (sizeOf t) ≡ true
-        → ((i : ℕ) → i < length t → plus ≤ getD t i 0) → ((i : ℕ) → i < length t → getD t i 0 ≤ mostByte)
+        → ((i : ℕ) → i < length t → offset ≤ getD t i 0) → ((i : ℕ) → i < length t → getD t i 0 ≤ mostByte)
         → sizeBytes (sizeOf t) ++ drop (sizeLength t) t ≡ t
     go [] d whole needed low high = absurd (omega arith)
     go (x ∷ r) (no d) whole needed low high =
         let a = low 0 (omega arith) in
         let b = high 0 (omega arith) in
-        let e : x - plus + plus ≡ x = omega arith in
-        rw (ne-eqb x mostByte d, le-leb (x - plus) shortMost (omega arith), e)
+        let e : x - offset + offset ≡ x = omega arith in
+        rw (ne-eqb x mostByte d, le-leb (x - offset) shortMost (omega arith), e)
     go (x ∷ []) (yes d) whole needed low high = absurd (omega (arith, rw (eq-eqb x mostByte d) at whole))
     go (x ∷ y ∷ []) (yes d) whole needed low high = absurd (omega (arith, rw (eq-eqb x mostByte d) at whole))
     go (x ∷ y ∷ z ∷ []) (yes d) whole needed low high = absurd (omega (arith, rw (eq-eqb x mostByte d) at whole))
@@ -264,7 +264,7 @@ module _ (n : ℕ) (E : Graph) (few : n ≤ mostVertices) (simple : Simple n E) 
   text-most = omega (arith, text-length, columns-most n few, size-most (leb n shortMost))
     where
       size-most : (b : Bool)
-          → length (cond b ((n + plus) ∷ []) (mostByte ∷ (n / 4096 + plus) ∷ (n / 64 % 64 + plus) ∷ (n % 64 + plus) ∷ [])) ≤ 4
+          → length (cond b ((n + offset) ∷ []) (mostByte ∷ (n / 4096 + offset) ∷ (n / 64 % 64 + offset) ∷ (n % 64 + offset) ∷ [])) ≤ 4
       size-most true = omega arith
       size-most false = omega arith
 
@@ -277,7 +277,7 @@ module _ (n : ℕ) (E : Graph) (few : n ≤ mostVertices) (simple : Simple n E) 
       padding : (i : ℕ) → getD (triangle n E) (columnStart (sizeOf (graph6Text n E)) + i) 0 ≡ 0
       padding i = triangle-past E n _ (omega (arith, ap columnStart text-size))
 
-      body : (i : ℕ) → i < length (graph6Text n E) → Dec (i < sizeLength (graph6Text n E)) → (plus ≤ getD (graph6Text n E) i 0) × (getD (graph6Text n E) i 0 ≤ mostByte)
+      body : (i : ℕ) → i < length (graph6Text n E) → Dec (i < sizeLength (graph6Text n E)) → (offset ≤ getD (graph6Text n E) i 0) × (getD (graph6Text n E) i 0 ≤ mostByte)
       body i l (yes h) = (sized .low i h, sized .high i h)
       body i l (no h) =
           let k = i - sizeLength (graph6Text n E) in

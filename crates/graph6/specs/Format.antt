@@ -12,8 +12,8 @@ use Rattle.slices.specs.Slices.{allZero}
 use Rattle.layout.specs.Layout.{mostVertices}
 
 -- what is added to six bits to make them a byte
-abbrev pub plus : ℕ
-plus = 63
+abbrev pub offset : ℕ
+offset = 63
 
 -- the byte of six ones, with which a long size begins
 abbrev pub mostByte : ℕ
@@ -28,7 +28,7 @@ shortMost = 62
 -- the size: one byte up to 62, then byte 126 and three bytes, six bits each, high bits first
 abbrev pub sizeBytes : ℕ → List ℕ
 sizeBytes n =
-    cond (leb n shortMost) ((n + plus) ∷ []) (mostByte ∷ (n / 4096 + plus) ∷ (n / 64 % 64 + plus) ∷ (n % 64 + plus) ∷ [])
+    cond (leb n shortMost) ((n + offset) ∷ []) (mostByte ∷ (n / 4096 + offset) ∷ (n / 64 % 64 + offset) ∷ (n % 64 + offset) ∷ [])
 
 -- the upper triangle, column by column: (0, 1), (0, 2), (1, 2), (0, 3) and on
 abbrev pub triangle : ℕ → Graph → List ℕ
@@ -42,7 +42,7 @@ sixBits x p =
 
 -- bits as bytes
 abbrev pub packed : List ℕ → List ℕ
-packed x = catTo ((length x + 5) / 6) (λ p. (sixBits x p + plus) ∷ [])
+packed x = catTo ((length x + 5) / 6) (λ p. (sixBits x p + offset) ∷ [])
 
 -- the text of a graph on n vertices
 abbrev pub graph6Text : ℕ → Graph → List ℕ
@@ -73,14 +73,14 @@ abbrev pub sizeLength : List ℕ → ℕ
 sizeLength t = cond (isLong t) 4 1
 
 abbrev pub longSize : List ℕ → ℕ
-longSize t = (getD t 1 0 - plus) * 4096 + (getD t 2 0 - plus) * 64 + (getD t 3 0 - plus)
+longSize t = (getD t 1 0 - offset) * 4096 + (getD t 2 0 - offset) * 64 + (getD t 3 0 - offset)
 
 abbrev pub sizeOf : List ℕ → ℕ
-sizeOf t = cond (isLong t) (longSize t) (getD t 0 0 - plus)
+sizeOf t = cond (isLong t) (longSize t) (getD t 0 0 - offset)
 
 -- x is one of 63, .., m
 abbrev pub upTo : ℕ → ℕ → Bool
-upTo m x = leb plus x && leb x m
+upTo m x = leb offset x && leb x m
 
 -- a size above 200 (answer 22), judged on the first two or four bytes: 126 and another 126, or three bytes of 63 to 125, 63 to 126 and 63 to 126
 abbrev pub tooLarge : List ℕ → Bool
@@ -94,7 +94,7 @@ abbrev pub bitsOf : ℕ → List ℕ
 bitsOf x = x / 32 % 2 ∷ x / 16 % 2 ∷ x / 8 % 2 ∷ x / 4 % 2 ∷ x / 2 % 2 ∷ x % 2 ∷ []
 
 abbrev pub unpacked : List ℕ → List ℕ
-unpacked b = catTo (length b) (λ p. bitsOf (getD b p 0 - plus))
+unpacked b = catTo (length b) (λ p. bitsOf (getD b p 0 - offset))
 
 abbrev pub bodyBits : List ℕ → List ℕ
 bodyBits t = unpacked (drop (sizeLength t) t)

@@ -3,11 +3,10 @@
 use mathlib.Core.Bool.{not}
 use mathlib.Core.List.{List}
 use Prim.Native.Nat.{ℕ}
-use lib.Dec.{leb}
 use lib.ListN.{length}
 use lib.Seq.{sets}
-use Rattle.answer.specs.Refusals.{refusal, unless}
-use Rattle.answer.specs.declared.Cause.the-variants.{OutputTooShort, Graph6Text, Graph6Size}
+use Rattle.answer.specs.Refusals.{refuse, unless, unlessTooShort}
+use Rattle.answer.specs.declared.Cause.the-variants.{Graph6Text, Graph6Size}
 use Rattle.answer.specs.declared.ReadAnswer.{ReadAnswer}
 use Rattle.answer.specs.declared.ReadAnswer.the-variants.{Read, Refused}
 use Rattle.edge_lists.specs.EdgeList.{listOf}
@@ -20,13 +19,13 @@ readList t = listOf (sizeOf t) (textGraph t)
 -- of a well-formed text, for an output of n bytes: the check 18
 abbrev pub readFits : List ℕ → ℕ → ReadAnswer
 readFits t n =
-    unless (leb (length (readList t)) n) (Refused (refusal OutputTooShort 0 0)) (Read (length (readList t)) (sizeOf t))
+    unlessTooShort (length (readList t)) n Refused (Read (length (readList t)) (sizeOf t))
 
 -- the checks 22, 21, 18
 abbrev pub readAnswer : List ℕ → ℕ → ReadAnswer
 readAnswer t n =
-    unless (not (tooLarge t)) (Refused (refusal Graph6Size 0 0))
-    (unless (wellFormed t) (Refused (refusal Graph6Text 0 0)) (readFits t n))
+    unless (not (tooLarge t)) (Refused (refuse Graph6Size 0 0))
+    (unless (wellFormed t) (Refused (refuse Graph6Text 0 0)) (readFits t n))
 
 -- the output afterwards: the list, and behind it what was there
 abbrev pub readOutput : ReadAnswer → List ℕ → List ℕ → List ℕ

@@ -3,7 +3,7 @@ ghost use mathlib.Core.Path.{_≡_};
 ghost use Prim.Native.Nat.{_-_, _≤_, _<_};
 ghost use lib.ListN.{length, getD};
 ghost use Rattle.finite.specs.Range.{allTo};
-ghost use Rattle.graph6.specs.Format.{plus, mostByte, isLong, sizeLength, longSize, sizeOf, upTo, tooLarge, framed};
+ghost use Rattle.graph6.specs.Format.{offset, mostByte, isLong, sizeLength, longSize, sizeOf, upTo, tooLarge, framed};
 use graph6::MAX_BYTE;
 use graph6::MAX_SHORT;
 use graph6::PLUS;
@@ -23,7 +23,7 @@ fn byte_at(text: &[u8], i: usize) -> u8
 
 // The six bits of a byte.
 pub fn six_of(x: u8) -> u8
-    ensures { λ r. ⌜ r ≡ x - plus ⌝ }
+    ensures { λ r. ⌜ r ≡ x - offset ⌝ }
 {
     if x < PLUS {
         return 0;

@@ -18,7 +18,7 @@ use Rattle.graph.proofs.Edge.{Place, forth, back, elsewhere, place, atEdge-here
 use Rattle.layout.specs.Layout.{mostVertices}
 use Rattle.edge_lists.specs.EdgeList.{listed, endV, endW, graphOf}
 use Rattle.edge_lists.proofs.List.{Passed, good, list-simple}
-use Rattle.graph6.specs.Format.{plus, triangle, sixBits, packed, columnStart, bodyLength, bodyMost}
+use Rattle.graph6.specs.Format.{offset, triangle, sixBits, packed, columnStart, bodyLength, bodyMost}
 use Rattle.graph6.proofs.Starts.{columnStarts, column-start}
 use Rattle.graph6.proofs.Columns.{columns-most, place-before, place-of, place-same}
 use Rattle.graph6.proofs.Bits.{triangle-length, triangle-at, triangle-past, triangle-binary, packed-length, packed-at}
@@ -142,7 +142,7 @@ module _ (e : List ℕ) (total : ℕ) (passed : Passed e total) where
 
   -- the code's body has a byte for each bit
   pub body-length : (n : ℕ) → length (bodyTo e n) ≡ bodyMost
-  body-length n = foldTo-keeps (λ i b. length b ≡ bodyMost) _ _ n (length-replicate {A = ℕ} bodyMost plus) (λ i b l h. length-set b _ _ ∙ h)
+  body-length n = foldTo-keeps (λ i b. length b ≡ bodyMost) _ _ n (length-replicate {A = ℕ} bodyMost offset) (λ i b l h. length-set b _ _ ∙ h)
 
   place-fits : (j : ℕ) → j < listed e → bitPlace e j / 6 < bodyMost
   place-fits j l =
@@ -151,14 +151,14 @@ module _ (e : List ℕ) (total : ℕ) (passed : Passed e total) where
 
   -- and each byte is 63 and what the edges before n add to it
   body-at : (n p : ℕ) → n ≤ listed e → p < bodyMost
-      → getD (bodyTo e n) p 0 ≡ plus + sumTo n (λ j. δ (bitPlace e j / 6) p * weightOf (bitPlace e j % 6))
+      → getD (bodyTo e n) p 0 ≡ offset + sumTo n (λ j. δ (bitPlace e j / 6) p * weightOf (bitPlace e j % 6))
   unfolding foldTo sumTo
-  body-at zero p h l = all-same plus bodyMost p l
+  body-at zero p h l = all-same offset bodyMost p l
   body-at (suc n) p h l = go (ℕ-discrete (bitPlace e n / 6) p) (body-at n p (omega arith) l)
     where
-      go : Dec (bitPlace e n / 6 ≡ p) → getD (bodyTo e n) p 0 ≡ plus + sumTo n (λ j. δ (bitPlace e j / 6) p * weightOf (bitPlace e j % 6))
+      go : Dec (bitPlace e n / 6 ≡ p) → getD (bodyTo e n) p 0 ≡ offset + sumTo n (λ j. δ (bitPlace e j / 6) p * weightOf (bitPlace e j % 6))
           → getD (addBit (bitPlace e n) (bodyTo e n)) p 0
-          ≡ plus + (sumTo n (λ j. δ (bitPlace e j / 6) p * weightOf (bitPlace e j % 6)) + δ (bitPlace e n / 6) p * weightOf (bitPlace e n % 6))
+          ≡ offset + (sumTo n (λ j. δ (bitPlace e j / 6) p * weightOf (bitPlace e j % 6)) + δ (bitPlace e n / 6) p * weightOf (bitPlace e n % 6))
       go (yes s) before =
           rw (δ-same (bitPlace e n / 6) p s, one-mul, s, getD-set-same (bodyTo e n) p (getD (bodyTo e n) p 0 + weightOf (bitPlace e n % 6)) 0 (rw (body-length n) l))
           (omega arith)

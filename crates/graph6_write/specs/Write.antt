@@ -2,11 +2,9 @@
 -- Assumes nothing.
 use mathlib.Core.List.{List}
 use Prim.Native.Nat.{ℕ}
-use lib.Dec.{leb}
 use lib.ListN.{length}
 use lib.Seq.{sets}
-use Rattle.answer.specs.Refusals.{refusal, unless, unlessStopped}
-use Rattle.answer.specs.declared.Cause.the-variants.{OutputTooShort}
+use Rattle.answer.specs.Refusals.{unlessTooShort, unlessStopped}
 use Rattle.answer.specs.declared.WrittenAnswer.{WrittenAnswer}
 use Rattle.answer.specs.declared.WrittenAnswer.the-variants.{Written, Refused}
 use Rattle.edge_lists.specs.EdgeList.{listVerdict, graphOf}
@@ -19,7 +17,7 @@ writeText e total = graph6Text total (graphOf e)
 -- of a list that passes the checks 19, for an output of n bytes: the check 18
 abbrev pub writeListed : List ℕ → ℕ → ℕ → WrittenAnswer
 writeListed e total n =
-    unless (leb (length (writeText e total)) n) (Refused (refusal OutputTooShort 0 0)) (Written (length (writeText e total)))
+    unlessTooShort (length (writeText e total)) n Refused (Written (length (writeText e total)))
 
 -- the checks 19, as a survey makes them, then 18; degrees over 40 are written
 abbrev pub writeAnswer : List ℕ → ℕ → ℕ → WrittenAnswer

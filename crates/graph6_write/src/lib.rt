@@ -6,7 +6,7 @@ ghost use lib.Seq.{sets};
 ghost use Rattle.answer.specs.declared.Verdict.the-variants.{Go};
 ghost use Rattle.layout.specs.Layout.{mostVertices};
 ghost use Rattle.edge_lists.specs.EdgeList.{listed, listVerdict};
-ghost use Rattle.graph6.specs.Format.{plus, bodyMost, sizeBytes};
+ghost use Rattle.graph6.specs.Format.{offset, bodyMost, sizeBytes};
 ghost use Rattle.graph6_write.specs.Write.{writeListed, writeAnswer, writeOutput};
 ghost use Rattle.graph6_write.specs.Inner.Body.{weightOf, addBit, bodyTo};
 use answer::Cause;
@@ -40,7 +40,7 @@ fn size_length(n: usize) -> usize
 // Six bits as a byte.
 fn printed(x: usize) -> u8
     requires { ⌜ x < 64 ⌝ }
-    ensures { λ r. ⌜ r ≡ x + plus ⌝ }
+    ensures { λ r. ⌜ r ≡ x + offset ⌝ }
 {
     x as u8 + PLUS
 }

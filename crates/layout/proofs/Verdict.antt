@@ -11,7 +11,7 @@ use Rattle.finite.proofs.All.{and-left, and-right, and-both}
 use Rattle.graph.specs.Graph.{DegreeTable}
 use Rattle.graph.specs.Tests.{mostClasses, firstOdd, firstUneven, firstOverfull, firstOverfullIn, passes, vertices}
 use Rattle.answer.specs.Numbers.{numberOf}
-use Rattle.answer.specs.Refusals.{refusal, stop, unless}
+use Rattle.answer.specs.Refusals.{refuse, stopped, unless}
 use Rattle.answer.specs.declared.Cause.the-variants.{OddDiagonal, RowNotDivisible, CellTooLarge, TooManyVertices}
 use Rattle.answer.specs.declared.Refusal.{Refusal}
 use Rattle.answer.specs.declared.Verdict.{Verdict}
@@ -43,7 +43,7 @@ module _ (t : DegreeTable) where
       (and-both _ _ (and-both _ _ (x .0) (y .0)) (z .0), leb-true _ _ (n .0))
 
   -- where T passes, only the number of vertices is left to test
-  layout-passes : passes T ≡ true → layoutVerdict t ≡ unless (leb (vertices t) mostVertices) (stop TooManyVertices) Go
+  layout-passes : passes T ≡ true → layoutVerdict t ≡ unless (leb (vertices t) mostVertices) (stopped TooManyVertices) Go
   layout-passes e =
       let d = and-left (eqb (firstOdd T) mostClasses && eqb (firstUneven T) mostClasses) (eqb (firstOverfull T) mostClasses) e in
       rw (
@@ -55,18 +55,18 @@ module _ (t : DegreeTable) where
   pub go-layout : passes T ≡ true → vertices t ≤ mostVertices → layoutVerdict t ≡ Go
   go-layout e l = layout-passes e ∙ rw (le-leb (vertices t) mostVertices l)
 
-  pub layout-passed : passes T ≡ true → (layoutVerdict t ≡ Go) ⊎ (layoutVerdict t ≡ stop TooManyVertices)
+  pub layout-passed : passes T ≡ true → (layoutVerdict t ≡ Go) ⊎ (layoutVerdict t ≡ stopped TooManyVertices)
   layout-passed e = go (leb (vertices t) mostVertices) (layout-passes e)
     where
-      go : (b : Bool) → layoutVerdict t ≡ unless b (stop TooManyVertices) Go
-          → (layoutVerdict t ≡ Go) ⊎ (layoutVerdict t ≡ stop TooManyVertices)
+      go : (b : Bool) → layoutVerdict t ≡ unless b (stopped TooManyVertices) Go
+          → (layoutVerdict t ≡ Go) ⊎ (layoutVerdict t ≡ stopped TooManyVertices)
       go true h = inl h
       go false h = inr h
 
   pub layout-refused : passes T ≡ false → (r : Refusal) × (layoutVerdict t ≡ Stop r) × IsTest r
   layout-refused e =
       failed (eqb (firstOdd T) mostClasses) (eqb (firstUneven T) mostClasses) (eqb (firstOverfull T) mostClasses)
-      (refusal OddDiagonal (firstOdd T) (firstOdd T)) (refusal RowNotDivisible (firstUneven T) 0)
-      (refusal CellTooLarge (firstOverfull T) (firstOverfullIn T (firstOverfull T)))
-      (unless (leb (vertices t) mostVertices) (stop TooManyVertices) Go)
+      (refuse OddDiagonal (firstOdd T) (firstOdd T)) (refuse RowNotDivisible (firstUneven T) 0)
+      (refuse CellTooLarge (firstOverfull T) (firstOverfullIn T (firstOverfull T)))
+      (unless (leb (vertices t) mostVertices) (stopped TooManyVertices) Go)
       (omega arith) (omega arith) (omega arith) e

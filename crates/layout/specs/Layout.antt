@@ -5,7 +5,7 @@ use lib.Dec.{eqb, leb}
 use Rattle.finite.specs.Range.{sumTo}
 use Rattle.graph.specs.Graph.{DegreeTable}
 use Rattle.graph.specs.Tests.{mostClasses, rowSum, vertices, firstOdd, firstUneven, firstOverfull, firstOverfullIn}
-use Rattle.answer.specs.Refusals.{refusal, stop, unless}
+use Rattle.answer.specs.Refusals.{refuse, stopped, unless}
 use Rattle.answer.specs.declared.Cause.the-variants.{OddDiagonal, RowNotDivisible, CellTooLarge, TooManyVertices}
 use Rattle.answer.specs.declared.Verdict.{Verdict}
 use Rattle.answer.specs.declared.Verdict.the-variants.{Go, Stop}
@@ -22,7 +22,7 @@ wanted T = sumTo mostClasses (rowSum T) / 2
 abbrev pub layoutVerdict : DegreeTable → Verdict
 layoutVerdict t =
     let T = t .cells in
-    unless (eqb (firstOdd T) mostClasses) (Stop (refusal OddDiagonal (firstOdd T) (firstOdd T)))
-    (unless (eqb (firstUneven T) mostClasses) (Stop (refusal RowNotDivisible (firstUneven T) 0))
-    (unless (eqb (firstOverfull T) mostClasses) (Stop (refusal CellTooLarge (firstOverfull T) (firstOverfullIn T (firstOverfull T))))
-    (unless (leb (vertices t) mostVertices) (stop TooManyVertices) Go)))
+    unless (eqb (firstOdd T) mostClasses) (Stop (refuse OddDiagonal (firstOdd T) (firstOdd T)))
+    (unless (eqb (firstUneven T) mostClasses) (Stop (refuse RowNotDivisible (firstUneven T) 0))
+    (unless (eqb (firstOverfull T) mostClasses) (Stop (refuse CellTooLarge (firstOverfull T) (firstOverfullIn T (firstOverfull T))))
+    (unless (leb (vertices t) mostVertices) (stopped TooManyVertices) Go)))

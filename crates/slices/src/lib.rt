@@ -26,7 +26,7 @@ pub fn least(a: usize, b: usize) -> usize
 }
 
 // A byte as a number of 16 bits: sums of these are vector sums of 8 at a time.
-fn wide16(x: u8) -> u16
+fn byte16(x: u8) -> u16
     ensures { λ r. ⌜ (r ≡ x) × (r < 256) ⌝ }
 {
     x as u16
@@ -39,7 +39,7 @@ pub fn byte_sum(s: &[u8]) -> usize
 {
     let mut sum: u16 = 0;
     for i in 0..s.len() {
-        sum += wide16(s[i]);
+        sum += byte16(s[i]);
     }
     sum as usize
 }

@@ -6,7 +6,7 @@ use Prim.Native.Nat.{ℕ, _+_, _*_, _<_}
 use lib.ListN.{getD, replicate}
 use lib.Seq.{sets}
 use Rattle.graph.specs.Graph.{Graph}
-use Rattle.answer.specs.Refusals.{refusal, unless}
+use Rattle.answer.specs.Refusals.{refuse, unless}
 use Rattle.answer.specs.declared.Cause.the-variants.{Graph6Text}
 use Rattle.answer.specs.declared.ReadAnswer.{ReadAnswer}
 use Rattle.answer.specs.declared.ReadAnswer.the-variants.{Refused}
@@ -31,4 +31,4 @@ HasRow bits n v row = (w : ℕ) → v < w → w < n → getD row w 0 ≡ rowsOf 
 
 -- of a text with the right frame, for an output of n bytes: the padding, then the check 18
 abbrev pub readFramed : List ℕ → ℕ → ReadAnswer
-readFramed t n = unless (zeroPadded t) (Refused (refusal Graph6Text 0 0)) (readFits t n)
+readFramed t n = unless (zeroPadded t) (Refused (refuse Graph6Text 0 0)) (readFits t n)

@@ -5,7 +5,7 @@ use Prim.Native.Nat.{ℕ, _+_, _/_, _%_}
 use lib.ListN.{getD, set, replicate}
 use Rattle.finite.specs.Range.{foldTo}
 use Rattle.edge_lists.specs.EdgeList.{endV, endW}
-use Rattle.graph6.specs.Format.{plus, columnStart, bodyMost}
+use Rattle.graph6.specs.Format.{offset, columnStart, bodyMost}
 
 -- what the bit at each of six places is worth in its byte
 abbrev pub weights : List ℕ
@@ -24,4 +24,4 @@ addBit q b = set b (q / 6) (getD b (q / 6) 0 + weightOf (q % 6))
 
 -- the body of the first n edges
 abbrev pub bodyTo : List ℕ → ℕ → List ℕ
-bodyTo e n = foldTo n (λ i. addBit (bitPlace e i)) (replicate bodyMost plus)
+bodyTo e n = foldTo n (λ i. addBit (bitPlace e i)) (replicate bodyMost offset)

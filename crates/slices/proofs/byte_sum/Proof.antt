@@ -19,14 +19,14 @@ pub byte-sum-spec : {M : Type 1} → statement M
 byte-sum-spec =
     tie.close (tie.spec Inv-loop μ-loop
     (λ c. (omega arith, rw sumTo-none))  -- loop-holds
-    (λ c. omega arith)  -- shared-slice-read-wide16
-    (λ c κs. tt)  -- wide16-requires
+    (λ c. omega arith)  -- shared-slice-read-byte16
+    (λ c κs. tt)  -- byte16-requires
     (λ c.
     let t = c .before .before in
     let l = t .before in
     let s = l .before .before in
     let f : ℕ → ℕ = λ i. getD (s .args .s .now) i 0 in
-    omega (arith, l .loop .inv .1, c .wide16 .ensures .0, sumTo-more f (l .loop .i), sumTo-le (l .loop .i + 1) (length (s .args .s .now)) f (omega arith)))  -- add-sum
+    omega (arith, l .loop .inv .1, c .byte16 .ensures .0, sumTo-more f (l .loop .i), sumTo-le (l .loop .i + 1) (length (s .args .s .now)) f (omega arith)))  -- add-sum
     (λ c. omega arith)  -- add-i
     (λ c. omega arith)  -- loop-less
     (λ c. simp sumTo-more (omega arith))  -- loop-again

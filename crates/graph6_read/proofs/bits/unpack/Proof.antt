@@ -9,13 +9,13 @@ use lib.ListN.{length, getD}
 use lib.Seq.{sets}
 use Rattle.finite.specs.Range.{catTo}
 use Rattle.finite.proofs.Fold.{catTo-none, catTo-more, sets-append}
-use Rattle.graph6.specs.Format.{plus, bitsOf}
+use Rattle.graph6.specs.Format.{offset, bitsOf}
 use Rattle.finite.proofs.Blocks.{sixes-length}
 use Rattle.graph6_read.proofs.bits.unpack.Statement.{statement}
 use Rattle.graph6_read.proofs.bits.unpack.Tie as tie
 
 abbrev Inv-loop : tie.InvT-loop
-Inv-loop body bits₀ p₀ p-end bits p = (p ≤ length body) × (bits ≡ sets bits₀ 0 (catTo p (λ i. bitsOf (getD body i 0 - plus))))
+Inv-loop body bits₀ p₀ p-end bits p = (p ≤ length body) × (bits ≡ sets bits₀ 0 (catTo p (λ i. bitsOf (getD body i 0 - offset))))
 
 abbrev μ-loop : tie.MeasureT-loop
 μ-loop body bits₀ p₀ p-end bits p = length body - p
@@ -34,7 +34,7 @@ unpack-spec =
     let x = c .before in
     let l = x .before .before .before .before in
     let s = l .before .before in
-    let F : ℕ → List ℕ = λ i. bitsOf (getD (s .args .body .now) i 0 - plus) in
+    let F : ℕ → List ℕ = λ i. bitsOf (getD (s .args .body .now) i 0 - offset) in
     (omega arith, rw (catTo-more F (l .loop .p), sets-append, zero-add, sixes-length F (λ i. refl) (l .loop .p), ← (l .loop .inv .1)) (rw (x .six-of .ensures) at (c .put-bits .ensures))))  -- loop-again
     (λ c.
     let l = c .before in

@@ -3,7 +3,7 @@
 use mathlib.Core.Path.{sym, ap, _∙_}
 use Prim.Native.Nat.{ℕ, _-_}
 use native.Mathlib.Omega.{arith}
-use Rattle.graph6.specs.Format.{plus}
+use Rattle.graph6.specs.Format.{offset}
 use Rattle.graph6_read.proofs.frame.size_of.Statement.{statement}
 use Rattle.graph6_read.proofs.frame.size_of.Tie as tie
 
@@ -23,4 +23,4 @@ size-of-spec =
     let b = x .before in
     let i = b .before in
     rw (sym (i .before .is-long .ensures) ∙ i .if1 .left)
-    (c .wide .ensures .0 ∙ x .six-of .ensures ∙ ap (λ (y : ℕ). y - plus) (b .byte-at .ensures), omega arith)))  -- returns-2
+    (c .wide .ensures .0 ∙ x .six-of .ensures ∙ ap (λ (y : ℕ). y - offset) (b .byte-at .ensures), omega arith)))  -- returns-2
