@@ -18,25 +18,25 @@ use Rattle.adjacency.specs.Adjacency.{edge, degreesWithin}
 use Rattle.adjacency.specs.Inner.Degrees.{degreesOf}
 
 module _ (n : ℕ) (few : n ≤ mostVertices) where
-  pub held-length : (g : List ℕ) → length (degreesOf n g) ≡ mostVertices
-  held-length g = fillTo-length (degree n (edge g)) (replicate mostVertices 0) n ∙ length-replicate {A = ℕ} mostVertices 0
+  pub degrees-length : (g : List ℕ) → length (degreesOf n g) ≡ mostVertices
+  degrees-length g = fillTo-length (degree n (edge g)) (replicate mostVertices 0) n ∙ length-replicate {A = ℕ} mostVertices 0
 
-  pub held-at : (g : List ℕ) (v : ℕ) → v < n → getD (degreesOf n g) v 0 ≡ degree n (edge g) v
-  held-at g v = fillTo-at (degree n (edge g)) (replicate mostVertices 0) n v (rw length-replicate few)
+  pub degrees-at : (g : List ℕ) (v : ℕ) → v < n → getD (degreesOf n g) v 0 ≡ degree n (edge g) v
+  degrees-at g v = fillTo-at (degree n (edge g)) (replicate mostVertices 0) n v (rw length-replicate few)
 
   -- an array that holds the degrees
-  pub held-is : (g : List ℕ) {held : List ℕ} → held ≡ degreesOf n g → (v : ℕ) → v < n → getD held v 0 ≡ degree n (edge g) v
-  held-is g is v l = rw is (held-at g v l)
+  pub degrees-are : (g : List ℕ) {degrees : List ℕ} → degrees ≡ degreesOf n g → (v : ℕ) → v < n → getD degrees v 0 ≡ degree n (edge g) v
+  degrees-are g is v l = rw is (degrees-at g v l)
 
   -- half their sum is the number of edges
-  pub held-edges : (g : List ℕ) {held : List ℕ} → held ≡ degreesOf n g → Simple n (edge g)
-      → sumTo n (λ v. getD held v 0) / 2 ≡ edges n (edge g)
-  held-edges g {held} is simple =
-      omega (arith, sumTo-cong n (λ v. getD held v 0) (degree n (edge g)) (λ v l. held-is g is v l), handshake n (edge g) simple)
+  pub degrees-edges : (g : List ℕ) {degrees : List ℕ} → degrees ≡ degreesOf n g → Simple n (edge g)
+      → sumTo n (λ v. getD degrees v 0) / 2 ≡ edges n (edge g)
+  degrees-edges g {degrees} is simple =
+      omega (arith, sumTo-cong n (λ v. getD degrees v 0) (degree n (edge g)) (λ v l. degrees-are g is v l), handshake n (edge g) simple)
 
   -- whether no vertex is above its degree, as the array tells
-  pub held-within : (g : List ℕ) {held : List ℕ} → held ≡ degreesOf n g → (cls : ℕ → ℕ)
-      → allTo n (λ v. leb (getD held v 0) (classDegree (cls v))) ≡ degreesWithin n cls g
-  held-within g {held} is cls =
-      allTo-cong (λ v. leb (getD held v 0) (classDegree (cls v))) (λ v. leb (degree n (edge g) v) (classDegree (cls v))) n
-      (λ v l. rw (held-is g is v l))
+  pub degrees-bound : (g : List ℕ) {degrees : List ℕ} → degrees ≡ degreesOf n g → (cls : ℕ → ℕ)
+      → allTo n (λ v. leb (getD degrees v 0) (classDegree (cls v))) ≡ degreesWithin n cls g
+  degrees-bound g {degrees} is cls =
+      allTo-cong (λ v. leb (getD degrees v 0) (classDegree (cls v))) (λ v. leb (degree n (edge g) v) (classDegree (cls v))) n
+      (λ v l. rw (degrees-are g is v l))

@@ -105,34 +105,34 @@ fn degree_of(adjacency: &[u8], n: usize, v: usize) -> usize
 }
 
 // The degrees of the n vertices, in an array of zeros.
-fn hold_degrees(adjacency: &[u8], n: usize, held: &mut [usize; MAX_VERTICES])
-    requires { ⌜ (length (now adjacency) ≡ adjacencySize) × (n ≤ side) × Simple n (edge (now adjacency)) × (now held ≡ replicate mostVertices 0) ⌝ }
-    ensures { λ _. ⌜ now (held .exit) ≡ degreesOf n (now (adjacency .entry)) ⌝ }
+fn count_degrees(adjacency: &[u8], n: usize, degrees: &mut [usize; MAX_VERTICES])
+    requires { ⌜ (length (now adjacency) ≡ adjacencySize) × (n ≤ side) × Simple n (edge (now adjacency)) × (now degrees ≡ replicate mostVertices 0) ⌝ }
+    ensures { λ _. ⌜ now (degrees .exit) ≡ degreesOf n (now (adjacency .entry)) ⌝ }
 {
     for v in 0..n {
-        held[v] = degree_of(adjacency, n, v);
+        degrees[v] = degree_of(adjacency, n, v);
     }
 }
 
 // How many edges there are, by the degrees of the n vertices: each edge stands at both its ends.
-pub fn edges_held(held: &[usize; MAX_VERTICES], n: usize) -> usize
-    requires { ⌜ (n ≤ side) × ((v : ℕ) → v < n → getD (now held) v 0 ≤ mostDegree) ⌝ }
-    ensures { λ r. ⌜ r ≡ sumTo n (λ v. getD (now (held .entry)) v 0) / 2 ⌝ }
+pub fn edge_total(degrees: &[usize; MAX_VERTICES], n: usize) -> usize
+    requires { ⌜ (n ≤ side) × ((v : ℕ) → v < n → getD (now degrees) v 0 ≤ mostDegree) ⌝ }
+    ensures { λ r. ⌜ r ≡ sumTo n (λ v. getD (now (degrees .entry)) v 0) / 2 ⌝ }
 {
     let mut sum = 0;
     for v in 0..n {
-        sum += held[v];
+        sum += degrees[v];
     }
     sum / 2
 }
 
-fn degrees_within(held: &[usize; MAX_VERTICES], n: usize, classes: &[u8; MAX_VERTICES]) -> bool
+fn degrees_within(degrees: &[usize; MAX_VERTICES], n: usize, classes: &[u8; MAX_VERTICES]) -> bool
     requires { ⌜ n ≤ side ⌝ }
-    ensures { λ r. ⌜ r ≡ allTo n (λ v. leb (getD (now (held .entry)) v 0) (classDegree (classIn (now (classes .entry)) v))) ⌝ }
+    ensures { λ r. ⌜ r ≡ allTo n (λ v. leb (getD (now (degrees .entry)) v 0) (classDegree (classIn (now (classes .entry)) v))) ⌝ }
 {
     let mut ok = true;
     for v in 0..n {
-        ok = ok & (held[v] <= class_degree(wide(classes[v])));
+        ok = ok & (degrees[v] <= class_degree(wide(classes[v])));
     }
     ok
 }
@@ -188,15 +188,15 @@ fn count_class(
     classes: &[u8; MAX_VERTICES],
     k: usize,
     start: usize,
-    counts: &mut [u32; MAX_CLASSES],
+    have: &mut [u32; MAX_CLASSES],
 )
-    requires { ⌜ (n ≤ side) × (k < mostClasses) × ((v : ℕ) → v < n → classIn (now classes) v < mostClasses) × (start ≤ n) × ((w : ℕ) → w < start → classIn (now classes) w < k) × (length (now counts) ≡ mostClasses) × ((p : ℕ) → getD (now counts) p 0 ≡ 0) ⌝ }
-    ensures { λ _. ⌜ ((l : ℕ) → k ≤ l → getD (now (counts .exit)) l 0 ≡ sumTo n (λ w. δ (classIn (now (classes .entry)) w) l * getD (now (sums .entry)) (k * side + w) 0)) ⌝ }
+    requires { ⌜ (n ≤ side) × (k < mostClasses) × ((v : ℕ) → v < n → classIn (now classes) v < mostClasses) × (start ≤ n) × ((w : ℕ) → w < start → classIn (now classes) w < k) × (length (now have) ≡ mostClasses) × ((p : ℕ) → getD (now have) p 0 ≡ 0) ⌝ }
+    ensures { λ _. ⌜ ((l : ℕ) → k ≤ l → getD (now (have .exit)) l 0 ≡ sumTo n (λ w. δ (classIn (now (classes .entry)) w) l * getD (now (sums .entry)) (k * side + w) 0)) ⌝ }
 {
     for w in start..n {
         let l = wide(classes[w]);
-        let sum = wide32(counts[l]) + wide(sums[k * SIDE + w]);
-        counts[l] = sum as u32;
+        let sum = wide32(have[l]) + wide(sums[k * SIDE + w]);
+        have[l] = sum as u32;
     }
 }
 
@@ -212,11 +212,11 @@ fn class_within(
     requires { ⌜ (n ≤ side) × (k < mostClasses) × ((v : ℕ) → v < n → classIn (now classes) v < mostClasses) × (start ≤ n) × ((w : ℕ) → w < start → classIn (now classes) w < k) ⌝ }
     ensures { λ r. ⌜ r ≡ allTo mostClasses (λ l. ltb l k || leb (sumTo n (λ w. δ (classIn (now (classes .entry)) w) l * getD (now (sums .entry)) (k * side + w) 0)) (matrixOf (now (cells .entry)) k l)) ⌝ }
 {
-    let mut counts = [0u32; MAX_CLASSES];
-    count_class(sums, n, classes, k, start, &mut counts);
+    let mut have = [0u32; MAX_CLASSES];
+    count_class(sums, n, classes, k, start, &mut have);
     let mut ok = true;
     for l in k..MAX_CLASSES {
-        ok = ok & (wide32(counts[l]) <= upper_cell(cells, k, l));
+        ok = ok & (wide32(have[l]) <= upper_cell(cells, k, l));
     }
     ok
 }
@@ -260,17 +260,17 @@ pub fn adjacency_ok(
     n: usize,
     classes: &[u8; MAX_VERTICES],
     cells: &[u32; CELLS],
-    held: &mut [usize; MAX_VERTICES],
+    degrees: &mut [usize; MAX_VERTICES],
 ) -> bool
-    requires { ⌜ (length (now adjacency) ≡ adjacencySize) × (n ≤ mostVertices) × ((v : ℕ) → v < n → classIn (now classes) v < mostClasses) × ((v w : ℕ) → v ≤ w → w < n → classIn (now classes) v ≤ classIn (now classes) w) × (now held ≡ replicate mostVertices 0) ⌝ }
+    requires { ⌜ (length (now adjacency) ≡ adjacencySize) × (n ≤ mostVertices) × ((v : ℕ) → v < n → classIn (now classes) v < mostClasses) × ((v w : ℕ) → v ≤ w → w < n → classIn (now classes) v ≤ classIn (now classes) w) × (now degrees ≡ replicate mostVertices 0) ⌝ }
     ensures { λ r. ⌜ r ≡ adjacencyOk n (classIn (now (classes .entry))) (matrixOf (now (cells .entry))) (now (adjacency .entry)) ⌝ }
-    ensures { λ r. ⌜ (r ≡ true → now (held .exit) ≡ degreesOf n (now (adjacency .entry))) ⌝ }
+    ensures { λ r. ⌜ (r ≡ true → now (degrees .exit) ≡ degreesOf n (now (adjacency .entry))) ⌝ }
 {
     if !is_mirrored(adjacency, n) {
         return false;
     }
-    hold_degrees(adjacency, n, held);
+    count_degrees(adjacency, n, degrees);
     is_zero_outside(adjacency, n)
-        & degrees_within(held, n, classes)
+        & degrees_within(degrees, n, classes)
         & cells_within(adjacency, n, classes, cells)
 }

@@ -11,6 +11,7 @@ use Rattle.graph.specs.Graph.{edges}
 use Rattle.graph.specs.Tests.{mostDegree, vertices}
 use Rattle.slices.proofs.Part.{length-part, getD-part}
 use Rattle.layout.specs.Inner.Arrays.{countIn, tableIn}
+use Rattle.journal.specs.Journal.{phaseLaid}
 use Rattle.adjacency.specs.Adjacency.{adjacencySize, side, edge}
 use Rattle.adjacency.proofs.Empty.{no-edge}
 use Rattle.state.specs.State.{State}
@@ -39,10 +40,10 @@ module _ (g : List ℕ) (n v : ℕ) (whole : length g ≡ adjacencySize) (few : 
       ∙ row-cong n v (λ w. getD row w 0) (edge g v) (λ w p q. getD-part n (v * side) g w q)
 
 -- a laid state, opened: n is N, and the edges counted by the degrees tell how many bytes the list has
-module _ (s : State) (passed : phaseVerdict 1 s ≡ Go) {cells counts held : List ℕ} (o : Opened s cells counts held) {n : ℕ}
+module _ (s : State) (passed : phaseVerdict phaseLaid s ≡ Go) {cells counts degrees : List ℕ} (o : Opened s cells counts degrees) {n : ℕ}
     (en : n ≡ vertices (tableIn cells (countIn counts 0))) where
   laid : Laid s
-  laid = let f = phase-facts 1 s passed in f .0 .laid (f .1)
+  laid = let f = phase-facts phaseLaid s passed in f .0 .laid (f .1)
 
   pub laid-vertices : n ≡ vertexCount s
   laid-vertices = opened-vertices s o laid en
@@ -50,10 +51,10 @@ module _ (s : State) (passed : phaseVerdict 1 s ≡ Go) {cells counts held : Lis
   pub laid-few : n ≤ side
   laid-few = rw laid-vertices (laid .vertices-le)
 
-  pub held-few : (v : ℕ) → v < n → getD held v 0 ≤ mostDegree
-  held-few = opened-few s o laid en
+  pub degrees-few : (v : ℕ) → v < n → getD degrees v 0 ≤ mostDegree
+  degrees-few = opened-few s o laid en
 
-  module _ {e : ℕ} (ee : e ≡ sumTo n (λ v. getD held v 0) / 2) where
+  module _ {e : ℕ} (ee : e ≡ sumTo n (λ v. getD degrees v 0) / 2) where
     counted : e ≡ edges (vertexCount s) (edge (s .adjacency))
     counted = opened-edges s o laid en ee ∙ ap (λ (m : ℕ). edges m (edge (s .adjacency))) laid-vertices
 

@@ -2,13 +2,12 @@
 -- Assumes nothing.
 use mathlib.Core.List.{List}
 use Prim.Native.Nat.{ℕ}
-use lib.Dec.{leb}
 use lib.ListN.{length}
 use lib.Seq.{sets}
-use Rattle.answer.specs.Refusals.{refusal, unless, unlessStopped}
-use Rattle.answer.specs.declared.Cause.the-variants.{OutputTooShort}
+use Rattle.answer.specs.Refusals.{unlessTooShort, unlessStopped}
 use Rattle.answer.specs.declared.WrittenAnswer.{WrittenAnswer}
 use Rattle.answer.specs.declared.WrittenAnswer.the-variants.{Written, Refused}
+use Rattle.journal.specs.Journal.{phaseLaid}
 use Rattle.adjacency.specs.Adjacency.{edge}
 use Rattle.state.specs.State.{State}
 use Rattle.state.specs.Checks.{phaseVerdict}
@@ -22,12 +21,12 @@ listBytes n g = listOf n (edge g)
 -- on a valid laid state, for an output of m bytes: the check 18
 abbrev pub listLaid : State → ℕ → WrittenAnswer
 listLaid s m =
-    unless (leb (length (listBytes (vertexCount s) (s .adjacency))) m) (Refused (refusal OutputTooShort 0 0))
+    unlessTooShort (length (listBytes (vertexCount s) (s .adjacency))) m Refused
     (Written (length (listBytes (vertexCount s) (s .adjacency))))
 
 -- the checks 1, 2, 3, then 18
 abbrev pub listAnswer : State → ℕ → WrittenAnswer
-listAnswer s m = unlessStopped (phaseVerdict 1 s) Refused (listLaid s m)
+listAnswer s m = unlessStopped (phaseVerdict phaseLaid s) Refused (listLaid s m)
 
 -- the output afterwards: the list, and behind it what was there
 abbrev pub outputListed : WrittenAnswer → State → List ℕ → List ℕ

@@ -4,13 +4,14 @@ ghost use Prim.Native.Nat.{_≤_};
 ghost use lib.ListN.{length};
 ghost use lib.Seq.{sets};
 ghost use Rattle.answer.specs.declared.Verdict.the-variants.{Go};
+ghost use Rattle.journal.specs.Journal.{phaseLaid};
 ghost use Rattle.adjacency.specs.Adjacency.{adjacencySize, side};
 ghost use Rattle.state.specs.State.{stateOf};
 ghost use Rattle.state.specs.Checks.{phaseVerdict};
 ghost use Rattle.state.specs.Inner.Opened.{laidFront, Opened};
 ghost use Rattle.edge_list.specs.List.{listBytes, listAnswer, listOutput};
 use adjacency::SIDE;
-use adjacency::edges_held;
+use adjacency::edge_total;
 use answer::Cause;
 use answer::Verdict;
 use answer::WrittenAnswer;
@@ -42,15 +43,15 @@ fn list_laid(
     adjacency: &[u8],
     cells: &[u32; CELLS],
     counts: &[usize; MAX_CLASSES],
-    held: &[usize; MAX_VERTICES],
+    degrees: &[usize; MAX_VERTICES],
     output: &mut [u8],
 ) -> WrittenAnswer
-    requires { ⌜ (phaseVerdict 1 (stateOf (now journal) (now adjacency)) ≡ Go) × Opened (stateOf (now journal) (now adjacency)) (now cells) (now counts) (now held) ⌝ }
+    requires { ⌜ (phaseVerdict phaseLaid (stateOf (now journal) (now adjacency)) ≡ Go) × Opened (stateOf (now journal) (now adjacency)) (now cells) (now counts) (now degrees) ⌝ }
     ensures { λ r. ⌜ r ≡ listAnswer (stateOf (now (journal .entry)) (now (adjacency .entry))) (length (now (output .entry))) ⌝ }
     ensures { λ _. ⌜ now (output .exit) ≡ listOutput (stateOf (now (journal .entry)) (now (adjacency .entry))) (now (output .entry)) ⌝ }
 {
     let n = vertex_count(cells, counts);
-    let bytes = 2 * edges_held(held, n);
+    let bytes = 2 * edge_total(degrees, n);
     if output.len() < bytes {
         return WrittenAnswer::Refused(refuse(Cause::OutputTooShort, 0, 0));
     }
@@ -65,11 +66,11 @@ fn list_checked(journal: &[u8], adjacency: &[u8], output: &mut [u8]) -> WrittenA
 {
     let mut cells = [0u32; CELLS];
     let mut counts = [0usize; MAX_CLASSES];
-    let mut held = [0usize; MAX_VERTICES];
-    if !open(journal, adjacency, &mut cells, &mut counts, &mut held) {
+    let mut degrees = [0usize; MAX_VERTICES];
+    if !open(journal, adjacency, &mut cells, &mut counts, &mut degrees) {
         return WrittenAnswer::Refused(refuse(Cause::InvalidState, 0, 0));
     }
-    list_laid(journal, adjacency, &cells, &counts, &held, output)
+    list_laid(journal, adjacency, &cells, &counts, &degrees, output)
 }
 
 pub fn edge_list(journal: &[u8], adjacency: &[u8], output: &mut [u8]) -> WrittenAnswer

@@ -10,7 +10,7 @@ use Rattle.answer.specs.declared.FiguresAnswer.{FiguresAnswer}
 use Rattle.answer.specs.declared.FiguresAnswer.the-variants.{Reported, Refused}
 use Rattle.graph.specs.Graph.{edges}
 use Rattle.layout.specs.Layout.{wanted}
-use Rattle.journal.specs.Journal.{phase, blocks, jdmOf}
+use Rattle.journal.specs.Journal.{phaseTaking, phaseLaid, phase, blocks, jdmOf}
 use Rattle.adjacency.specs.Adjacency.{edge}
 use Rattle.state.specs.State.{State}
 use Rattle.state.specs.Checks.{stateVerdict}
@@ -18,10 +18,10 @@ use Rattle.state.specs.Laid.{vertexCount}
 
 -- the figures of a state: the Bool tells whether its phase is 0
 abbrev pub figuresOf : Bool → State → Figures
-figuresOf true s = record { phase = 0; blocks = blocks (s .journal); vertices = 0; wanted = 0; laid = 0 }
+figuresOf true s = record { phase = phaseTaking; blocks = blocks (s .journal); vertices = 0; wanted = 0; laid = 0 }
 figuresOf false s =
     record {
-      phase = 1;
+      phase = phaseLaid;
       blocks = blocks (s .journal);
       vertices = vertexCount s;
       wanted = wanted (jdmOf (s .journal));
@@ -30,4 +30,4 @@ figuresOf false s =
 
 -- the checks 1, 2
 abbrev pub figuresAnswer : State → FiguresAnswer
-figuresAnswer s = unlessStopped (stateVerdict s) Refused (Reported (figuresOf (eqb (phase (s .journal)) 0) s))
+figuresAnswer s = unlessStopped (stateVerdict s) Refused (Reported (figuresOf (eqb (phase (s .journal)) phaseTaking) s))

@@ -30,7 +30,7 @@ use Rattle.joining.specs.declared.Relief.{Relief}
 use Rattle.joining.specs.declared.Relief.the-variants.{Room, Switched}
 use Rattle.joining.proofs.Bytes.{switch-removes, switch-adds, relieve-bytes, ready-v, pair-w, sized-once}
 use Rattle.classes.proofs.Blocks.{start-most}
-use Rattle.joining.proofs.Held.{few-edges, with-edge, some-edge, without-edge}
+use Rattle.joining.proofs.Degrees.{few-edges, with-edge, some-edge, without-edge}
 
 -- x and y: what the reliefs of v and w took. Together they are the join's switches, and x tells what was cut off from v.
 module _ {n : ℕ} {cls : ℕ → ℕ} {g : List ℕ} {v w : ℕ} (j : Joinable n cls g v w) {x : Relief} (ex : x ≡ reliefOf n cls g v w) where
@@ -87,13 +87,13 @@ module _ {n : ℕ} {cls : ℕ → ℕ} {g : List ℕ} {a o : ℕ} (j : Joinable 
       (j .pair .unlinked)
       (j .partial .simple .symmetric o a (j .pair .second) (j .pair .first) ∙ j .pair .unlinked)
 
--- Switching a, step by step, with `held` beside the matrix: what each step asks for, and what it leaves.
+-- Switching a, step by step, with `degrees` beside the matrix: what each step asks for, and what it leaves.
 module _ {n : ℕ} {cls : ℕ → ℕ} {g : List ℕ} {a o : ℕ} (j : Joinable n cls g a o) (full : unsaturated n cls classDegree (edge g) a ≡ false)
-    {held : List ℕ} (is : held ≡ degreesOf n g) where
+    {degrees : List ℕ} (is : degrees ≡ degreesOf n g) where
   removes : AddsEdge n (edge (setEdge g a (t j) 0)) a (t j) (edge g)
   removes = switch-removes n cls (j .table) g a o (j .sized) (j .few) (j .target) (j .partial) (j .pair) full
 
-  pub unlinkable : Unlinkable g held a (transferAt n cls g a o)
+  pub unlinkable : Unlinkable g degrees a (transferAt n cls g a o)
   unlinkable = (
     j .sized,
     omega (arith, j .few, j .pair .first),
@@ -102,7 +102,7 @@ module _ {n : ℕ} {cls : ℕ → ℕ} {g : List ℕ} {a o : ℕ} (j : Joinable 
     some-edge (j .few) g is (j .pair .first) (chosen j full .t-vertex) (setEdge g a (t j) 0) (λ e. chosen j full .t-not-a (sym e)) removes,
   )
 
-  unlinked : withoutEdge held a (t j) ≡ degreesOf n (setEdge g a (t j) 0)
+  unlinked : withoutEdge degrees a (t j) ≡ degreesOf n (setEdge g a (t j) 0)
   unlinked = without-edge (j .few) g is (j .pair .first) (chosen j full .t-vertex) (setEdge g a (t j) 0) (λ e. chosen j full .t-not-a (sym e)) removes
 
   -- without a – t every vertex has as many edges as before at most
@@ -115,7 +115,7 @@ module _ {n : ℕ} {cls : ℕ → ℕ} {g : List ℕ} {a o : ℕ} (j : Joinable 
         j .target .classed v l,
       )
 
-  pub linkable-b : Linkable (setEdge g a (transferAt n cls g a o) 0) (withoutEdge held a (transferAt n cls g a o)) (substituteAt n cls g a o) (transferAt n cls g a o)
+  pub linkable-b : Linkable (setEdge g a (transferAt n cls g a o) 0) (withoutEdge degrees a (transferAt n cls g a o)) (substituteAt n cls g a o) (transferAt n cls g a o)
   linkable-b = (
     set-length g a (t j) 0 ∙ j .sized,
     omega (arith, j .few, chosen j full .b-vertex),
@@ -125,15 +125,15 @@ module _ {n : ℕ} {cls : ℕ → ℕ} {g : List ℕ} {a o : ℕ} (j : Joinable 
         (fewer (t j) (chosen j full .t-vertex)),
   )
 
-  pub switch-kept : withEdge (withoutEdge held a (transferAt n cls g a o)) (substituteAt n cls g a o) (transferAt n cls g a o)
+  pub switch-kept : withEdge (withoutEdge degrees a (transferAt n cls g a o)) (substituteAt n cls g a o) (transferAt n cls g a o)
       ≡ degreesOf n (neighborSwitch n cls g a o)
   switch-kept =
       with-edge (j .few) (setEdge g a (t j) 0) unlinked (chosen j full .b-vertex) (chosen j full .t-vertex) (neighborSwitch n cls g a o)
       (λ e. chosen j full .t-not-b (sym e)) (switch-adds n cls (j .table) g a o (j .sized) (j .few) (j .target) (j .partial) (j .pair) full)
 
 -- what adding the edge a – o asks for, and what it leaves
-module _ {n : ℕ} {cls : ℕ → ℕ} {g held : List ℕ} {a o : ℕ} (j : Joinable n cls g a o) (is : held ≡ degreesOf n g) where
-  pub linkable : degree n (edge g) a < classDegree (cls a) → degree n (edge g) o < classDegree (cls o) → Linkable g held a o
+module _ {n : ℕ} {cls : ℕ → ℕ} {g degrees : List ℕ} {a o : ℕ} (j : Joinable n cls g a o) (is : degrees ≡ degreesOf n g) where
+  pub linkable : degree n (edge g) a < classDegree (cls a) → degree n (edge g) o < classDegree (cls o) → Linkable g degrees a o
   linkable room-a room-o = (
     j .sized,
     omega (arith, j .few, j .pair .first),
@@ -143,7 +143,7 @@ module _ {n : ℕ} {cls : ℕ → ℕ} {g held : List ℕ} {a o : ℕ} (j : Join
         (omega (arith, j .target .classed o (j .pair .second))),
   )
 
-  pub link-kept : withEdge held a o ≡ degreesOf n (setEdge g a o 1)
+  pub link-kept : withEdge degrees a o ≡ degreesOf n (setEdge g a o 1)
   link-kept = with-edge (j .few) g is (j .pair .first) (j .pair .second) (setEdge g a o 1) (j .pair .distinct) (adds j)
 
 -- the vertices of a join's switches are bytes, as what stands for one that was not needed

@@ -16,7 +16,7 @@ use Rattle.graph.specs.Switch.{unsaturated, canSubstitute, orElse}
 use Rattle.graph.specs.Tests.{mostClasses, classDegree}
 use Rattle.adjacency.specs.Adjacency.{edge}
 use Rattle.adjacency.specs.Inner.Degrees.{degreesOf}
-use Rattle.adjacency.proofs.Degrees.{held-is}
+use Rattle.adjacency.proofs.Degrees.{degrees-are}
 use Rattle.joining.specs.Join.{substituteAt}
 use Rattle.classes.specs.Inner.Block.{classFrom}
 use Rattle.joining.specs.Inner.Work.{Joinable, Placed, canStandIn, substituteIn}
@@ -83,27 +83,27 @@ module _ {n : ℕ} {starts g : List ℕ} {a : End} {o : ℕ} (j : Joinable n (cl
   behind : (i : ℕ) → to ≤ i → i < n → canSubstitute n cls classDegree (edge g) (a .at) o i ≡ false
   behind i l m = other-class i (λ e. omega (arith, class-only (p .numbered) (a .class) i class-below m e))
 
-  -- `held`: the edges of each vertex, as the code has them
-  module _ {held : List ℕ} (is : held ≡ degreesOf n g) where
-    inside : (i : ℕ) → a .low ≤ i → i < to → canStandIn held (classDegree (a .class)) o i ≡ canSubstitute n cls classDegree (edge g) (a .at) o i
+  -- `degrees`: the edges of each vertex, as the code has them
+  module _ {degrees : List ℕ} (is : degrees ≡ degreesOf n g) where
+    inside : (i : ℕ) → a .low ≤ i → i < to → canStandIn degrees (classDegree (a .class)) o i ≡ canSubstitute n cls classDegree (edge g) (a .at) o i
     inside i f t =
         let e = class-inside (p .numbered) (a .class) i class-below (omega (arith, p .after)) t in
-        rw (eq-eqb (cls i) (cls (a .at)) (e ∙ p .class), e, held-is n (j .few) g is i (omega (arith, end-within)))
+        rw (eq-eqb (cls i) (cls (a .at)) (e ∙ p .class), e, degrees-are n (j .few) g is i (omega (arith, end-within)))
 
-    pub substitute-in : substituteIn held starts a o ≡ substituteAt n cls g (a .at) o
+    pub substitute-in : substituteIn degrees starts a o ≡ substituteAt n cls g (a .at) o
     substitute-in =
-        ap (orElse to o) (lowest-cong (a .low) to (canStandIn held (classDegree (a .class)) o) (canSubstitute n cls classDegree (edge g) (a .at) o) inside)
+        ap (orElse to o) (lowest-cong (a .low) to (canStandIn degrees (classDegree (a .class)) o) (canSubstitute n cls classDegree (edge g) (a .at) o) inside)
         ∙ else-cut (a .low) to n o (canSubstitute n cls classDegree (edge g) (a .at) o) (p .before) end-within behind
         ∙ ap (orElse n o)
         (sym (lowest-skip 0 (a .low) n (canSubstitute n cls classDegree (edge g) (a .at) o) zero-le (omega (arith, p .before, end-within))
         (λ i z l. before i l)))
 
     -- whether a is saturated
-    saturated-in : ltb (getD held (a .at) 0) (classDegree (a .class)) ≡ unsaturated n cls classDegree (edge g) (a .at)
-    saturated-in = rw (held-is n (j .few) g is (a .at) (j .pair .first), p .class)
+    saturated-in : ltb (getD degrees (a .at) 0) (classDegree (a .class)) ≡ unsaturated n cls classDegree (edge g) (a .at)
+    saturated-in = rw (degrees-are n (j .few) g is (a .at) (j .pair .first), p .class)
 
-    pub room-in : getD held (a .at) 0 < classDegree (a .class) → unsaturated n cls classDegree (edge g) (a .at) ≡ true
-    room-in l = sym saturated-in ∙ lt-ltb (getD held (a .at) 0) (classDegree (a .class)) l
+    pub room-in : getD degrees (a .at) 0 < classDegree (a .class) → unsaturated n cls classDegree (edge g) (a .at) ≡ true
+    room-in l = sym saturated-in ∙ lt-ltb (getD degrees (a .at) 0) (classDegree (a .class)) l
 
-    pub full-in : classDegree (a .class) ≤ getD held (a .at) 0 → unsaturated n cls classDegree (edge g) (a .at) ≡ false
-    full-in l = sym saturated-in ∙ le-ltb (getD held (a .at) 0) (classDegree (a .class)) l
+    pub full-in : classDegree (a .class) ≤ getD degrees (a .at) 0 → unsaturated n cls classDegree (edge g) (a .at) ≡ false
+    full-in l = sym saturated-in ∙ le-ltb (getD degrees (a .at) 0) (classDegree (a .class)) l

@@ -38,22 +38,22 @@ pub struct JoinDone {
 // Makes room at a: a neighbour switch if it is saturated.
 fn relieve(
     adjacency: &mut [u8],
-    held: &mut [usize; MAX_VERTICES],
+    degrees: &mut [usize; MAX_VERTICES],
     starts: &[usize; STARTS],
     n: usize,
     a: End,
     other: usize,
 ) -> Relief
-    requires { ⌜ Joinable n (classFrom (now starts)) (now adjacency) (a .at) other × Placed n (now starts) (now adjacency) a other × (now held ≡ degreesOf n (now adjacency)) ⌝ }
+    requires { ⌜ Joinable n (classFrom (now starts)) (now adjacency) (a .at) other × Placed n (now starts) (now adjacency) a other × (now degrees ≡ degreesOf n (now adjacency)) ⌝ }
     ensures { λ r. ⌜ r ≡ reliefOf n (classFrom (now (starts .entry))) (now (adjacency .entry)) (a .at) other ⌝ }
     ensures { λ _. ⌜ now (adjacency .exit) ≡ relieveBytes n (classFrom (now (starts .entry))) (now (adjacency .entry)) (a .at) other ⌝ }
-    ensures { λ _. ⌜ now (held .exit) ≡ degreesOf n (relieveBytes n (classFrom (now (starts .entry))) (now (adjacency .entry)) (a .at) other) ⌝ }
+    ensures { λ _. ⌜ now (degrees .exit) ≡ degreesOf n (relieveBytes n (classFrom (now (starts .entry))) (now (adjacency .entry)) (a .at) other) ⌝ }
 {
     let v = a.at;
-    if held[v] < class_degree(a.class) {
+    if degrees[v] < class_degree(a.class) {
         return Relief::Room;
     }
-    Relief::Switched(neighbor_switch(adjacency, held, starts, n, a, other))
+    Relief::Switched(neighbor_switch(adjacency, degrees, starts, n, a, other))
 }
 
 // The switches of both ends, in the order made.
@@ -85,20 +85,20 @@ fn cut_off(n: usize, x: Relief) -> usize
 // Joins v and w: room at v, then at w, then the edge.
 pub fn join(
     adjacency: &mut [u8],
-    held: &mut [usize; MAX_VERTICES],
+    degrees: &mut [usize; MAX_VERTICES],
     starts: &[usize; STARTS],
     n: usize,
     v: End,
     w: End,
 ) -> JoinDone
-    requires { ⌜ Joinable n (classFrom (now starts)) (now adjacency) (v .at) (w .at) × (now held ≡ degreesOf n (now adjacency)) × Placed n (now starts) (now adjacency) v (w .at) × Placed n (now starts) (now adjacency) w (v .at) ⌝ }
+    requires { ⌜ Joinable n (classFrom (now starts)) (now adjacency) (v .at) (w .at) × (now degrees ≡ degreesOf n (now adjacency)) × Placed n (now starts) (now adjacency) v (w .at) × Placed n (now starts) (now adjacency) w (v .at) ⌝ }
     ensures { λ r. ⌜ (r .switches ≡ joinSwitches n (classFrom (now (starts .entry))) (now (adjacency .entry)) (v .at) (w .at)) × (r .freed ≡ freed n (classFrom (now (starts .entry))) (now (adjacency .entry)) (v .at) (w .at)) ⌝ }
     ensures { λ _. ⌜ now (adjacency .exit) ≡ joinBytes n (classFrom (now (starts .entry))) (now (adjacency .entry)) (v .at) (w .at) ⌝ }
-    ensures { λ _. ⌜ now (held .exit) ≡ degreesOf n (joinBytes n (classFrom (now (starts .entry))) (now (adjacency .entry)) (v .at) (w .at)) ⌝ }
+    ensures { λ _. ⌜ now (degrees .exit) ≡ degreesOf n (joinBytes n (classFrom (now (starts .entry))) (now (adjacency .entry)) (v .at) (w .at)) ⌝ }
 {
-    let x = relieve(adjacency, held, starts, n, v, w.at);
-    let y = relieve(adjacency, held, starts, n, w, v.at);
-    link(adjacency, held, v.at, w.at);
+    let x = relieve(adjacency, degrees, starts, n, v, w.at);
+    let y = relieve(adjacency, degrees, starts, n, w, v.at);
+    link(adjacency, degrees, v.at, w.at);
     JoinDone {
         switches: both_reliefs(x, y),
         freed: cut_off(n, x),

@@ -1,4 +1,4 @@
-// The neighbour switch, its two searches, and the edges that it moves. Beside the matrix `held` has the degrees that the vertices
+// The neighbour switch, its two searches, and the edges that it moves. Beside the matrix `degrees` has the degrees that the vertices
 // have so far.
 ghost use mathlib.Core.Path.{_≡_};
 ghost use mathlib.Core.Bool.{false};
@@ -27,46 +27,46 @@ const LANES: usize = 16;
 // Document 001's NeighborSwitch, line by line: its w, w′ and t are a, b and t here.
 pub fn neighbor_switch(
     adjacency: &mut [u8],
-    held: &mut [usize; MAX_VERTICES],
+    degrees: &mut [usize; MAX_VERTICES],
     starts: &[usize; STARTS],
     n: usize,
     a: End,
     other: usize,
 ) -> Switch
-    requires { ⌜ Joinable n (classFrom (now starts)) (now adjacency) (a .at) other × Placed n (now starts) (now adjacency) a other × (now held ≡ degreesOf n (now adjacency)) × (unsaturated n (classFrom (now starts)) classDegree (edge (now adjacency)) (a .at) ≡ false) ⌝ }
+    requires { ⌜ Joinable n (classFrom (now starts)) (now adjacency) (a .at) other × Placed n (now starts) (now adjacency) a other × (now degrees ≡ degreesOf n (now adjacency)) × (unsaturated n (classFrom (now starts)) classDegree (edge (now adjacency)) (a .at) ≡ false) ⌝ }
     ensures { λ r. ⌜ r ≡ switchAt n (classFrom (now (starts .entry))) (now (adjacency .entry)) (a .at) other ⌝ }
     ensures { λ _. ⌜ now (adjacency .exit) ≡ neighborSwitch n (classFrom (now (starts .entry))) (now (adjacency .entry)) (a .at) other ⌝ }
-    ensures { λ _. ⌜ now (held .exit) ≡ degreesOf n (neighborSwitch n (classFrom (now (starts .entry))) (now (adjacency .entry)) (a .at) other) ⌝ }
+    ensures { λ _. ⌜ now (degrees .exit) ≡ degreesOf n (neighborSwitch n (classFrom (now (starts .entry))) (now (adjacency .entry)) (a .at) other) ⌝ }
 {
-    let b = choose_substitute(held, starts, a, other); // 1
+    let b = choose_substitute(degrees, starts, a, other); // 1
     let t = choose_transfer(adjacency, n, a.at, b); // 2
-    unlink(adjacency, held, a.at, t); // 3
-    link(adjacency, held, b, t); // 4
+    unlink(adjacency, degrees, a.at, t); // 3
+    link(adjacency, degrees, b, t); // 4
     Switch { a: a.at, b, t }
 }
 
-fn can_stand_in(held: &[usize; MAX_VERTICES], class: usize, other: usize, b: usize) -> bool
+fn can_stand_in(degrees: &[usize; MAX_VERTICES], class: usize, other: usize, b: usize) -> bool
     requires { ⌜ b < side ⌝ }
-    ensures { λ r. ⌜ r ≡ canStandIn (now (held .entry)) (classDegree class) other b ⌝ }
+    ensures { λ r. ⌜ r ≡ canStandIn (now (degrees .entry)) (classDegree class) other b ⌝ }
 {
-    (held[b] < class_degree(class)) & (b != other)
+    (degrees[b] < class_degree(class)) & (b != other)
 }
 
 // Document 01's b: the lowest vertex that can stand in for a; else the other named one.
 fn choose_substitute(
-    held: &[usize; MAX_VERTICES],
+    degrees: &[usize; MAX_VERTICES],
     starts: &[usize; STARTS],
     a: End,
     other: usize,
 ) -> usize
     requires { ⌜ (a .class < mostClasses) × (getD (now starts) (a .class + 1) 0 ≤ side) ⌝ }
-    ensures { λ r. ⌜ r ≡ substituteIn (now (held .entry)) (now (starts .entry)) a other ⌝ }
+    ensures { λ r. ⌜ r ≡ substituteIn (now (degrees .entry)) (now (starts .entry)) a other ⌝ }
 {
     let class = a.class;
     let to = starts[class + 1];
     let mut b = a.low;
     while b < to {
-        if can_stand_in(held, class, other, b) {
+        if can_stand_in(degrees, class, other, b) {
             return b;
         }
         b += 1;
@@ -126,24 +126,24 @@ fn choose_transfer(adjacency: &[u8], n: usize, a: usize, b: usize) -> usize
 }
 
 // The edge v – w removed.
-fn unlink(adjacency: &mut [u8], held: &mut [usize; MAX_VERTICES], v: usize, w: usize)
-    requires { ⌜ Unlinkable (now adjacency) (now held) v w ⌝ }
+fn unlink(adjacency: &mut [u8], degrees: &mut [usize; MAX_VERTICES], v: usize, w: usize)
+    requires { ⌜ Unlinkable (now adjacency) (now degrees) v w ⌝ }
     ensures { λ _. ⌜ now (adjacency .exit) ≡ setEdge (now (adjacency .entry)) v w 0 ⌝ }
-    ensures { λ _. ⌜ now (held .exit) ≡ withoutEdge (now (held .entry)) v w ⌝ }
+    ensures { λ _. ⌜ now (degrees .exit) ≡ withoutEdge (now (degrees .entry)) v w ⌝ }
 {
     set_edge(adjacency, v, w, 0);
-    held[v] -= 1;
-    held[w] -= 1;
+    degrees[v] -= 1;
+    degrees[w] -= 1;
 }
 
 // The edge v – w added.
-pub fn link(adjacency: &mut [u8], held: &mut [usize; MAX_VERTICES], v: usize, w: usize)
-    requires { ⌜ Linkable (now adjacency) (now held) v w ⌝ }
+pub fn link(adjacency: &mut [u8], degrees: &mut [usize; MAX_VERTICES], v: usize, w: usize)
+    requires { ⌜ Linkable (now adjacency) (now degrees) v w ⌝ }
     ensures { λ _. ⌜ now (adjacency .exit) ≡ setEdge (now (adjacency .entry)) v w 1 ⌝ }
-    ensures { λ _. ⌜ now (held .exit) ≡ withEdge (now (held .entry)) v w ⌝ }
+    ensures { λ _. ⌜ now (degrees .exit) ≡ withEdge (now (degrees .entry)) v w ⌝ }
 {
     set_edge(adjacency, v, w, 1);
     // w first: `unlink` writes it last, so that a switch, where w is t, takes fewer instructions.
-    held[w] += 1;
-    held[v] += 1;
+    degrees[w] += 1;
+    degrees[v] += 1;
 }

@@ -17,7 +17,7 @@ use Rattle.graph.specs.Target.{Partial}
 use Rattle.graph.specs.Tests.{mostClasses, classDegree}
 use Rattle.graph.specs.Theorems.{Updated}
 use Rattle.graph.proofs.Update.{removing-updates}
-use Rattle.journal.specs.Journal.{jdmOf}
+use Rattle.journal.specs.Journal.{phaseLaid, jdmOf}
 use Rattle.adjacency.specs.Adjacency.{adjacencySize, side, edge, setEdge}
 use Rattle.adjacency.proofs.Facts.{ZeroOutside}
 use Rattle.adjacency.proofs.Set.{set-length, set-removes, set-outside}
@@ -49,7 +49,7 @@ module _ (s : State) (v w : ℕ) where
   pub removed-facts : removeAnswer s v w ≡ Removed → RemoveFacts s v w
   removed-facts e =
       let no = refused-not-removed in
-      let p = unless-stopped-passed (phaseVerdict 1 s) Refused _ Removed no e in
+      let p = unless-stopped-passed (phaseVerdict phaseLaid s) Refused _ Removed no e in
       let q = unless-stopped-passed (pairVerdict (vertexCount s) v w) Refused _ Removed no (p .1) in
       let d = pair-passed (vertexCount s) v w (q .0) in
       let u = unless-passed (eqb (edge (s .adjacency) v w) 1) _ _ Removed (no _) (q .1) in

@@ -1,6 +1,7 @@
 // Removing an edge (document 01: lift).
 ghost use mathlib.Core.Path.{_≡_};
 ghost use Rattle.answer.specs.declared.Verdict.the-variants.{Go};
+ghost use Rattle.journal.specs.Journal.{phaseLaid};
 ghost use Rattle.state.specs.State.{stateOf};
 ghost use Rattle.state.specs.Checks.{phaseVerdict};
 ghost use Rattle.state.specs.Laid.{vertexCount};
@@ -22,7 +23,7 @@ use table::class::MAX_CLASSES;
 
 // On a valid laid state of n vertices: the checks 13, 14 and 17, then the edge.
 fn remove_laid(journal: &[u8], adjacency: &mut [u8], n: usize, v: usize, w: usize) -> RemoveAnswer
-    requires { ⌜ (phaseVerdict 1 (stateOf (now journal) (now adjacency)) ≡ Go) × (n ≡ vertexCount (stateOf (now journal) (now adjacency))) ⌝ }
+    requires { ⌜ (phaseVerdict phaseLaid (stateOf (now journal) (now adjacency)) ≡ Go) × (n ≡ vertexCount (stateOf (now journal) (now adjacency))) ⌝ }
     ensures { λ r. ⌜ r ≡ removeAnswer (stateOf (now (journal .entry)) (now (adjacency .entry))) v w ⌝ }
     ensures { λ _. ⌜ now (adjacency .exit) ≡ removeAfter (stateOf (now (journal .entry)) (now (adjacency .entry))) v w .adjacency ⌝ }
 {
@@ -47,8 +48,8 @@ fn remove_checked(journal: &[u8], adjacency: &mut [u8], v: usize, w: usize) -> R
 {
     let mut cells = [0u32; CELLS];
     let mut counts = [0usize; MAX_CLASSES];
-    let mut held = [0usize; MAX_VERTICES];
-    if !open(journal, adjacency, &mut cells, &mut counts, &mut held) {
+    let mut degrees = [0usize; MAX_VERTICES];
+    if !open(journal, adjacency, &mut cells, &mut counts, &mut degrees) {
         return RemoveAnswer::Refused(refuse(Cause::InvalidState, 0, 0));
     }
     let n = vertex_count(&cells, &counts);

@@ -8,7 +8,7 @@ use lib.Dec.{eqb, ltb}
 use borrow.Author.Tests.{eqb-true, eq-eqb, ltb-true, lt-ltb, not-true, eqb-false, ne-eqb}
 use Rattle.answer.specs.declared.Verdict.the-variants.{Go}
 use Rattle.answer.proofs.Checks.{unless-go, unless-stopped-go}
-use Rattle.journal.specs.Journal.{phase}
+use Rattle.journal.specs.Journal.{phaseLaid, phase}
 use Rattle.state.specs.State.{State}
 use Rattle.state.specs.Valid.{lengthsOk, valid, ValidLaid}
 use Rattle.state.specs.Checks.{stateVerdict, phaseVerdict, vertexVerdict, pairVerdict}
@@ -39,11 +39,11 @@ module _ (p : ℕ) (s : State) where
   phase-go l v e = rw (l, v, eq-eqb (phase (s .journal)) p e)
 
 -- a valid laid state, both ways
-pub laid-passed : (s : State) → phaseVerdict 1 s ≡ Go → ValidLaid s
-laid-passed s e = let p = phase-passed 1 s e in record { lengths = p .0; is-valid = p .1; phased = p .2 }
+pub laid-passed : (s : State) → phaseVerdict phaseLaid s ≡ Go → ValidLaid s
+laid-passed s e = let p = phase-passed phaseLaid s e in record { lengths = p .0; is-valid = p .1; phased = p .2 }
 
-pub laid-goes : (s : State) → ValidLaid s → phaseVerdict 1 s ≡ Go
-laid-goes s v = phase-go 1 s (v .lengths) (v .is-valid) (v .phased)
+pub laid-goes : (s : State) → ValidLaid s → phaseVerdict phaseLaid s ≡ Go
+laid-goes s v = phase-go phaseLaid s (v .lengths) (v .is-valid) (v .phased)
 
 -- the checks 13 and 14
 module _ (n v w : ℕ) where

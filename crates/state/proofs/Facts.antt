@@ -16,7 +16,7 @@ use Rattle.graph.proofs.Realizability.{table-target}
 use Rattle.slices.specs.Slices.{allZero}
 use Rattle.slices.proofs.Zero.{all-zero-at, zeros-all-zero}
 use Rattle.layout.specs.Layout.{mostVertices}
-use Rattle.journal.specs.Journal.{journalSize, phase, journalOk, jdmOf, tableOf}
+use Rattle.journal.specs.Journal.{journalSize, phaseTaking, phaseLaid, phase, journalOk, jdmOf, tableOf}
 use Rattle.journal.proofs.Table.{jdm-table}
 use Rattle.adjacency.specs.Adjacency.{adjacencySize, adjacencyOk, edge}
 use Rattle.adjacency.proofs.Facts.{ZeroOutside, adjacency-facts}
@@ -42,8 +42,8 @@ pub record StateFacts (s : State) : Type 0 where
   pub journal-length : length (s .journal) ≡ journalSize
   pub adjacency-length : length (s .adjacency) ≡ adjacencySize
   pub journal-ok : journalOk (s .journal) ≡ true
-  pub empty : phase (s .journal) ≡ 0 → (p : ℕ) → getD (s .adjacency) p 0 ≡ 0
-  pub laid : phase (s .journal) ≡ 1 → Laid s
+  pub empty : phase (s .journal) ≡ phaseTaking → (p : ℕ) → getD (s .adjacency) p 0 ≡ 0
+  pub laid : phase (s .journal) ≡ phaseLaid → Laid s
 
 module _ (s : State) where
   pub lengths-journal : lengthsOk s ≡ true → length (s .journal) ≡ journalSize
@@ -57,7 +57,7 @@ module _ (s : State) where
 
   -- the check of the matrix, in either phase
   matrixOk : Bool
-  matrixOk = cond (eqb (phase (s .journal)) 0) (allZero (s .adjacency)) (laidOk (tableOf (s .journal)) (s .adjacency))
+  matrixOk = cond (eqb (phase (s .journal)) phaseTaking) (allZero (s .adjacency)) (laidOk (tableOf (s .journal)) (s .adjacency))
 
   pub valid-journal : valid s ≡ true → journalOk (s .journal) ≡ true
   unfolding matrixOk
@@ -96,14 +96,14 @@ module _ (s : State) where
         journal-length = lengths-journal l;
         adjacency-length = lengths-adjacency l;
         journal-ok = valid-journal h;
-        empty = λ e. all-zero-at (s .adjacency) (rw (eq-eqb (phase (s .journal)) 0 e) at (matrix-ok h));
+        empty = λ e. all-zero-at (s .adjacency) (rw (eq-eqb (phase (s .journal)) phaseTaking e) at (matrix-ok h));
         laid = λ e. laid-facts (valid-journal h) (rw e at (matrix-ok h));
       }
 
-  pub facts-valid-0 : phase (s .journal) ≡ 0 → journalOk (s .journal) ≡ true → ((p : ℕ) → getD (s .adjacency) p 0 ≡ 0) → valid s ≡ true
-  facts-valid-0 e ok zeros = and-both (journalOk (s .journal)) _ ok (rw (eq-eqb (phase (s .journal)) 0 e) (zeros-all-zero (s .adjacency) (λ p l. zeros p)))
+  pub facts-valid-0 : phase (s .journal) ≡ phaseTaking → journalOk (s .journal) ≡ true → ((p : ℕ) → getD (s .adjacency) p 0 ≡ 0) → valid s ≡ true
+  facts-valid-0 e ok zeros = and-both (journalOk (s .journal)) _ ok (rw (eq-eqb (phase (s .journal)) phaseTaking e) (zeros-all-zero (s .adjacency) (λ p l. zeros p)))
 
-  pub facts-valid-1 : phase (s .journal) ≡ 1 → journalOk (s .journal) ≡ true → passes (jdmOf (s .journal)) ≡ true → vertexCount s ≤ mostVertices
+  pub facts-valid-1 : phase (s .journal) ≡ phaseLaid → journalOk (s .journal) ≡ true → passes (jdmOf (s .journal)) ≡ true → vertexCount s ≤ mostVertices
       → adjacencyOk (vertexCount s) (classAt s) (jdmOf (s .journal)) (s .adjacency) ≡ true → valid s ≡ true
   facts-valid-1 e ok p n a =
       and-both (journalOk (s .journal)) _ ok (rw e (and-both (passes (jdmOf (s .journal)) && leb (vertexCount s) mostVertices) _ (and-both _ _ p (le-leb _ _ n)) a))

@@ -7,14 +7,15 @@ use native.Mathlib.Omega.{arith}
 use lib.Dec.{eqb, leb}
 use borrow.Author.Tests.{eqb-true, eqb-false, eq-eqb, ne-eqb, leb-true}
 use Rattle.finite.proofs.All.{and-left}
-use Rattle.answer.specs.Refusals.{refusal, stop, unless, unlessStopped}
+use Rattle.answer.specs.Refusals.{refuse, stopped, unless, unlessStopped}
 use Rattle.answer.specs.declared.Cause.the-variants.{WrongLength, InvalidState, WrongPhase}
 use Rattle.answer.specs.declared.Refusal.{Refusal}
 use Rattle.answer.specs.declared.Verdict.{Verdict}
 use Rattle.answer.specs.declared.Verdict.the-variants.{Go, Stop}
 use Rattle.answer.proofs.Checks.{unless-go, unless-stopped-go}
 use Rattle.slices.specs.Slices.{allZero}
-use Rattle.journal.specs.Journal.{mostBlocks, phase, blocks, journalOk, tableOf}
+use Rattle.table.specs.Block.{mostBlocks}
+use Rattle.journal.specs.Journal.{phaseTaking, phaseLaid, phase, blocks, journalOk, tableOf}
 use Rattle.state.specs.State.{State}
 use Rattle.state.specs.Valid.{lengthsOk, laidOk}
 use Rattle.state.specs.Checks.{stateVerdict, phaseVerdict}
@@ -22,7 +23,7 @@ use Rattle.state.specs.Inner.Opened.{frontVerdict, laidFront}
 
 -- lengths, journal, phase 0, an empty matrix, a laid one: the checks over what these tests say
 abbrev checks : Bool → Bool → Bool → Bool → Bool → Verdict
-checks l k p z d = unless l (stop WrongLength) (unless (k && cond p z d) (stop InvalidState) Go)
+checks l k p z d = unless l (stopped WrongLength) (unless (k && cond p z d) (stopped InvalidState) Go)
 
 stop-all : (l k p z d : Bool) (r : Refusal) → checks l k p z true ≡ Stop r → checks l k p z d ≡ Stop r
 stop-all false k p z d r e = e
@@ -34,7 +35,7 @@ go-taking : (l k p z d : Bool) → checks l k p z true ≡ Go → p ≡ true →
 go-taking l k true z d e h = e
 go-taking l k false z d e h = cc
 
-go-laid : (l k p z d : Bool) → checks l k p z true ≡ Go → p ≡ false → checks l k p z d ≡ unless d (stop InvalidState) Go
+go-laid : (l k p z d : Bool) → checks l k p z true ≡ Go → p ≡ false → checks l k p z d ≡ unless d (stopped InvalidState) Go
 go-laid false k p z d e h = cc
 go-laid true false p z d e h = cc
 go-laid true true true z d e h = cc
@@ -42,7 +43,7 @@ go-laid true true false z d e h = refl
 
 module _ (s : State) where
   abbrev empty : Bool
-  empty = eqb (phase (s .journal)) 0
+  empty = eqb (phase (s .journal)) phaseTaking
 
   abbrev laid : Bool
   laid = laidOk (tableOf (s .journal)) (s .adjacency)
@@ -54,53 +55,53 @@ module _ (s : State) where
       (l .0, and-left (journalOk (s .journal)) (cond empty (allZero (s .adjacency)) true) (v .0))
 
   -- a journal that passes is in phase 0 or 1
-  two-phases : journalOk (s .journal) ≡ true → phase (s .journal) ≤ 1
+  two-phases : journalOk (s .journal) ≡ true → phase (s .journal) ≤ phaseLaid
   two-phases ok =
-      leb-true (phase (s .journal)) 1
-      (and-left (leb (phase (s .journal)) 1) (leb (blocks (s .journal)) mostBlocks)
-      (and-left (leb (phase (s .journal)) 1 && leb (blocks (s .journal)) mostBlocks) _ ok))
+      leb-true (phase (s .journal)) phaseLaid
+      (and-left (leb (phase (s .journal)) phaseLaid) (leb (blocks (s .journal)) mostBlocks)
+      (and-left (leb (phase (s .journal)) phaseLaid && leb (blocks (s .journal)) mostBlocks) _ ok))
 
   -- the checks 1 and 2 by their front
   pub front-stop : (r : Refusal) → frontVerdict s ≡ Stop r → stateVerdict s ≡ Stop r
   front-stop = stop-all (lengthsOk s) (journalOk (s .journal)) empty (allZero (s .adjacency)) laid
 
-  pub front-taking : frontVerdict s ≡ Go → phase (s .journal) ≡ 0 → stateVerdict s ≡ Go
+  pub front-taking : frontVerdict s ≡ Go → phase (s .journal) ≡ phaseTaking → stateVerdict s ≡ Go
   front-taking e h =
-      go-taking (lengthsOk s) (journalOk (s .journal)) empty (allZero (s .adjacency)) laid e (eq-eqb (phase (s .journal)) 0 h)
+      go-taking (lengthsOk s) (journalOk (s .journal)) empty (allZero (s .adjacency)) laid e (eq-eqb (phase (s .journal)) phaseTaking h)
 
-  pub front-laid : frontVerdict s ≡ Go → (phase (s .journal) ≡ 0 → ⊥) → stateVerdict s ≡ unless laid (stop InvalidState) Go
+  pub front-laid : frontVerdict s ≡ Go → (phase (s .journal) ≡ phaseTaking → ⊥) → stateVerdict s ≡ unless laid (stopped InvalidState) Go
   front-laid e h =
-      go-laid (lengthsOk s) (journalOk (s .journal)) empty (allZero (s .adjacency)) laid e (ne-eqb (phase (s .journal)) 0 h)
+      go-laid (lengthsOk s) (journalOk (s .journal)) empty (allZero (s .adjacency)) laid e (ne-eqb (phase (s .journal)) phaseTaking h)
 
   -- and 3, for a call that needs a laid state
-  pub laid-front-passed : laidFront s ≡ Go → (frontVerdict s ≡ Go) × (phase (s .journal) ≡ 1)
+  pub laid-front-passed : laidFront s ≡ Go → (frontVerdict s ≡ Go) × (phase (s .journal) ≡ phaseLaid)
   laid-front-passed e =
       let f = unless-stopped-go (frontVerdict s) _ e in
-      (f .0, eqb-true (phase (s .journal)) 1 (unless-go (eqb (phase (s .journal)) 1) _ _ (f .1) .0))
+      (f .0, eqb-true (phase (s .journal)) phaseLaid (unless-go (eqb (phase (s .journal)) phaseLaid) _ _ (f .1) .0))
 
-  pub laid-front-stop : (r : Refusal) → laidFront s ≡ Stop r → phaseVerdict 1 s ≡ Stop r
-  laid-front-stop r e = go (frontVerdict s) refl (eqb (phase (s .journal)) 1) refl
+  pub laid-front-stop : (r : Refusal) → laidFront s ≡ Stop r → phaseVerdict phaseLaid s ≡ Stop r
+  laid-front-stop r e = go (frontVerdict s) refl (eqb (phase (s .journal)) phaseLaid) refl
     where
-      go : (f : Verdict) → frontVerdict s ≡ f → (p : Bool) → eqb (phase (s .journal)) 1 ≡ p → phaseVerdict 1 s ≡ Stop r
+      go : (f : Verdict) → frontVerdict s ≡ f → (p : Bool) → eqb (phase (s .journal)) phaseLaid ≡ p → phaseVerdict phaseLaid s ≡ Stop r
       go (Stop q) h p i = rw (front-stop q h) (rw h at e)
       go Go h true i = let never : _≡_ {A = Verdict} Go (Stop r) = rw (h, i) at e in cc
       go Go h false i =
           let f = front-passed h in
-          let none : phase (s .journal) ≡ 0 = omega (arith, two-phases (f .1), eqb-false (phase (s .journal)) 1 i) in
+          let none : phase (s .journal) ≡ phaseTaking = omega (arith, two-phases (f .1), eqb-false (phase (s .journal)) phaseLaid i) in
           rw (front-taking h none) (rw h at e)
 
   -- behind it the laid matrix is left
-  behind : laidFront s ≡ Go → phaseVerdict 1 s ≡ unless laid (stop InvalidState) Go
+  behind : laidFront s ≡ Go → phaseVerdict phaseLaid s ≡ unless laid (stopped InvalidState) Go
   behind e =
       let f = laid-front-passed e in
       rw (front-laid (f .0) (λ h. omega (arith, h, f .1)), f .1) (go laid)
     where
-      go : (d : Bool) → unlessStopped (unless d (stop InvalidState) Go) Stop Go ≡ unless d (stop InvalidState) Go
+      go : (d : Bool) → unlessStopped (unless d (stopped InvalidState) Go) Stop Go ≡ unless d (stopped InvalidState) Go
       go true = refl
       go false = refl
 
-  pub opened : laidFront s ≡ Go → laid ≡ true → phaseVerdict 1 s ≡ Go
-  opened e h = behind e ∙ ap (λ (d : Bool). unless d (stop InvalidState) Go) h
+  pub opened : laidFront s ≡ Go → laid ≡ true → phaseVerdict phaseLaid s ≡ Go
+  opened e h = behind e ∙ ap (λ (d : Bool). unless d (stopped InvalidState) Go) h
 
-  pub not-opened : laidFront s ≡ Go → laid ≡ false → phaseVerdict 1 s ≡ Stop (refusal InvalidState 0 0)
-  not-opened e h = behind e ∙ ap (λ (d : Bool). unless d (stop InvalidState) Go) h
+  pub not-opened : laidFront s ≡ Go → laid ≡ false → phaseVerdict phaseLaid s ≡ Stop (refuse InvalidState 0 0)
+  not-opened e h = behind e ∙ ap (λ (d : Bool). unless d (stopped InvalidState) Go) h

@@ -7,7 +7,7 @@ use Prim.Native.Nat.{ℕ}
 use lib.ListN.{length}
 use Rattle.graph.specs.Target.{Partial}
 use Rattle.graph.specs.Tests.{mostClasses, classDegree}
-use Rattle.journal.specs.Journal.{phase, journalOk, jdmOf}
+use Rattle.journal.specs.Journal.{phaseLaid, phase, journalOk, jdmOf}
 use Rattle.adjacency.specs.Adjacency.{adjacencySize, edge}
 use Rattle.adjacency.proofs.Facts.{ZeroOutside, facts-adjacency}
 use Rattle.state.specs.State.{State, withMatrix}
@@ -16,7 +16,7 @@ use Rattle.state.specs.Laid.{vertexCount, classAt}
 use Rattle.state.proofs.Facts.{Laid, facts-valid-1}
 
 -- another partial graph on the vertices of a laid state
-pub laid-valid : (s : State) → Laid s → (g : List ℕ) → phase (s .journal) ≡ 1 → journalOk (s .journal) ≡ true → length g ≡ adjacencySize
+pub laid-valid : (s : State) → Laid s → (g : List ℕ) → phase (s .journal) ≡ phaseLaid → journalOk (s .journal) ≡ true → length g ≡ adjacencySize
     → Partial (vertexCount s) mostClasses (classAt s) classDegree (jdmOf (s .journal)) (edge g) → ZeroOutside (vertexCount s) g
     → valid (withMatrix s g) ≡ true
 laid-valid s laid g phased ok sized partial outside =

@@ -19,37 +19,37 @@ use Rattle.layout.specs.Inner.Arrays.{countIn, tableIn}
 use Rattle.layout.proofs.Counted.{counted-total, counted-degree}
 use Rattle.journal.specs.Journal.{jdmOf}
 use Rattle.adjacency.specs.Adjacency.{edge}
-use Rattle.adjacency.proofs.Degrees.{held-is, held-edges}
+use Rattle.adjacency.proofs.Degrees.{degrees-are, degrees-edges}
 use Rattle.state.specs.State.{State}
 use Rattle.state.specs.Laid.{vertexCount}
 use Rattle.state.specs.Inner.Opened.{Opened}
 use Rattle.state.proofs.Facts.{Laid}
 
-module _ (s : State) {cells counts held : List ℕ} (o : Opened s cells counts held) (laid : Laid s) {n : ℕ}
+module _ (s : State) {cells counts degrees : List ℕ} (o : Opened s cells counts degrees) (laid : Laid s) {n : ℕ}
     (en : n ≡ vertices (tableIn cells (countIn counts 0))) where
   -- N, as the code counts it
   pub opened-vertices : n ≡ vertexCount s
   opened-vertices = en ∙ ap vertices (o .said)
 
-  pub opened-few : (v : ℕ) → v < n → getD held v 0 ≤ mostDegree
+  pub opened-few : (v : ℕ) → v < n → getD degrees v 0 ≤ mostDegree
   opened-few v l =
       let l′ : v < vertexCount s = omega (arith, opened-vertices) in
       omega (
         arith,
-        held-is (vertexCount s) (laid .vertices-le) (s .adjacency) (o .degrees-held) v l′,
+        degrees-are (vertexCount s) (laid .vertices-le) (s .adjacency) (o .degrees-right) v l′,
         laid .partial .room v l′,
         laid .target .classed v l′,
       )
 
-  pub opened-edges : {e : ℕ} → e ≡ sumTo n (λ v. getD held v 0) / 2 → e ≡ edges n (edge (s .adjacency))
+  pub opened-edges : {e : ℕ} → e ≡ sumTo n (λ v. getD degrees v 0) / 2 → e ≡ edges n (edge (s .adjacency))
   opened-edges ee =
       rw opened-vertices
       (ee
-      ∙ ap (λ (m : ℕ). sumTo m (λ v. getD held v 0) / 2) opened-vertices
-      ∙ held-edges (vertexCount s) (laid .vertices-le) (s .adjacency) (o .degrees-held) (laid .partial .simple))
+      ∙ ap (λ (m : ℕ). sumTo m (λ v. getD degrees v 0) / 2) opened-vertices
+      ∙ degrees-edges (vertexCount s) (laid .vertices-le) (s .adjacency) (o .degrees-right) (laid .partial .simple))
 
 -- the vertices of each class
-module _ (s : State) {cells counts held : List ℕ} (o : Opened s cells counts held) (laid : Laid s) where
+module _ (s : State) {cells counts degrees : List ℕ} (o : Opened s cells counts degrees) (laid : Laid s) where
   pub opened-total : total mostClasses (countIn counts) ≤ mostVertices
   opened-total = rw (counted-total cells counts (o .counted), ap vertices (o .said)) (laid .vertices-le)
 

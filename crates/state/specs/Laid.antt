@@ -2,8 +2,8 @@
 -- Assumes nothing.
 use mathlib.Core.Bool.{Bool}
 use Prim.Native.Nat.{ℕ}
-use lib.Dec.{ltb}
 use Rattle.graph.specs.Graph.{jdm}
+use Rattle.graph.specs.Target.{isShort}
 use Rattle.graph.specs.Tests.{vertices, vertexClass}
 use Rattle.journal.specs.Journal.{jdmOf, tableOf}
 use Rattle.adjacency.specs.Adjacency.{edge}
@@ -20,6 +20,6 @@ classAt s = vertexClass (tableOf (s .journal))
 abbrev pub cellAt : State → ℕ → ℕ → ℕ
 cellAt s = jdm (vertexCount s) (classAt s) (edge (s .adjacency))
 
--- the cell is below the table (document 01: it is short)
-abbrev pub isShort : State → ℕ → ℕ → Bool
-isShort s k l = ltb (cellAt s k l) (jdmOf (s .journal) k l)
+-- the cell is short
+abbrev pub shortAt : State → ℕ → ℕ → Bool
+shortAt s = isShort (vertexCount s) (classAt s) (jdmOf (s .journal)) (edge (s .adjacency))

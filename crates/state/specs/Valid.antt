@@ -10,7 +10,7 @@ use Rattle.graph.specs.Graph.{DegreeTable}
 use Rattle.graph.specs.Tests.{passes, vertices, vertexClass}
 use Rattle.slices.specs.Slices.{allZero}
 use Rattle.layout.specs.Layout.{mostVertices}
-use Rattle.journal.specs.Journal.{journalSize, phase, journalOk, tableOf}
+use Rattle.journal.specs.Journal.{journalSize, phaseTaking, phaseLaid, phase, journalOk, tableOf}
 use Rattle.adjacency.specs.Adjacency.{adjacencySize, adjacencyOk}
 use Rattle.state.specs.State.{State}
 
@@ -25,10 +25,10 @@ laidOk t g = passes (t .cells) && leb (vertices t) mostVertices && adjacencyOk (
 -- The journal is as laid down; in phase 0 the matrix is all zero, in phase 1 it is as above.
 abbrev pub valid : State → Bool
 valid s =
-    journalOk (s .journal) && cond (eqb (phase (s .journal)) 0) (allZero (s .adjacency)) (laidOk (tableOf (s .journal)) (s .adjacency))
+    journalOk (s .journal) && cond (eqb (phase (s .journal)) phaseTaking) (allZero (s .adjacency)) (laidOk (tableOf (s .journal)) (s .adjacency))
 
 -- a "laid bench": valid, in phase 1
 pub record ValidLaid (s : State) : Type 0 where
   pub lengths : lengthsOk s ≡ true
   pub is-valid : valid s ≡ true
-  pub phased : phase (s .journal) ≡ 1
+  pub phased : phase (s .journal) ≡ phaseLaid

@@ -19,6 +19,8 @@ use answer::Cause;
 use answer::Verdict;
 use answer::stopped;
 use journal::JOURNAL_BYTES;
+use journal::PHASE_LAID;
+use journal::PHASE_TAKING;
 use journal::journal_ok;
 use journal::phase_of;
 use journal::sum_blocks;
@@ -53,11 +55,11 @@ pub fn open(
     adjacency: &[u8],
     cells: &mut [u32; CELLS],
     counts: &mut [usize; MAX_CLASSES],
-    held: &mut [usize; MAX_VERTICES],
+    degrees: &mut [usize; MAX_VERTICES],
 ) -> bool
-    requires { ⌜ (length (now journal) ≡ journalSize) × (length (now adjacency) ≡ adjacencySize) × (journalOk (now journal) ≡ true) × (now cells ≡ replicate cellsSize 0) × (now counts ≡ replicate mostClasses 0) × (now held ≡ replicate mostVertices 0) ⌝ }
+    requires { ⌜ (length (now journal) ≡ journalSize) × (length (now adjacency) ≡ adjacencySize) × (journalOk (now journal) ≡ true) × (now cells ≡ replicate cellsSize 0) × (now counts ≡ replicate mostClasses 0) × (now degrees ≡ replicate mostVertices 0) ⌝ }
     ensures { λ r. ⌜ r ≡ laidOk (tableOf (now (journal .entry))) (now (adjacency .entry)) ⌝ }
-    ensures { λ r. ⌜ (r ≡ true → Opened (stateOf (now (journal .entry)) (now (adjacency .entry))) (now (cells .exit)) (now (counts .exit)) (now (held .exit))) ⌝ }
+    ensures { λ r. ⌜ (r ≡ true → Opened (stateOf (now (journal .entry)) (now (adjacency .entry))) (now (cells .exit)) (now (counts .exit)) (now (degrees .exit))) ⌝ }
 {
     sum_table(journal, cells, counts);
     let verdict = layout_check(cells, counts);
@@ -66,7 +68,7 @@ pub fn open(
         Verdict::Go => {
             let n = vertex_count(cells, counts);
             let c = classes(cells, counts);
-            adjacency_ok(adjacency, n, &c, cells, held)
+            adjacency_ok(adjacency, n, &c, cells, degrees)
         }
     }
 }
@@ -78,8 +80,8 @@ fn is_laid_ok(journal: &[u8], adjacency: &[u8]) -> bool
 {
     let mut cells = [0u32; CELLS];
     let mut counts = [0usize; MAX_CLASSES];
-    let mut held = [0usize; MAX_VERTICES];
-    open(journal, adjacency, &mut cells, &mut counts, &mut held)
+    let mut degrees = [0usize; MAX_VERTICES];
+    open(journal, adjacency, &mut cells, &mut counts, &mut degrees)
 }
 
 // The check 1 and, of 2, all but a laid matrix.
@@ -92,7 +94,7 @@ pub fn front_check(journal: &[u8], adjacency: &[u8]) -> Verdict
     if !journal_ok(journal) {
         return stopped(Cause::InvalidState);
     }
-    if phase_of(journal) != 0 {
+    if phase_of(journal) != PHASE_TAKING {
         return Verdict::Go;
     }
     if !slices::all_zero(adjacency) {
@@ -109,7 +111,7 @@ pub fn laid_check(journal: &[u8], adjacency: &[u8]) -> Verdict
     match verdict {
         Verdict::Stop(r) => Verdict::Stop(r),
         Verdict::Go => {
-            if phase_of(journal) != 1 {
+            if phase_of(journal) != PHASE_LAID {
                 return stopped(Cause::WrongPhase);
             }
             Verdict::Go
@@ -125,7 +127,7 @@ fn is_valid(journal: &[u8], adjacency: &[u8]) -> bool
     if !journal_ok(journal) {
         return false;
     }
-    if phase_of(journal) == 0 {
+    if phase_of(journal) == PHASE_TAKING {
         return slices::all_zero(adjacency);
     }
     is_laid_ok(journal, adjacency)

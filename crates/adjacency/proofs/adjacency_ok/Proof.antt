@@ -6,7 +6,7 @@ use native.Mathlib.Omega.{arith}
 use borrow.Author.Tests.{not-true, not-false}
 use Rattle.layout.specs.Inner.Arrays.{classIn}
 use Rattle.adjacency.proofs.Mirrored.{mirrored-simple}
-use Rattle.adjacency.proofs.Degrees.{held-within}
+use Rattle.adjacency.proofs.Degrees.{degrees-bound}
 use Rattle.adjacency.proofs.adjacency_ok.Statement.{statement}
 use Rattle.adjacency.proofs.adjacency_ok.Tie as tie
 
@@ -25,7 +25,7 @@ adjacency-ok-spec =
       s .pre .1,
       mirrored-simple (s .args .n) (s .args .adjacency .now) (sym (m .is-mirrored .ensures) ∙ not-false _ (i .if1 .left)),
       s .pre .4,
-    ))  -- hold-degrees-requires
+    ))  -- count-degrees-requires
     (λ c κs. omega arith)  -- is-zero-outside-requires
     (λ c κs. omega arith)  -- degrees-within-requires
     (λ c κs.
@@ -42,9 +42,9 @@ adjacency-ok-spec =
     let s = m .before .before in (
       rw (
         z .is-zero-outside .ensures,
-        d .degrees-within .ensures ∙ held-within (s .args .n) (s .pre .1) (s .args .adjacency .now) (h .hold-degrees .ensures) (classIn (s .args .classes .now)),
+        d .degrees-within .ensures ∙ degrees-bound (s .args .n) (s .pre .1) (s .args .adjacency .now) (h .count-degrees .ensures) (classIn (s .args .classes .now)),
         c .cells-within .ensures,
         sym (m .is-mirrored .ensures) ∙ not-false _ (i .if1 .left),
       ),
-      λ _. h .hold-degrees .ensures,
+      λ _. h .count-degrees .ensures,
     )))  -- returns-2

@@ -18,11 +18,11 @@ use Rattle.adjacency.proofs.class_within.Statement.{statement}
 use Rattle.adjacency.proofs.class_within.Tie as tie
 
 abbrev Inv-loop : tie.InvT-loop
-Inv-loop sums n classes cells k start counts ok₀ l₀ ok l =
+Inv-loop sums n classes cells k start have ok₀ l₀ ok l =
     (k ≤ l) × (l ≤ mostClasses) × (ok ≡ allTo l (λ l. ltb l k || leb (sumTo n (λ w. δ (classIn classes w) l * getD sums (k * side + w) 0)) (matrixOf cells k l)))
 
 abbrev μ-loop : tie.MeasureT-loop
-μ-loop sums n classes cells k start counts ok₀ l₀ ok l = mostClasses - l
+μ-loop sums n classes cells k start have ok₀ l₀ ok l = mostClasses - l
 
 pub class-within-spec : {M : Type 1} → statement M
 class-within-spec =

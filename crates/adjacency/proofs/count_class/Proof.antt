@@ -14,13 +14,13 @@ use Rattle.adjacency.proofs.count_class.Statement.{statement}
 use Rattle.adjacency.proofs.count_class.Tie as tie
 
 abbrev Inv-loop : tie.InvT-loop
-Inv-loop sums n classes k start counts₀ w₀ counts w =
-    (w ≤ n) × (length counts ≡ mostClasses)
-    × ((l : ℕ) → k ≤ l → getD counts l 0 ≡ sumTo w (λ w. δ (classIn classes w) l * getD sums (k * side + w) 0))
-    × ((l : ℕ) → getD counts l 0 ≤ 255 * w)
+Inv-loop sums n classes k start have₀ w₀ have w =
+    (w ≤ n) × (length have ≡ mostClasses)
+    × ((l : ℕ) → k ≤ l → getD have l 0 ≡ sumTo w (λ w. δ (classIn classes w) l * getD sums (k * side + w) 0))
+    × ((l : ℕ) → getD have l 0 ≤ 255 * w)
 
 abbrev μ-loop : tie.MeasureT-loop
-μ-loop sums n classes k start counts₀ w₀ counts w = n - w
+μ-loop sums n classes k start have₀ w₀ have w = n - w
 
 pub count-class-spec : {M : Type 1} → statement M
 count-class-spec =
@@ -47,11 +47,11 @@ count-class-spec =
     (λ c. omega arith)  -- add-sum
     (λ c.
     let l = c .before .before .before .before .before .before .before in
-    omega (arith, l .loop .inv .3 (c .before .before .before .before .wide .result)))  -- cast-counts
-    (λ c. omega arith)  -- mul-counts
+    omega (arith, l .loop .inv .3 (c .before .before .before .before .wide .result)))  -- cast-have
+    (λ c. omega arith)  -- mul-have
     (λ c.
     let l = c .before .before .before .before .before .before .before in
-    omega (arith, l .before .pre .2 (l .loop .w) (omega arith)))  -- element-write-counts
+    omega (arith, l .before .pre .2 (l .loop .w) (omega arith)))  -- element-write-have
     (λ c. omega arith)  -- add-w
     (λ c. omega arith)  -- loop-less
     (λ c.
@@ -61,12 +61,12 @@ count-class-spec =
     let s = l .before in
     let cls = classIn (s .args .classes .now) in
     let row : ℕ → ℕ = λ w. getD (s .args .sums .now) (s .args .k * side + w) 0 in
-    let q : cls (l .loop .w) < length (l .loop .counts) = omega (arith, s .pre .2 (l .loop .w) (omega arith)) in
-    let a = more-at (l .loop .counts) (cls (l .loop .w)) (row (l .loop .w)) q in
-    let m = more-atMost (l .loop .counts) (cls (l .loop .w)) (row (l .loop .w)) (255 * l .loop .w) q (l .loop .inv .3) in
+    let q : cls (l .loop .w) < length (l .loop .have) = omega (arith, s .pre .2 (l .loop .w) (omega arith)) in
+    let a = more-at (l .loop .have) (cls (l .loop .w)) (row (l .loop .w)) q in
+    let m = more-atMost (l .loop .have) (cls (l .loop .w)) (row (l .loop .w)) (255 * l .loop .w) q (l .loop .inv .3) in
     rw (c .wide2 .ensures .0, u .wide32 .ensures .0, w .wide .ensures .0) (
       omega arith,
-      length-set (l .loop .counts) (cls (l .loop .w)) (getD (l .loop .counts) (cls (l .loop .w)) 0 + row (l .loop .w)) ∙ l .loop .inv .1,
+      length-set (l .loop .have) (cls (l .loop .w)) (getD (l .loop .have) (cls (l .loop .w)) 0 + row (l .loop .w)) ∙ l .loop .inv .1,
       λ j h. rw sumTo-more (a j ∙ ap (λ (x : ℕ). x + δ (cls (l .loop .w)) j * row (l .loop .w)) (l .loop .inv .2 j h)),
       λ j. omega (arith, m j),
     ))  -- loop-again

@@ -13,10 +13,10 @@ use Rattle.adjacency.proofs.degrees_within.Statement.{statement}
 use Rattle.adjacency.proofs.degrees_within.Tie as tie
 
 abbrev Inv-loop : tie.InvT-loop
-Inv-loop held n classes ok₀ v₀ ok v = (v ≤ n) × (ok ≡ allTo v (λ v. leb (getD held v 0) (classDegree (classIn classes v))))
+Inv-loop degrees n classes ok₀ v₀ ok v = (v ≤ n) × (ok ≡ allTo v (λ v. leb (getD degrees v 0) (classDegree (classIn classes v))))
 
 abbrev μ-loop : tie.MeasureT-loop
-μ-loop held n classes ok₀ v₀ ok v = n - v
+μ-loop degrees n classes ok₀ v₀ ok v = n - v
 
 pub degrees-within-spec : {M : Type 1} → statement M
 degrees-within-spec =

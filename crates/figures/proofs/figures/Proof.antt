@@ -7,6 +7,7 @@ use borrow.Author.Needs.{needs}
 use borrow.Author.Tests.{eq-eqb}
 use Rattle.answer.specs.declared.FiguresAnswer.the-variants.{Reported}
 use Rattle.journal.proofs.Facts.{journal-facts}
+use Rattle.journal.specs.Journal.{phaseTaking}
 use Rattle.state.specs.State.{stateOf}
 use Rattle.state.proofs.Facts.{lengths-journal}
 use Rattle.state.proofs.Front.{front-passed, front-stop, front-taking}
@@ -38,7 +39,7 @@ figures-spec =
     let s = stateOf (a .journal .now) (a .adjacency .now) in
     let z = rw (p .before .phase-of .ensures .0) at (p .if1 .taken) in
     rw (front-taking s (sym (f .front-check .ensures) ∙ m .enum-told .given .1) z, eq-eqb _ _ z)
-    (ap (λ (n : ℕ). Reported (record { phase = 0; blocks = n; vertices = 0; wanted = 0; laid = 0 })) (c .block-count .ensures .0)))  -- returns
+    (ap (λ (n : ℕ). Reported (record { phase = phaseTaking; blocks = n; vertices = 0; wanted = 0; laid = 0 })) (c .block-count .ensures .0)))  -- returns
     (λ c κs.
     let m = c .before .before in
     let f = m .before .before in

@@ -28,19 +28,19 @@ lanes = 16
 
 -- the degrees after the edge v – w was added, or removed
 abbrev pub withEdge : List ℕ → ℕ → ℕ → List ℕ
-withEdge held v w = set (set held w (getD held w 0 + 1)) v (getD held v 0 + 1)
+withEdge degrees v w = set (set degrees w (getD degrees w 0 + 1)) v (getD degrees v 0 + 1)
 
 abbrev pub withoutEdge : List ℕ → ℕ → ℕ → List ℕ
-withoutEdge held v w = set (set held v (getD held v 0 - 1)) w (getD held w 0 - 1)
+withoutEdge degrees v w = set (set degrees v (getD degrees v 0 - 1)) w (getD degrees w 0 - 1)
 
 -- the edge v – w may be removed, or added: there are bytes for it, and one to take away from either degree, or room
 abbrev pub Unlinkable : List ℕ → List ℕ → ℕ → ℕ → Type 0
-Unlinkable g held v w =
-    (length g ≡ adjacencySize) × (v < side) × (w < side) × (v ≢ w) × ((0 < getD held v 0) × (0 < getD held w 0))
+Unlinkable g degrees v w =
+    (length g ≡ adjacencySize) × (v < side) × (w < side) × (v ≢ w) × ((0 < getD degrees v 0) × (0 < getD degrees w 0))
 
 abbrev pub Linkable : List ℕ → List ℕ → ℕ → ℕ → Type 0
-Linkable g held v w =
-    (length g ≡ adjacencySize) × (v < side) × (w < side) × (v ≢ w) × ((getD held v 0 ≤ mostDegree) × (getD held w 0 ≤ mostDegree))
+Linkable g degrees v w =
+    (length g ≡ adjacencySize) × (v < side) × (w < side) × (v ≢ w) × ((getD degrees v 0 ≤ mostDegree) × (getD degrees w 0 ≤ mostDegree))
 
 -- v and w may be joined: g is a partial graph of some table, and the pair is open
 pub record Joinable (n : ℕ) (cls : ℕ → ℕ) (g : List ℕ) (v w : ℕ) : Type 0 where
@@ -59,15 +59,15 @@ pub record Placed (n : ℕ) (starts g : List ℕ) (a : End) (other : ℕ) : Type
   pub before : a .low ≤ getD starts (a .class + 1) 0
   pub saturated : (i : ℕ) → i < a .low → classFrom starts i ≡ a .class → (i ≡ other → ⊥) → unsaturated n (classFrom starts) classDegree (edge g) i ≡ false
 
--- b, of a class with degree k, may stand in for a vertex of it; `held` has the edges of each
+-- b, of a class with degree k, may stand in for a vertex of it; `degrees` has the edges of each
 abbrev pub canStandIn : List ℕ → ℕ → ℕ → ℕ → Bool
-canStandIn held k other b = ltb (getD held b 0) k && not (eqb b other)
+canStandIn degrees k other b = ltb (getD degrees b 0) k && not (eqb b other)
 
 -- the lowest vertex of a's class from `low` on that may stand in for a; `other` where there is none
 abbrev pub substituteIn : List ℕ → List ℕ → End → ℕ → ℕ
-substituteIn held starts a other =
+substituteIn degrees starts a other =
     orElse (getD starts (a .class + 1) 0) other
-    (lowest (a .low) (getD starts (a .class + 1) 0) (canStandIn held (classDegree (a .class)) other))
+    (lowest (a .low) (getD starts (a .class + 1) 0) (canStandIn degrees (classDegree (a .class)) other))
 
 -- what making room at a takes: nothing, or a switch
 abbrev pub reliefOf : ℕ → (ℕ → ℕ) → List ℕ → ℕ → ℕ → Relief

@@ -5,6 +5,7 @@ use native.Mathlib.Omega.{arith}
 use borrow.Author.Needs.{needs}
 use borrow.Author.Tests.{eq-eqb, ne-eqb}
 use Rattle.answer.specs.declared.RemoveAnswer.the-variants.{Refused}
+use Rattle.journal.specs.Journal.{phaseLaid}
 use Rattle.state.specs.State.{stateOf}
 use Rattle.state.proofs.Checks.{phase-facts, pair-passed}
 use Rattle.remove_edge.proofs.remove_laid.Statement.{statement}
@@ -21,7 +22,7 @@ remove-laid-spec =
     let p = m .before .before in
     let s = p .before .before .before in
     let a = s .args in
-    let f = phase-facts 1 (stateOf (a .journal .now) (a .adjacency .now)) (s .pre .0) in
+    let f = phase-facts phaseLaid (stateOf (a .journal .now) (a .adjacency .now)) (s .pre .0) in
     let few = f .0 .laid (f .1) .vertices-le in
     let d = pair-passed (a .n) (a .v) (a .w) (sym (p .pair-check .ensures) ∙ m .enum-told .given .1) in
     (f .0 .adjacency-length, omega (arith, s .pre .1, few, d .0), omega (arith, s .pre .1, few, d .1)))  -- edge-at-requires
@@ -45,7 +46,7 @@ remove-laid-spec =
     let p = m .before .before in
     let s = p .before .before .before in
     let a = s .args in
-    let f = phase-facts 1 (stateOf (a .journal .now) (a .adjacency .now)) (s .pre .0) in
+    let f = phase-facts phaseLaid (stateOf (a .journal .now) (a .adjacency .now)) (s .pre .0) in
     let few = f .0 .laid (f .1) .vertices-le in
     let d = pair-passed (a .n) (a .v) (a .w) (sym (p .pair-check .ensures) ∙ m .enum-told .given .1) in
     (f .0 .adjacency-length, omega (arith, s .pre .1, few, d .0), omega (arith, s .pre .1, few, d .1)))  -- set-edge-requires

@@ -9,10 +9,10 @@ use Rattle.graph.specs.Tests.{vertices}
 use Rattle.layout.specs.Layout.{mostVertices, layoutVerdict}
 use Rattle.layout.specs.Inner.Arrays.{classesOf, classIn}
 use Rattle.layout.proofs.Verdict.{layout-go}
+use Rattle.journal.specs.Journal.{jdmOf, tableOf}
 use Rattle.adjacency.specs.Adjacency.{adjacencyOk}
 use Rattle.adjacency.specs.Inner.Degrees.{degreesOf}
 use Rattle.adjacency.proofs.Classes.{adjacencyOk-table, class-below, class-rises}
-use Rattle.journal.specs.Journal.{jdmOf, tableOf}
 use Rattle.state.proofs.Laid.{laid-go, laid-stop}
 use Rattle.state.proofs.open.Statement.{statement}
 use Rattle.state.proofs.open.Tie as tie
@@ -77,6 +77,6 @@ open-spec =
         said = said .0;
         most = said .1;
         counted = said .2;
-        degrees-held = c .adjacency-ok .ensures .1 h ∙ ap (λ (n : ℕ). degreesOf n g) en;
+        degrees-right = c .adjacency-ok .ensures .1 h ∙ ap (λ (n : ℕ). degreesOf n g) en;
       },
     )))  -- returns-2

@@ -5,14 +5,14 @@ use mathlib.Core.Bool.{Bool, true, _&&_, cond}
 use mathlib.Core.List.{List}
 use Prim.Native.Nat.{ℕ}
 use lib.Dec.{eqb}
-use Rattle.answer.specs.Refusals.{stop, unless, unlessStopped}
+use Rattle.answer.specs.Refusals.{stopped, unless, unlessStopped}
 use Rattle.answer.specs.declared.Cause.the-variants.{WrongLength, InvalidState, WrongPhase}
 use Rattle.answer.specs.declared.Verdict.{Verdict}
 use Rattle.answer.specs.declared.Verdict.the-variants.{Go, Stop}
 use Rattle.slices.specs.Slices.{allZero}
 use Rattle.table.specs.Inner.Cells.{AtMost, cellSumMost}
 use Rattle.layout.specs.Inner.Arrays.{countIn, tableIn, Counts}
-use Rattle.journal.specs.Journal.{phase, journalOk, tableOf}
+use Rattle.journal.specs.Journal.{phaseTaking, phaseLaid, phase, journalOk, tableOf}
 use Rattle.adjacency.specs.Inner.Degrees.{degreesOf}
 use Rattle.state.specs.State.{State}
 use Rattle.state.specs.Valid.{lengthsOk}
@@ -21,16 +21,16 @@ use Rattle.state.specs.Laid.{vertexCount}
 -- the check 1 and, of 2, all but a laid matrix
 abbrev pub frontVerdict : State → Verdict
 frontVerdict s =
-    unless (lengthsOk s) (stop WrongLength)
-    (unless (journalOk (s .journal) && cond (eqb (phase (s .journal)) 0) (allZero (s .adjacency)) true) (stop InvalidState) Go)
+    unless (lengthsOk s) (stopped WrongLength)
+    (unless (journalOk (s .journal) && cond (eqb (phase (s .journal)) phaseTaking) (allZero (s .adjacency)) true) (stopped InvalidState) Go)
 
 -- and 3, for a call that needs a laid state
 abbrev pub laidFront : State → Verdict
-laidFront s = unlessStopped (frontVerdict s) Stop (unless (eqb (phase (s .journal)) 1) (stop WrongPhase) Go)
+laidFront s = unlessStopped (frontVerdict s) Stop (unless (eqb (phase (s .journal)) phaseLaid) (stopped WrongPhase) Go)
 
 -- The cells of the journal's table, how many vertices each class has, and the degrees that the vertices have so far.
-pub record Opened (s : State) (cells counts held : List ℕ) : Type 0 where
+pub record Opened (s : State) (cells counts degrees : List ℕ) : Type 0 where
   pub said : tableIn cells (countIn counts 0) ≡ tableOf (s .journal)
   pub most : AtMost cellSumMost cells
   pub counted : Counts cells counts
-  pub degrees-held : held ≡ degreesOf (vertexCount s) (s .adjacency)
+  pub degrees-right : degrees ≡ degreesOf (vertexCount s) (s .adjacency)

@@ -12,11 +12,11 @@ use Rattle.joining.proofs.switch.choose_substitute.Statement.{statement
 use Rattle.joining.proofs.switch.choose_substitute.Tie as tie
 
 abbrev Inv-loop : tie.InvT-loop
-Inv-loop held starts other class to b₀ b =
-    lowest b₀ to (canStandIn held (classDegree class) other) ≡ lowest b to (canStandIn held (classDegree class) other)
+Inv-loop degrees starts other class to b₀ b =
+    lowest b₀ to (canStandIn degrees (classDegree class) other) ≡ lowest b to (canStandIn degrees (classDegree class) other)
 
 abbrev μ-loop : tie.MeasureT-loop
-μ-loop held starts other class to b₀ b = to - b
+μ-loop degrees starts other class to b₀ b = to - b
 
 pub choose-substitute-spec : {M : Type 1} → statement M
 choose-substitute-spec =

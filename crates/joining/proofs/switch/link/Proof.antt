@@ -11,14 +11,14 @@ pub link-spec : {M : Type 1} → statement M
 link-spec =
     tie.close (tie.spec
     (λ c κs. let p = c .before .before .pre in (p .0, p .1, p .2))  -- set-edge-requires
-    (λ c. omega arith)  -- mul-held
-    (λ c. omega arith)  -- element-copy-out-held
-    (λ c. omega arith)  -- add-held
-    (λ c. omega arith)  -- element-write-held
-    (λ c. omega arith)  -- mul-held-2
-    (λ c. omega arith)  -- element-copy-out-held-2
-    (λ c. let p = c .before .before .before .before .before .before .before .pre in rw (getD-set-other _ _ _ _ _ (p .3)) (omega arith))  -- add-held-2
-    (λ c. omega arith)  -- element-write-held-2
+    (λ c. omega arith)  -- mul-degrees
+    (λ c. omega arith)  -- element-copy-out-degrees
+    (λ c. omega arith)  -- add-degrees
+    (λ c. omega arith)  -- element-write-degrees
+    (λ c. omega arith)  -- mul-degrees-2
+    (λ c. omega arith)  -- element-copy-out-degrees-2
+    (λ c. let p = c .before .before .before .before .before .before .before .pre in rw (getD-set-other _ _ _ _ _ (p .3)) (omega arith))  -- add-degrees-2
+    (λ c. omega arith)  -- element-write-degrees-2
     (λ c. search needs)  -- same-length
     (λ c.
     let e = c .before .before .before .before in
