@@ -18,13 +18,13 @@ use Rattle.graph.specs.Tests.{mostClasses, classDegree}
 use Rattle.graph.specs.Switch.{Joined}
 use Rattle.graph.specs.Theorems.{AfterJoin}
 use Rattle.graph.proofs.Join.{join-works}
-use Rattle.journal.specs.Journal.{jdmOf}
+use Rattle.journal.specs.Journal.{phaseLaid, jdmOf}
 use Rattle.adjacency.specs.Adjacency.{adjacencySize, edge}
 use Rattle.adjacency.proofs.Facts.{ZeroOutside}
 use Rattle.state.specs.State.{State, withMatrix}
 use Rattle.state.specs.Checks.{phaseVerdict, pairVerdict}
 use Rattle.state.specs.Valid.{ValidLaid}
-use Rattle.state.specs.Laid.{vertexCount, classAt, cellAt, isShort}
+use Rattle.state.specs.Laid.{vertexCount, classAt, cellAt, shortAt}
 use Rattle.state.proofs.Facts.{edgeTotal, StateFacts, Laid, valid-facts, lengths-both}
 use Rattle.state.proofs.Checks.{laid-passed, laid-goes, pair-passed, pair-goes}
 use Rattle.state.proofs.Graph.{laid-valid}
@@ -49,11 +49,11 @@ module _ (s : State) (v w : ℕ) where
       → AddFacts s v w × (x ≡ joinSwitches (vertexCount s) (classAt s) (s .adjacency) v w)
   added-facts x e =
       let no = refused-not-added x in
-      let p = unless-stopped-passed (phaseVerdict 1 s) Refused _ (Added x) no e in
+      let p = unless-stopped-passed (phaseVerdict phaseLaid s) Refused _ (Added x) no e in
       let q = unless-stopped-passed (pairVerdict (vertexCount s) v w) Refused _ (Added x) no (p .1) in
       let d = pair-passed (vertexCount s) v w (q .0) in
       let u = unless-passed (eqb (edge (s .adjacency) v w) 0) _ _ (Added x) (no _) (q .1) in
-      let h = unless-passed (isShort s (classAt s v) (classAt s w)) _ _ (Added x) (no _) (u .1) in (
+      let h = unless-passed (shortAt s (classAt s v) (classAt s w)) _ _ (Added x) (no _) (u .1) in (
         record {
           state = laid-passed s (p .0);
           pair =

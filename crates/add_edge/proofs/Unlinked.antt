@@ -30,7 +30,7 @@ pub starts-few : (c : List ℕ) {counts : List ℕ} → Counts c counts → vert
 starts-few c {counts} ed few = rw (counted-total c counts ed) few
 
 -- c: the table's cells; s: the starts of its classes
-module _ (c : List ℕ) {counts s g held : List ℕ} {v w : ℕ} (u : Unlinked (tableIn c (countIn counts 0)) g held v w) (ed : Counts c counts)
+module _ (c : List ℕ) {counts s g degrees : List ℕ} {v w : ℕ} (u : Unlinked (tableIn c (countIn counts 0)) g degrees v w) (ed : Counts c counts)
     (es : s ≡ startsOf counts) where
   abbrev t : DegreeTable
   t = tableIn c (countIn counts 0)

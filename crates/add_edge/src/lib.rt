@@ -3,19 +3,20 @@ ghost use mathlib.Core.Path.{_≡_};
 ghost use Prim.Native.Nat.{_+_, _<_, min, max};
 ghost use lib.Dec.{ltb};
 ghost use lib.ListN.{length, getD};
-ghost use Rattle.answer.specs.Refusals.{refusal};
+ghost use Rattle.answer.specs.Refusals.{refuse};
 ghost use Rattle.answer.specs.declared.Cause.the-variants.{CellNotShort};
 ghost use Rattle.graph.specs.Tests.{mostClasses, vertices};
 ghost use Rattle.table.specs.Inner.Cells.{matrixOf, AtMost, cellSumMost};
 ghost use Rattle.answer.specs.declared.Verdict.the-variants.{Go};
 ghost use Rattle.layout.specs.Inner.Arrays.{countIn, tableIn, Counts};
+ghost use Rattle.journal.specs.Journal.{phaseLaid};
 ghost use Rattle.adjacency.specs.Adjacency.{adjacencySize, edge};
 ghost use Rattle.state.specs.State.{stateOf};
 ghost use Rattle.state.specs.Checks.{phaseVerdict};
 ghost use Rattle.state.specs.Inner.Opened.{laidFront, Opened};
 ghost use Rattle.classes.specs.Inner.Block.{blockSum, BlockOf};
-ghost use Rattle.add_edge.specs.Add.{addAnswer, addAfter};
-ghost use Rattle.add_edge.specs.Inner.Work.{Unlinked, addUnlinked, addedAdjacency};
+ghost use Rattle.add_edge.specs.Add.{addUnlinked, addAnswer, addAfter};
+ghost use Rattle.add_edge.specs.Inner.Work.{Unlinked, addedAdjacency};
 use adjacency::edge_at;
 use answer::AddAnswer;
 use answer::Cause;
@@ -57,7 +58,7 @@ fn is_short(
 
 // Cell (k, l) is not short: its degrees, lower first.
 fn full_cell(k: usize, l: usize) -> Refusal
-    ensures { λ r. ⌜ r ≡ refusal CellNotShort (min k l) (max k l) ⌝ }
+    ensures { λ r. ⌜ r ≡ refuse CellNotShort (min k l) (max k l) ⌝ }
 {
     if k <= l {
         return refuse(Cause::CellNotShort, k, l);
@@ -68,14 +69,14 @@ fn full_cell(k: usize, l: usize) -> Refusal
 // On two unlinked vertices, among n: the check 16, then the switches and the edge.
 fn add_unlinked(
     adjacency: &mut [u8],
-    held: &mut [usize; MAX_VERTICES],
+    degrees: &mut [usize; MAX_VERTICES],
     cells: &[u32; CELLS],
     counts: &[usize; MAX_CLASSES],
     n: usize,
     v: usize,
     w: usize,
 ) -> AddAnswer
-    requires { ⌜ Unlinked (tableIn (now cells) (countIn (now counts) 0)) (now adjacency) (now held) v w × AtMost cellSumMost (now cells) × Counts (now cells) (now counts) × (n ≡ vertices (tableIn (now cells) (countIn (now counts) 0))) ⌝ }
+    requires { ⌜ Unlinked (tableIn (now cells) (countIn (now counts) 0)) (now adjacency) (now degrees) v w × AtMost cellSumMost (now cells) × Counts (now cells) (now counts) × (n ≡ vertices (tableIn (now cells) (countIn (now counts) 0))) ⌝ }
     ensures { λ r. ⌜ r ≡ addUnlinked (tableIn (now (cells .entry)) (countIn (now (counts .entry)) 0)) (now (adjacency .entry)) v w ⌝ }
     ensures { λ _. ⌜ now (adjacency .exit) ≡ (let t = tableIn (now (cells .entry)) (countIn (now (counts .entry)) 0) in addedAdjacency (addUnlinked t (now (adjacency .entry)) v w) t (now (adjacency .entry)) v w) ⌝ }
 {
@@ -95,7 +96,7 @@ fn add_unlinked(
         class: l,
         low: s[l],
     };
-    let done = join(adjacency, held, &s, n, x, y);
+    let done = join(adjacency, degrees, &s, n, x, y);
     let switches = done.switches;
     AddAnswer::Added(switches)
 }
@@ -106,11 +107,11 @@ fn add_laid(
     adjacency: &mut [u8],
     cells: &[u32; CELLS],
     counts: &[usize; MAX_CLASSES],
-    held: &mut [usize; MAX_VERTICES],
+    degrees: &mut [usize; MAX_VERTICES],
     v: usize,
     w: usize,
 ) -> AddAnswer
-    requires { ⌜ (phaseVerdict 1 (stateOf (now journal) (now adjacency)) ≡ Go) × Opened (stateOf (now journal) (now adjacency)) (now cells) (now counts) (now held) ⌝ }
+    requires { ⌜ (phaseVerdict phaseLaid (stateOf (now journal) (now adjacency)) ≡ Go) × Opened (stateOf (now journal) (now adjacency)) (now cells) (now counts) (now degrees) ⌝ }
     ensures { λ r. ⌜ r ≡ addAnswer (stateOf (now (journal .entry)) (now (adjacency .entry))) v w ⌝ }
     ensures { λ _. ⌜ now (adjacency .exit) ≡ addAfter (stateOf (now (journal .entry)) (now (adjacency .entry))) v w .adjacency ⌝ }
 {
@@ -122,7 +123,7 @@ fn add_laid(
             if edge_at(adjacency, v, w) != 0 {
                 return AddAnswer::Refused(refuse(Cause::EdgePresent, 0, 0));
             }
-            add_unlinked(adjacency, held, cells, counts, n, v, w)
+            add_unlinked(adjacency, degrees, cells, counts, n, v, w)
         }
     }
 }
@@ -135,11 +136,11 @@ fn add_checked(journal: &[u8], adjacency: &mut [u8], v: usize, w: usize) -> AddA
 {
     let mut cells = [0u32; CELLS];
     let mut counts = [0usize; MAX_CLASSES];
-    let mut held = [0usize; MAX_VERTICES];
-    if !open(journal, adjacency, &mut cells, &mut counts, &mut held) {
+    let mut degrees = [0usize; MAX_VERTICES];
+    if !open(journal, adjacency, &mut cells, &mut counts, &mut degrees) {
         return AddAnswer::Refused(refuse(Cause::InvalidState, 0, 0));
     }
-    add_laid(journal, adjacency, &cells, &counts, &mut held, v, w)
+    add_laid(journal, adjacency, &cells, &counts, &mut degrees, v, w)
 }
 
 pub fn add_edge(journal: &[u8], adjacency: &mut [u8], v: usize, w: usize) -> AddAnswer

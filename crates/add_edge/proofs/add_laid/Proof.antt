@@ -7,12 +7,13 @@ use borrow.Author.Needs.{needs}
 use borrow.Author.Tests.{eq-eqb, ne-eqb}
 use Rattle.answer.specs.declared.AddAnswer.the-variants.{Refused}
 use Rattle.graph.specs.Graph.{DegreeTable}
-use Rattle.journal.specs.Journal.{tableOf}
+use Rattle.journal.specs.Journal.{phaseLaid, tableOf}
 use Rattle.state.specs.State.{stateOf}
 use Rattle.state.specs.Checks.{pairVerdict}
 use Rattle.state.proofs.Checks.{phase-facts, pair-passed}
 use Rattle.state.proofs.Opened.{opened-vertices}
-use Rattle.add_edge.specs.Inner.Work.{Unlinked, addUnlinked, addedAdjacency}
+use Rattle.add_edge.specs.Add.{addUnlinked}
+use Rattle.add_edge.specs.Inner.Work.{Unlinked, addedAdjacency}
 use Rattle.add_edge.proofs.Unlinked.{adjacency-of}
 use Rattle.add_edge.proofs.add_laid.Statement.{statement}
 use Rattle.add_edge.proofs.add_laid.Tie as tie
@@ -31,7 +32,7 @@ add-laid-spec =
     let s = q .before .before .before in
     let a = s .args in
     let st = stateOf (a .journal .now) (a .adjacency .now) in
-    let f = phase-facts 1 st (s .pre .0) in
+    let f = phase-facts phaseLaid st (s .pre .0) in
     let laid = f .0 .laid (f .1) in
     let n = opened-vertices st (s .pre .1) laid (q .vertex-count .ensures) in
     let d = pair-passed (q .vertex-count .result) (a .v) (a .w) (sym (p .pair-check .ensures) ∙ m .enum-told .given .1) in
@@ -45,7 +46,7 @@ add-laid-spec =
     let q = p .before in
     let s = q .before .before .before in
     let st = stateOf (s .args .journal .now) (s .args .adjacency .now) in
-    let f = phase-facts 1 st (s .pre .0) in
+    let f = phase-facts phaseLaid st (s .pre .0) in
     rw (
       s .pre .0,
       ← (opened-vertices st (s .pre .1) (f .0 .laid (f .1)) (q .vertex-count .ensures)),
@@ -62,17 +63,17 @@ add-laid-spec =
     let s = q .before .before .before in
     let a = s .args in
     let st = stateOf (a .journal .now) (a .adjacency .now) in
-    let f = phase-facts 1 st (s .pre .0) in
+    let f = phase-facts phaseLaid st (s .pre .0) in
     let laid = f .0 .laid (f .1) in
     let n = opened-vertices st (s .pre .1) laid (q .vertex-count .ensures) in
     let d = pair-passed (q .vertex-count .result) (a .v) (a .w) (sym (p .pair-check .ensures) ∙ m .enum-told .given .1) in (
-      subst (λ (t : DegreeTable). Unlinked t (a .adjacency .now) (a .held .now) (a .v) (a .w)) (sym (s .pre .1 .said))
+      subst (λ (t : DegreeTable). Unlinked t (a .adjacency .now) (a .degrees .now) (a .v) (a .w)) (sym (s .pre .1 .said))
           (record {
             sized = f .0 .adjacency-length;
             few = laid .vertices-le;
             target = laid .target;
             partial = laid .partial;
-            degrees-held = s .pre .1 .degrees-held;
+            degrees-right = s .pre .1 .degrees-right;
             first = rw n at (d .0);
             second = rw n at (d .1);
             distinct = d .2;
@@ -88,7 +89,7 @@ add-laid-spec =
     let q = p .before in
     let s = q .before .before .before in
     let st = stateOf (s .args .journal .now) (s .args .adjacency .now) in
-    let f = phase-facts 1 st (s .pre .0) in
+    let f = phase-facts phaseLaid st (s .pre .0) in
     rw (
       s .pre .0,
       ← (opened-vertices st (s .pre .1) (f .0 .laid (f .1)) (q .vertex-count .ensures)),
@@ -106,7 +107,7 @@ add-laid-spec =
     let s = q .before .before .before in
     let a = s .args in
     let st = stateOf (a .journal .now) (a .adjacency .now) in
-    let f = phase-facts 1 st (s .pre .0) in
+    let f = phase-facts phaseLaid st (s .pre .0) in
     let n = opened-vertices st (s .pre .1) (f .0 .laid (f .1)) (q .vertex-count .ensures) in
     let T = s .pre .1 .said in
     let g = a .adjacency .now in

@@ -5,7 +5,7 @@ use Prim.Native.Nat.{ℕ, min, max}
 use native.Mathlib.Omega.{arith}
 use borrow.Author.Needs.{needs}
 use borrow.Author.Tests.{not-true, not-false, ltb-true}
-use Rattle.answer.specs.Refusals.{refusal}
+use Rattle.answer.specs.Refusals.{refuse}
 use Rattle.answer.specs.declared.Cause.the-variants.{CellNotShort}
 use Rattle.answer.specs.declared.AddAnswer.the-variants.{Added, Refused}
 use Rattle.add_edge.proofs.Unlinked.{starts-few, class-read, class-few, placed, block-of, short-read, joinable, join-read, switches-read}
@@ -48,7 +48,7 @@ add-unlinked-spec =
     let kv = class-read cells u ed es (s .args .v) (x .class-at .ensures) in
     let lw = class-read cells u ed es (s .args .w) (y .class-at2 .ensures) in
     rw (short-read cells u ed es kd ld _ kv lw (h .is-short .ensures) ∙ not-true _ (i .if1 .taken))
-    (ap Refused (c .full-cell .ensures ∙ ap₂ (λ (a b : ℕ). refusal CellNotShort (min a b) (max a b)) kv lw), refl))  -- returns
+    (ap Refused (c .full-cell .ensures ∙ ap₂ (λ (a b : ℕ). refuse CellNotShort (min a b) (max a b)) kv lw), refl))  -- returns
     (λ c.
     let x = c .before .before .before .before .before .before in
     let t = x .before .before in
@@ -93,7 +93,7 @@ add-unlinked-spec =
     let e = short-read cells u ed es kd ld _ kv lw (h .is-short .ensures) ∙ not-false _ (i .if1 .left) in
     rw (s .pre .3) (
       joinable cells u ed es (ltb-true _ _ e),
-      u .degrees-held,
+      u .degrees-right,
       placed cells u ed es (s .args .v) kx (u .first) (s .args .w),
       placed cells u ed es (s .args .w) ly (u .second) (s .args .v),
     ))  -- join-requires

@@ -2,39 +2,29 @@
 -- Assumes nothing.
 use mathlib.Core.Path.{_≡_}
 use mathlib.Core.List.{List}
-use Prim.Native.Nat.{ℕ, _≤_, _<_, min, max}
-use lib.Dec.{ltb}
+use Prim.Native.Nat.{ℕ, _≤_, _<_}
 use lib.ListN.{length}
-use Rattle.answer.specs.Refusals.{refusal, unless}
-use Rattle.answer.specs.declared.Cause.the-variants.{CellNotShort}
 use Rattle.answer.specs.declared.AddAnswer.{AddAnswer}
 use Rattle.answer.specs.declared.AddAnswer.the-variants.{Added, Refused}
-use Rattle.graph.specs.Graph.{jdm, DegreeTable}
+use Rattle.graph.specs.Graph.{DegreeTable}
 use Rattle.graph.specs.Target.{Target, Partial}
 use Rattle.graph.specs.Tests.{mostClasses, vertices, vertexClass, classDegree}
 use Rattle.layout.specs.Layout.{mostVertices}
 use Rattle.adjacency.specs.Adjacency.{adjacencySize, edge}
 use Rattle.adjacency.specs.Inner.Degrees.{degreesOf}
-use Rattle.joining.specs.Join.{joinBytes, joinSwitches}
+use Rattle.joining.specs.Join.{joinBytes}
 
 -- g is a partial graph of the table t, with these degrees, and v and w are two vertices that it does not link
-pub record Unlinked (t : DegreeTable) (g held : List ℕ) (v w : ℕ) : Type 0 where
+pub record Unlinked (t : DegreeTable) (g degrees : List ℕ) (v w : ℕ) : Type 0 where
   pub sized : length g ≡ adjacencySize
   pub few : vertices t ≤ mostVertices
   pub target : Target (vertices t) mostClasses (vertexClass t) classDegree (t .cells)
   pub partial : Partial (vertices t) mostClasses (vertexClass t) classDegree (t .cells) (edge g)
-  pub degrees-held : held ≡ degreesOf (vertices t) g
+  pub degrees-right : degrees ≡ degreesOf (vertices t) g
   pub first : v < vertices t
   pub second : w < vertices t
   pub distinct : v ≡ w → ⊥
   pub unlinked : edge g v w ≡ 0
-
--- the check 16, and the join
-abbrev pub addUnlinked : DegreeTable → List ℕ → ℕ → ℕ → AddAnswer
-addUnlinked t g v w =
-    unless (ltb (jdm (vertices t) (vertexClass t) (edge g) (vertexClass t v) (vertexClass t w)) (t .cells (vertexClass t v) (vertexClass t w)))
-    (Refused (refusal CellNotShort (min (vertexClass t v) (vertexClass t w)) (max (vertexClass t v) (vertexClass t w))))
-    (Added (joinSwitches (vertices t) (vertexClass t) g v w))
 
 -- the matrix afterwards
 abbrev pub addedAdjacency : AddAnswer → DegreeTable → List ℕ → ℕ → ℕ → List ℕ
