@@ -9,7 +9,7 @@ use native.Mathlib.Omega.{arith}
 use lib.Dec.{eqb}
 use lib.ListN.{length, getD}
 use Rattle.finite.specs.Range.{foldTo, δ}
-use Rattle.graph.specs.Graph.{size}
+use Rattle.graph.specs.Graph.{timesCounted, size}
 use Rattle.graph.specs.Tests.{leastClass, mostClasses, classDegree}
 use Rattle.table.specs.Inner.Cells.{matrixOf}
 use Rattle.finite.proofs.Delta.{δ-other}
@@ -46,7 +46,7 @@ module _ (n : ℕ) (starts : List ℕ) (numbered : Numbered n starts) where
   ranged k l kC lC = record { first = kC; second = lC; rows = range k kC; columns = range l lC }
 
 -- a state of the work, and a cell of it
-module _ {n : ℕ} {cells starts held : List ℕ} {room : ℕ} {s : Ran} (p : Working n cells starts held room s)
+module _ {n : ℕ} {cells starts degrees : List ℕ} {room : ℕ} {s : Ran} (p : Working n cells starts degrees room s)
     (k l : ℕ) (kC : k < mostClasses) (lC : l < mostClasses) where
   pub countable : Countable (s .adjacency) cells (cellIn starts k l)
   countable =
@@ -72,28 +72,28 @@ module _ {n : ℕ} {cells starts held : List ℕ} {room : ℕ} {s : Ran} (p : Wo
   -- m: what the cell misses, by the sum of its block
   module _ (m : ℕ)
       (e : m ≡ (matrixOf cells k l - blockSum (edge (s .adjacency)) (getD starts k 0) (getD starts (k + 1) 0) (getD starts l 0) (getD starts (l + 1) 0))
-      / cond (eqb k l) 2 1) where
+      / timesCounted k l) where
     missing-count : m ≡ cellMissing n (classFrom starts) (matrixOf cells) (s .adjacency) k l
     missing-count = rw (← (block-cell (p .arranged .numbered) (edge (s .adjacency)) k l kC lC)) e
 
-    pub fillable : Fillable n (classFrom starts) (cellIn starts k l) m room s held
+    pub fillable : Fillable n (classFrom starts) (cellIn starts k l) m room s degrees
     fillable =
         record {
           table = matrixOf cells;
           is-valid = p .is-valid;
           missing = omega (arith, missing-count);
           ranged = ranged n starts (p .arranged .numbered) k l kC lC;
-          degrees-held = p .degrees-held;
+          degrees-right = p .degrees-right;
         }
 
     pub cell-filled : (r : Ran) → r ≡ foldTo m (λ i. cellStep n (classFrom starts) k l) s → r ≡ fillCell n (classFrom starts) (matrixOf cells) k l s
     cell-filled r er = er ∙ ap (λ (i : ℕ). foldTo i (λ i. cellStep n (classFrom starts) k l) s) missing-count
 
 -- the work goes on from any run that is valid
-module _ {n : ℕ} {cells starts held : List ℕ} {room : ℕ} {s : Ran} (p : Working n cells starts held room s) where
+module _ {n : ℕ} {cells starts degrees : List ℕ} {room : ℕ} {s : Ran} (p : Working n cells starts degrees room s) where
   pub working : (x : Ran) → ValidRun n (classFrom starts) (matrixOf cells) room x → (h : List ℕ) → h ≡ degreesOf n (x .adjacency)
       → {left : ℕ} → left ≡ room → Working n cells starts h left x
-  working x v h e er = record { arranged = p .arranged; is-valid = rw er v; degrees-held = e }
+  working x v h e er = record { arranged = p .arranged; is-valid = rw er v; degrees-right = e }
 
   pub working-sized : (x : Ran) → ValidRun n (classFrom starts) (matrixOf cells) room x → length (x .adjacency) ≡ length (s .adjacency)
   working-sized x v = v .filling .sized ∙ sym (p .is-valid .filling .sized)

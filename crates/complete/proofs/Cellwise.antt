@@ -13,16 +13,17 @@ use borrow.Author.Tests.{lt-ltb, le-ltb, eq-eqb, ne-eqb}
 use Rattle.finite.specs.Range.{foldTo}
 use Rattle.finite.proofs.Lowest.{lowest-only}
 use Rattle.finite.proofs.Fold.{iterate-next}
-use Rattle.graph.specs.Graph.{jdm, edges}
+use Rattle.graph.specs.Graph.{jdm, timesCounted, edges}
 use Rattle.graph.specs.Tests.{leastClass, mostClasses}
 use Rattle.graph.proofs.Edge.{atEdge-cell}
 use Rattle.graph.proofs.Necessary.{necessary-always}
 use Rattle.graph.specs.Theorems.{allCells}
 use Rattle.graph.proofs.Completion.{cells-twice}
+use Rattle.graph.specs.Target.{isShort}
 use Rattle.finite.proofs.Sum.{sumTo-mono₂}
 use Rattle.adjacency.specs.Adjacency.{edge}
 use Rattle.joining.specs.Join.{joinBytes}
-use Rattle.complete.specs.Choice.{shortCell, shortL, shortK, openW, openV}
+use Rattle.complete.specs.Choice.{shortL, shortK, openW, openV}
 use Rattle.complete.specs.Complete.{Ran, next, isIncomplete, run}
 use Rattle.complete.specs.Inner.Cellwise.{cellStep, cellMissing, fillCell, fillRow, fillAll, Filling}
 use Rattle.complete.proofs.Chosen.{Chosen, chosen, Stepped, stepped}
@@ -45,19 +46,16 @@ module _ (n : ℕ) (cls : ℕ → ℕ) (T : ℕ → ℕ → ℕ) where
     where
       here : shortL n cls T g k ≡ l
       here =
-          lowest-only k mostClasses (shortCell n cls T g k) (omega arith) l kl lC (lt-ltb (jdm n cls (edge g) k l) (T k l) h)
+          lowest-only k mostClasses (isShort n cls T (edge g) k) (omega arith) l kl lC (lt-ltb (jdm n cls (edge g) k l) (T k l) h)
           (λ j kj jl. le-ltb (jdm n cls (edge g) k j) (T k j) (before k j k1 kj (omega arith) (λ e. jl) (omega arith)))
 
       earlier : (i : ℕ) → leastClass ≤ i → i < k → ltb (shortL n cls T g i) mostClasses ≡ false
       earlier i i1 ik = full-row n cls T g i (omega arith) (λ j ij jC. before i j i1 ij jC (λ e. absurd (omega arith)) (omega arith))
 
   -- a join adds 1 to its cell, or 2 on the diagonal
-  abbrev unit : ℕ → ℕ → ℕ
-  unit k l = cond (eqb k l) 2 1
-
   -- what a cell misses is a whole number of joins
   whole : (g : List ℕ) → Filling n cls T g → (k l : ℕ) → k < mostClasses → l < mostClasses
-      → jdm n cls (edge g) k l + cellMissing n cls T g k l * unit k l ≡ T k l
+      → jdm n cls (edge g) k l + cellMissing n cls T g k l * timesCounted k l ≡ T k l
   whole g f k l kC lC = go (ℕ-discrete k l)
     where
       have : ℕ
@@ -66,15 +64,15 @@ module _ (n : ℕ) (cls : ℕ → ℕ) (T : ℕ → ℕ → ℕ) where
       within : have ≤ T k l
       within = f .partial .within k l kC lC
 
-      go : Dec (k ≡ l) → have + (T k l - have) / unit k l * unit k l ≡ T k l
+      go : Dec (k ≡ l) → have + (T k l - have) / timesCounted k l * timesCounted k l ≡ T k l
       go (yes e) =
           let even-T : T k l % 2 ≡ 0 = rw (← e) (f .target .even k kC) in
           let even : have % 2 ≡ 0 = rw (← e) (necessary-always n mostClasses cls (edge g) (f .partial .simple) (f .target .classed) .even k) in
           rw (eq-eqb k l e) (omega (arith, within))
       go (no e) = rw (ne-eqb k l e) (omega (arith, within))
 
-  unit-pos : (k l : ℕ) → 1 ≤ unit k l
-  unit-pos k l = go (eqb k l)
+  counted-pos : (k l : ℕ) → 1 ≤ timesCounted k l
+  counted-pos k l = go (eqb k l)
     where
       go : (t : Bool) → 1 ≤ cond t 2 1
       go true = omega arith
@@ -84,7 +82,7 @@ module _ (n : ℕ) (cls : ℕ → ℕ) (T : ℕ → ℕ → ℕ) where
   module _ (s : Ran) (f : Filling n cls T (s .adjacency)) (k l : ℕ) (kC : k < mostClasses) (lC : l < mostClasses) where
     -- the cell's count after them
     abbrev Count : ℕ → Type 0
-    Count i = jdm n cls (edge (foldTo i (λ i. cellStep n cls k l) s .adjacency)) k l ≡ jdm n cls (edge (s .adjacency)) k l + i * unit k l
+    Count i = jdm n cls (edge (foldTo i (λ i. cellStep n cls k l) s .adjacency)) k l ≡ jdm n cls (edge (s .adjacency)) k l + i * timesCounted k l
 
     count-short : (i : ℕ) → i < cellMissing n cls T (s .adjacency) k l → Count i
         → jdm n cls (edge (foldTo i (λ i. cellStep n cls k l) s .adjacency)) k l < T k l
@@ -93,9 +91,9 @@ module _ (n : ℕ) (cls : ℕ → ℕ) (T : ℕ → ℕ → ℕ) where
           arith,
           e,
           whole (s .adjacency) f k l kC lC,
-          mul-le-mul-right (unit k l) h,
-          suc-mul i (unit k l),
-          unit-pos k l,
+          mul-le-mul-right (timesCounted k l) h,
+          suc-mul i (timesCounted k l),
+          counted-pos k l,
         )
 
     pub part-filling : (i : ℕ) → i ≤ cellMissing n cls T (s .adjacency) k l
@@ -216,7 +214,7 @@ module _ (n : ℕ) (cls : ℕ → ℕ) (T : ℕ → ℕ → ℕ) where
         r : Filled (fillCell n cls T k l s) k l
         r = part-filled s k l k1 kl lC f m (omega arith)
 
-        count : jdm n cls (edge g′) k l ≡ jdm n cls (edge (s .adjacency)) k l + m * unit k l
+        count : jdm n cls (edge g′) k l ≡ jdm n cls (edge (s .adjacency)) k l + m * timesCounted k l
         count = part-filling s (f .progress .filling) k l (omega arith) lC m (omega arith) .1
 
         go : (i j : ℕ) → leastClass ≤ i → i ≤ j → j < mostClasses → (i ≡ k → j < l + 1) → i ≤ k → Dec (i ≡ k) → Dec (j ≡ l)

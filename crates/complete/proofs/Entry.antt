@@ -10,7 +10,7 @@ use native.Mathlib.Omega.{arith}
 use lib.Dec.{leb}
 use lib.ListN.{length}
 use borrow.Author.Tests.{leb-true, le-leb, lt-leb}
-use Rattle.answer.specs.Refusals.{refusal}
+use Rattle.answer.specs.Refusals.{refuse}
 use Rattle.answer.specs.declared.Cause.the-variants.{OutputTooShort}
 use Rattle.answer.specs.declared.Refusal.{Refusal}
 use Rattle.answer.specs.declared.Verdict.the-variants.{Go}
@@ -23,7 +23,7 @@ use Rattle.graph.specs.Tests.{mostClasses, rowSum, Table, classDegree}
 use Rattle.graph.proofs.Complete.{complete-is-exact}
 use Rattle.graph.proofs.Passes.{Passed, passes-passed}
 use Rattle.graph.proofs.Realizability.{has-table, has-isolated}
-use Rattle.journal.specs.Journal.{jdmOf, tableOf, isolatedOf}
+use Rattle.journal.specs.Journal.{phaseLaid, jdmOf, isolatedOf, tableOf}
 use Rattle.journal.proofs.Table.{jdm-table}
 use Rattle.adjacency.specs.Adjacency.{edge}
 use Rattle.state.specs.State.{State, withMatrix}
@@ -59,7 +59,7 @@ module _ (s : State) where
     pub completed-facts : (m joins switches n : ℕ) → ranAnswer r s m ≡ Completed joins switches n → CompletedFacts m joins switches n
     completed-facts m joins switches n e =
         let no = refused-not-completed joins switches n in
-        let p = unless-stopped-passed (phaseVerdict 1 s) Refused _ (Completed joins switches n) no e in
+        let p = unless-stopped-passed (phaseVerdict phaseLaid s) Refused _ (Completed joins switches n) no e in
         let h = unless-passed (leb (joinRecordSize * missing s) m) _ _ (Completed joins switches n) (no _) (p .1) in
         record {
           facts = laid-passed s (p .0);
@@ -74,14 +74,14 @@ module _ (s : State) where
       pub laid-roomy : joinRecordSize * missing s ≤ m → ranLaid r s m ≡ Completed (r .joins) (r .switches) (length (r .records))
       laid-roomy h = rw (le-leb (joinRecordSize * missing s) m h)
 
-      pub laid-short : m < joinRecordSize * missing s → ranLaid r s m ≡ Refused (refusal OutputTooShort 0 0)
+      pub laid-short : m < joinRecordSize * missing s → ranLaid r s m ≡ Refused (refuse OutputTooShort 0 0)
       laid-short h = rw (lt-leb (joinRecordSize * missing s) m h)
 
       pub facts-completed : ValidLaid s → joinRecordSize * missing s ≤ m
           → ranAnswer r s m ≡ Completed (r .joins) (r .switches) (length (r .records))
       facts-completed f h = rw (laid-goes s f) (laid-roomy h)
 
-      pub short-refused : ValidLaid s → m < joinRecordSize * missing s → ranAnswer r s m ≡ Refused (refusal OutputTooShort 0 0)
+      pub short-refused : ValidLaid s → m < joinRecordSize * missing s → ranAnswer r s m ≡ Refused (refuse OutputTooShort 0 0)
       short-refused f h = rw (laid-goes s f) (laid-short h)
 
   -- a valid laid state is where a run may begin

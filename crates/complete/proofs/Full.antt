@@ -12,15 +12,16 @@ use Rattle.finite.proofs.Fold.{iterate-stop}
 use Rattle.finite.proofs.Lowest.{lowest-none}
 use Rattle.graph.specs.Graph.{jdm}
 use Rattle.graph.specs.Tests.{leastClass, mostClasses}
+use Rattle.graph.specs.Target.{isShort}
 use Rattle.adjacency.specs.Adjacency.{edge}
-use Rattle.complete.specs.Choice.{shortCell, shortL}
+use Rattle.complete.specs.Choice.{shortL}
 use Rattle.complete.proofs.Works.{Chooser, short}
 
 -- a row whose cells are full from the diagonal on has no short one
 pub full-row : (n : ℕ) (cls : ℕ → ℕ) (T : ℕ → ℕ → ℕ) (g : List ℕ) (i : ℕ) → i < mostClasses
     → ((j : ℕ) → i ≤ j → j < mostClasses → T i j ≤ jdm n cls (edge g) i j) → ltb (shortL n cls T g i) mostClasses ≡ false
 full-row n cls T g i iC full =
-    rw (lowest-none i mostClasses (shortCell n cls T g i) (omega arith) (λ j ij jC. le-ltb (jdm n cls (edge g) i j) (T i j) (full j ij jC)))
+    rw (lowest-none i mostClasses (isShort n cls T (edge g) i) (omega arith) (λ j ij jC. le-ltb (jdm n cls (edge g) i j) (T i j) (full j ij jC)))
     (le-ltb mostClasses mostClasses (omega arith))
 
 -- whichever pairs are chosen

@@ -37,7 +37,7 @@ start-resumes n cls g c r =
     before-rows u h e = omega (arith, r .rows .only u (omega (arith, r .rows .ordered, r .rows .within)) e)
 
 -- x: the state after i of the joins
-module _ {n : ℕ} {cls : ℕ → ℕ} {c : Cell} {m room : ℕ} {s : Ran} {held₀ : List ℕ} (p : Fillable n cls c m room s held₀)
+module _ {n : ℕ} {cls : ℕ → ℕ} {c : Cell} {m room : ℕ} {s : Ran} {degrees₀ : List ℕ} (p : Fillable n cls c m room s degrees₀)
     (i : ℕ) (x : Ran) (e : x ≡ foldTo i (λ i. cellStep n cls (c .k) (c .l)) s) where
   fill-valid : i ≤ m → ValidRun n cls (p .table) room x
   fill-valid h = rw e (part-valid n cls (p .table) room s (p .is-valid) (c .k) (c .l) (p .ranged .first) (p .ranged .second) i (omega (arith, p .missing)))
@@ -45,9 +45,9 @@ module _ {n : ℕ} {cls : ℕ → ℕ} {c : Cell} {m room : ℕ} {s : Ran} {held
   pub fill-sized : i ≤ m → length (x .adjacency) ≡ length (s .adjacency)
   fill-sized h = fill-valid h .filling .sized ∙ sym (p .is-valid .filling .sized)
 
-  pub fill-steppable : i < m → (u : Cursor) (held : List ℕ) → Resumes n cls (x .adjacency) c u → held ≡ degreesOf n (x .adjacency)
-      → {left : ℕ} → left ≡ room → Steppable n cls c u left x held
-  fill-steppable h u held r d er =
+  pub fill-steppable : i < m → (u : Cursor) (degrees : List ℕ) → Resumes n cls (x .adjacency) c u → degrees ≡ degreesOf n (x .adjacency)
+      → {left : ℕ} → left ≡ room → Steppable n cls c u left x degrees
+  fill-steppable h u degrees r d er =
       record {
         table = p .table;
         is-valid = rw er (fill-valid (omega arith));
@@ -55,5 +55,5 @@ module _ {n : ℕ} {cls : ℕ → ℕ} {c : Cell} {m room : ℕ} {s : Ran} {held
             rw e (part-short n cls (p .table) s (p .is-valid .filling) (c .k) (c .l) (p .ranged .first) (p .ranged .second) i (omega (arith, p .missing)));
         ranged = p .ranged;
         resumes = r;
-        degrees-held = d;
+        degrees-right = d;
       }

@@ -21,7 +21,7 @@ use Rattle.graph.specs.Tests.{mostClasses, classDegree}
 use Rattle.graph.proofs.Resume.{join-degree}
 use Rattle.layout.specs.Layout.{mostVertices}
 use Rattle.adjacency.specs.Adjacency.{edge}
-use Rattle.adjacency.proofs.Degrees.{held-is}
+use Rattle.adjacency.proofs.Degrees.{degrees-are}
 use Rattle.joining.specs.Join.{joinBytes, joinSwitches}
 use Rattle.classes.specs.Inner.Block.{classFrom}
 use Rattle.adjacency.specs.Inner.Degrees.{degreesOf}
@@ -43,16 +43,16 @@ use Rattle.complete.proofs.Cursor.{rows-after, columns-after}
 use Rattle.complete.proofs.Search.{Found, found, searchable}
 
 -- the search in the array of degrees passes over saturated vertices only
-pub low-saturated : (n : ℕ) (cls : ℕ → ℕ) (g held : List ℕ) (k from to low r : ℕ) → n ≤ mostVertices → ClassRange n cls k from to
-    → held ≡ degreesOf n g → low ≤ to → Saturated n cls g k low → r ≡ lowest low to (λ i. ltb (getD held i 0) (classDegree k)) → Saturated n cls g k r
-low-saturated n cls g held k from to low r few range eh lt sat er i ir ik = go (decLt i low)
+pub low-saturated : (n : ℕ) (cls : ℕ → ℕ) (g degrees : List ℕ) (k from to low r : ℕ) → n ≤ mostVertices → ClassRange n cls k from to
+    → degrees ≡ degreesOf n g → low ≤ to → Saturated n cls g k low → r ≡ lowest low to (λ i. ltb (getD degrees i 0) (classDegree k)) → Saturated n cls g k r
+low-saturated n cls g degrees k from to low r few range eh lt sat er i ir ik = go (decLt i low)
   where
     go : Dec (i < low) → unsaturated n cls classDegree (edge g) i ≡ false
     go (yes p) = sat i p ik
     go (no p) =
-        let passed = lowest-before low to (λ i. ltb (getD held i 0) (classDegree k)) lt i (omega arith) (omega arith) in
-        let i-to : i < to = omega (arith, lowest-le low to (λ i. ltb (getD held i 0) (classDegree k)) lt) in
-        rw ik (rw (held-is n few g eh i (omega (arith, range .within))) at passed)
+        let passed = lowest-before low to (λ i. ltb (getD degrees i 0) (classDegree k)) lt i (omega arith) (omega arith) in
+        let i-to : i < to = omega (arith, lowest-le low to (λ i. ltb (getD degrees i 0) (classDegree k)) lt) in
+        rw ik (rw (degrees-are n few g eh i (omega (arith, range .within))) at passed)
 
 -- over a join no vertex loses edges, so saturated vertices stay so
 pub saturated-stays : (n : ℕ) (cls : ℕ → ℕ) (T : ℕ → ℕ → ℕ) (g : List ℕ) → Filling n cls T g → (v w : ℕ) → Open n cls T (edge g) v w
@@ -68,7 +68,7 @@ saturated-stays n cls T g f v w pair k low ln sat i h e =
           (omega arith),
     ))
 
-module _ {n : ℕ} {cls : ℕ → ℕ} {c : Cell} {u : Cursor} {room : ℕ} {s : Ran} {held : List ℕ} (p : Steppable n cls c u room s held) where
+module _ {n : ℕ} {cls : ℕ → ℕ} {c : Cell} {u : Cursor} {room : ℕ} {s : Ran} {degrees : List ℕ} (p : Steppable n cls c u room s degrees) where
   abbrev g : List ℕ
   g = s .adjacency
 
@@ -138,23 +138,23 @@ module _ {n : ℕ} {cls : ℕ → ℕ} {c : Cell} {u : Cursor} {room : ℕ} {s :
       step-ran out out′ g′ er es eo eg =
           joined-ran n cls s v w ex out out′ g′ (omega (arith, step-room, er)) es eo eg ∙ ap₂ (joined n cls s) pair-row pair-column
 
-    module _ (x y : ℕ) (ex : x ≡ lowest (u .low .v) (c .rows .to) (λ i. ltb (getD held i 0) (classDegree (c .k))))
-        (ey : y ≡ lowest (u .low .w) (c .columns .to) (λ i. ltb (getD held i 0) (classDegree (c .l)))) where
+    module _ (x y : ℕ) (ex : x ≡ lowest (u .low .v) (c .rows .to) (λ i. ltb (getD degrees i 0) (classDegree (c .k))))
+        (ey : y ≡ lowest (u .low .w) (c .columns .to) (λ i. ltb (getD degrees i 0) (classDegree (c .l)))) where
       rows-saturated : Saturated n cls g k x
       rows-saturated =
-          low-saturated n cls g held k (c .rows .from) (c .rows .to) (u .low .v) x (filling .few) (p .ranged .rows) (p .degrees-held)
+          low-saturated n cls g degrees k (c .rows .from) (c .rows .to) (u .low .v) x (filling .few) (p .ranged .rows) (p .degrees-right)
           (p .resumes .low-row) (p .resumes .saturated-rows) ex
 
       columns-saturated : Saturated n cls g l y
       columns-saturated =
-          low-saturated n cls g held l (c .columns .from) (c .columns .to) (u .low .w) y (filling .few) (p .ranged .columns) (p .degrees-held)
+          low-saturated n cls g degrees l (c .columns .from) (c .columns .to) (u .low .w) y (filling .few) (p .ranged .columns) (p .degrees-right)
           (p .resumes .low-column) (p .resumes .saturated-columns) ey
 
       low-row-le : x ≤ c .rows .to
-      low-row-le = omega (arith, lowest-le (u .low .v) (c .rows .to) (λ i. ltb (getD held i 0) (classDegree k)) (p .resumes .low-row))
+      low-row-le = omega (arith, lowest-le (u .low .v) (c .rows .to) (λ i. ltb (getD degrees i 0) (classDegree k)) (p .resumes .low-row))
 
       low-column-le : y ≤ c .columns .to
-      low-column-le = omega (arith, lowest-le (u .low .w) (c .columns .to) (λ i. ltb (getD held i 0) (classDegree l)) (p .resumes .low-column))
+      low-column-le = omega (arith, lowest-le (u .low .w) (c .columns .to) (λ i. ltb (getD degrees i 0) (classDegree l)) (p .resumes .low-column))
 
       low-row-most : x ≤ n
       low-row-most = omega (arith, low-row-le, p .ranged .rows .within)
@@ -164,11 +164,11 @@ module _ {n : ℕ} {cls : ℕ → ℕ} {c : Cell} {u : Cursor} {room : ℕ} {s :
 
       row-low : c .rows .from ≤ x
       row-low =
-          omega (arith, p .resumes .row-low, lowest-ge (u .low .v) (c .rows .to) (λ i. ltb (getD held i 0) (classDegree k)) (p .resumes .low-row))
+          omega (arith, p .resumes .row-low, lowest-ge (u .low .v) (c .rows .to) (λ i. ltb (getD degrees i 0) (classDegree k)) (p .resumes .low-row))
 
       column-low : c .columns .from ≤ y
       column-low =
-          omega (arith, p .resumes .column-low, lowest-ge (u .low .w) (c .columns .to) (λ i. ltb (getD held i 0) (classDegree l)) (p .resumes .low-column))
+          omega (arith, p .resumes .column-low, lowest-ge (u .low .w) (c .columns .to) (λ i. ltb (getD degrees i 0) (classDegree l)) (p .resumes .low-column))
 
       -- the cursor moved on: b is the column where the row's search goes on
       pub step-resumes : (h : List ℕ) (f b : ℕ) → h ≡ joinBytes n cls g v w → f ≡ freed n cls g v w → b ≡ min f (w + 1)
@@ -189,12 +189,12 @@ module _ {n : ℕ} {cls : ℕ → ℕ} {c : Cell} {u : Cursor} {room : ℕ} {s :
           })
 
 -- both ends of the pair, with the classes as the starts have them
-module _ {n : ℕ} {starts : List ℕ} {c : Cell} {u : Cursor} {room : ℕ} {s : Ran} {held : List ℕ}
-    (p : Steppable n (classFrom starts) c u room s held)
+module _ {n : ℕ} {starts : List ℕ} {c : Cell} {u : Cursor} {room : ℕ} {s : Ran} {degrees : List ℕ}
+    (p : Steppable n (classFrom starts) c u room s degrees)
     (o : CellOf n starts c) (v w : ℕ) (ev : v ≡ lowest (u .at .v) (c .rows .to) (hasColumn (s .adjacency) c))
     (ew : v < c .rows .to → w ≡ lowestColumn (s .adjacency) c v)
-    (x y : ℕ) (ex : x ≡ lowest (u .low .v) (c .rows .to) (λ i. ltb (getD held i 0) (classDegree (c .k))))
-    (ey : y ≡ lowest (u .low .w) (c .columns .to) (λ i. ltb (getD held i 0) (classDegree (c .l)))) where
+    (x y : ℕ) (ex : x ≡ lowest (u .low .v) (c .rows .to) (λ i. ltb (getD degrees i 0) (classDegree (c .k))))
+    (ey : y ≡ lowest (u .low .w) (c .columns .to) (λ i. ltb (getD degrees i 0) (classDegree (c .l)))) where
   pub row-placed : Placed n starts (s .adjacency) (record { at = v; class = c .k; low = x }) w
   row-placed =
       record {

@@ -16,6 +16,7 @@ use Rattle.table.specs.Inner.Cells.{matrixOf}
 use Rattle.layout.specs.Layout.{mostVertices, wanted}
 use Rattle.layout.specs.Inner.Arrays.{countIn, tableIn}
 use Rattle.layout.proofs.Counted.{counted-total}
+use Rattle.journal.specs.Journal.{phaseLaid}
 use Rattle.adjacency.specs.Adjacency.{edge}
 use Rattle.adjacency.specs.Inner.Degrees.{degreesOf}
 use Rattle.adjacency.proofs.Facts.{ZeroOutside}
@@ -38,7 +39,7 @@ use Rattle.complete.proofs.Works.{few-edges, completes}
 use Rattle.complete.proofs.Entry.{CompleteWorks, facts-completed, missing-most}
 use Rattle.state.specs.Valid.{ValidLaid}
 
-module _ (s : State) {cells counts held : List ℕ} (passed : phaseVerdict 1 s ≡ Go) (o : Opened s cells counts held) where
+module _ (s : State) {cells counts degrees : List ℕ} (passed : phaseVerdict phaseLaid s ≡ Go) (o : Opened s cells counts degrees) where
   abbrev t : DegreeTable
   t = tableIn cells (countIn counts 0)
 
@@ -46,10 +47,10 @@ module _ (s : State) {cells counts held : List ℕ} (passed : phaseVerdict 1 s �
   g = s .adjacency
 
   facts : StateFacts s
-  facts = phase-facts 1 s passed .0
+  facts = phase-facts phaseLaid s passed .0
 
   pub laid : Laid s
-  laid = facts .laid (phase-facts 1 s passed .1)
+  laid = facts .laid (phase-facts phaseLaid s passed .1)
 
   pub vertices-few : vertices t ≤ mostVertices
   vertices-few = subst (λ (u : DegreeTable). vertices u ≤ mostVertices) (sym (o .said)) (laid .vertices-le)
@@ -83,7 +84,7 @@ module _ (s : State) {cells counts held : List ℕ} (passed : phaseVerdict 1 s �
     pub missing-is : w - e ≡ missing s
     missing-is = ap₂ _-_ ew laid-edges ∙ ap (λ (u : DegreeTable). wanted (u .cells) - edges (vertices u) (edge g)) (o .said)
 
-  module _ {b : Start} (u : Started cells counts held b) where
+  module _ {b : Start} (u : Started cells counts degrees b) where
     pub lacks-missing : b .missing ≡ missing s
     lacks-missing = u .lacks ∙ missing-is (u .total) refl (opened-edges s o laid (u .total) refl)
 
@@ -94,7 +95,7 @@ module _ (s : State) {cells counts held : List ℕ} (passed : phaseVerdict 1 s �
     classed-filling : Filling n (classFrom starts) (matrixOf cells) g
     classed-filling = rw (en, table-classes cells (o .counted) es) filling
 
-    pub working-start : (room : ℕ) → joinRecordSize * missing s ≤ room → Working n cells starts held room (fresh g)
+    pub working-start : (room : ℕ) → joinRecordSize * missing s ≤ room → Working n cells starts degrees room (fresh g)
     working-start room fits =
         record {
           arranged = record { few = omega (arith, vertices-few); numbered = rw en (table-numbered cells (o .counted) es) };
@@ -105,7 +106,7 @@ module _ (s : State) {cells counts held : List ℕ} (passed : phaseVerdict 1 s �
                 switches-le = omega arith;
                 records-fit = omega (arith, fits, cells-sum, missing-is en refl refl, wanted-enough en refl refl);
               };
-          degrees-held = o .degrees-held ∙ ap (λ (m : ℕ). degreesOf m g) (sym (en ∙ ap vertices (o .said)));
+          degrees-right = o .degrees-right ∙ ap (λ (m : ℕ). degreesOf m g) (sym (en ∙ ap vertices (o .said)));
         }
 
     pub working-end : (r : Ran) → r ≡ fillAll n (classFrom starts) (matrixOf cells) (fresh g) → r ≡ completed s

@@ -15,7 +15,7 @@ use Rattle.finite.proofs.Delta.{δ-sym}
 use Rattle.finite.proofs.Sum.{sumTo-term, sumTo-mono, sumTo-cong, sumTo-scale, sumTo-swap, sumTo-const, sumTo-at}
 use Rattle.finite.proofs.Lowest.{lowest-ge, lowest-before, lowest-holds}
 use Rattle.graph.specs.Graph.{jdm, edges, size}
-use Rattle.graph.specs.Target.{Target, Open}
+use Rattle.graph.specs.Target.{Target, Open, isShort}
 use Rattle.graph.specs.Tests.{leastClass, mostDegree, mostClasses, classDegree}
 use Rattle.graph.proofs.Necessary.{necessary-always}
 use Rattle.graph.specs.Theorems.{Rule, allCells, Ended}
@@ -24,7 +24,7 @@ use Rattle.layout.specs.Layout.{mostVertices}
 use Rattle.adjacency.specs.Adjacency.{edge}
 use Rattle.adjacency.proofs.Facts.{ZeroOutside}
 use Rattle.joining.proofs.Bytes.{join-bytes, join-outside}
-use Rattle.complete.specs.Choice.{shortCell, shortL, shortK, openW, openV}
+use Rattle.complete.specs.Choice.{shortL, shortK, openW, openV}
 use Rattle.complete.specs.Complete.{Ran, fresh, joined, next, isIncomplete, run, mostEdges}
 use Rattle.complete.specs.Inner.Cellwise.{Filling}
 use Rattle.complete.proofs.Chosen.{chosen, opened}
@@ -81,7 +81,7 @@ module _ (n : ℕ) (cls : ℕ → ℕ) (T : ℕ → ℕ → ℕ) where
           at (yes k1) =
               let row = lowest-before leastClass mostClasses (λ i. ltb (shortL n cls T g i) mostClasses) (omega arith) k k1
               (omega (arith, ltb-false (shortK n cls T g) mostClasses e)) in
-              let cell = lowest-before k mostClasses (shortCell n cls T g k) (omega arith) l kl
+              let cell = lowest-before k mostClasses (isShort n cls T (edge g) k) (omega arith) l kl
               (omega (arith, ltb-false (shortL n cls T g k) mostClasses row)) in
               omega (arith, ltb-false (jdm n cls (edge g) k l) (T k l) cell, f .partial .within k l kC lC)
           at (no k0) =
@@ -99,7 +99,7 @@ module _ (n : ℕ) (cls : ℕ → ℕ) (T : ℕ → ℕ → ℕ) where
   pub short-cell : (g : List ℕ) → ltb (shortK n cls T g) mostClasses ≡ true
       → (shortK n cls T g < mostClasses) × (shortL n cls T g (shortK n cls T g) < mostClasses)
       × (jdm n cls (edge g) (shortK n cls T g) (shortL n cls T g (shortK n cls T g)) < T (shortK n cls T g) (shortL n cls T g (shortK n cls T g)))
-  short-cell g e = (kC, lC, ltb-true (jdm n cls (edge g) k l) (T k l) (lowest-holds k mostClasses (shortCell n cls T g k) (omega (arith, kC)) lC))
+  short-cell g e = (kC, lC, ltb-true (jdm n cls (edge g) k l) (T k l) (lowest-holds k mostClasses (isShort n cls T (edge g) k) (omega (arith, kC)) lC))
     where
       k : ℕ
       k = shortK n cls T g
@@ -136,7 +136,7 @@ module _ (n : ℕ) (cls : ℕ → ℕ) (T : ℕ → ℕ → ℕ) where
       let l = shortL n cls T g k in
       let h = short-cell g e in
       let c = chosen n cls T g (good .0) k l (h .0) (h .1) (h .2) in
-      go (nextV s) (nextW s) k l (c .row) (c .column) (c .above) (lowest-ge k mostClasses (shortCell n cls T g k) (omega (arith, h .0))) (decLt (nextV s) (nextW s))
+      go (nextV s) (nextW s) k l (c .row) (c .column) (c .above) (lowest-ge k mostClasses (isShort n cls T (edge g) k) (omega (arith, h .0))) (decLt (nextV s) (nextW s))
     where
       go : (v w k l : ℕ) → cls v ≡ k → cls w ≡ l → (k ≡ l → v < w) → k ≤ l → Dec (v < w) → v < w
       go v w k l ev ew above kl (yes p) = p

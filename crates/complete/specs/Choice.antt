@@ -6,17 +6,13 @@ use mathlib.Core.List.{List}
 use Prim.Native.Nat.{ℕ}
 use lib.Dec.{eqb, ltb}
 use Rattle.finite.specs.Range.{lowest}
-use Rattle.graph.specs.Graph.{jdm}
+use Rattle.graph.specs.Target.{isShort}
 use Rattle.graph.specs.Tests.{leastClass, mostClasses}
 use Rattle.adjacency.specs.Adjacency.{edge}
 
--- cell (k, l) is below the table
-abbrev pub shortCell : ℕ → (ℕ → ℕ) → (ℕ → ℕ → ℕ) → List ℕ → ℕ → ℕ → Bool
-shortCell n cls T g k l = ltb (jdm n cls (edge g) k l) (T k l)
-
 -- the lowest l from k on with (k, l) short, and the lowest k that has one; past the classes where there is none
 abbrev pub shortL : ℕ → (ℕ → ℕ) → (ℕ → ℕ → ℕ) → List ℕ → ℕ → ℕ
-shortL n cls T g k = lowest k mostClasses (shortCell n cls T g k)
+shortL n cls T g k = lowest k mostClasses (isShort n cls T (edge g) k)
 
 abbrev pub shortK : ℕ → (ℕ → ℕ) → (ℕ → ℕ → ℕ) → List ℕ → ℕ
 shortK n cls T g = lowest leastClass mostClasses (λ k. ltb (shortL n cls T g k) mostClasses)

@@ -3,19 +3,18 @@
 use mathlib.Core.Bool.{Bool}
 use mathlib.Core.List.{List, [], _++_}
 use Prim.Native.Nat.{ℕ, _+_, _-_, _*_, _/_}
-use lib.Dec.{ltb, leb}
+use lib.Dec.{ltb}
 use lib.ListN.{length}
 use lib.Seq.{sets}
 use Rattle.finite.specs.Range.{iterate}
-use Rattle.answer.specs.Refusals.{refusal, unless, unlessStopped}
+use Rattle.answer.specs.Refusals.{unlessTooShort, unlessStopped}
 use Rattle.answer.specs.Switches.{switchCount}
-use Rattle.answer.specs.declared.Cause.the-variants.{OutputTooShort}
 use Rattle.answer.specs.declared.CompleteAnswer.{CompleteAnswer}
 use Rattle.answer.specs.declared.CompleteAnswer.the-variants.{Completed, Refused}
 use Rattle.graph.specs.Graph.{edges}
 use Rattle.graph.specs.Tests.{mostDegree, mostClasses}
 use Rattle.layout.specs.Layout.{mostVertices, wanted}
-use Rattle.journal.specs.Journal.{jdmOf}
+use Rattle.journal.specs.Journal.{phaseLaid, jdmOf}
 use Rattle.adjacency.specs.Adjacency.{edge}
 use Rattle.state.specs.State.{State, withMatrix}
 use Rattle.state.specs.Checks.{phaseVerdict}
@@ -78,12 +77,12 @@ missing s = wanted (jdmOf (s .journal)) - edges (vertexCount s) (edge (s .adjace
 -- anything is joined
 abbrev pub ranLaid : Ran → State → ℕ → CompleteAnswer
 ranLaid r s m =
-    unless (leb (joinRecordSize * missing s) m) (Refused (refusal OutputTooShort 0 0))
+    unlessTooShort (joinRecordSize * missing s) m Refused
     (Completed (r .joins) (r .switches) (length (r .records)))
 
 -- the checks 1, 2, 3, then 18
 abbrev pub ranAnswer : Ran → State → ℕ → CompleteAnswer
-ranAnswer r s m = unlessStopped (phaseVerdict 1 s) Refused (ranLaid r s m)
+ranAnswer r s m = unlessStopped (phaseVerdict phaseLaid s) Refused (ranLaid r s m)
 
 -- the state afterwards
 abbrev pub afterRan : CompleteAnswer → Ran → State → State

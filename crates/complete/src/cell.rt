@@ -42,13 +42,13 @@ pub struct Step {
 }
 
 // The lowest vertex of from, .., to - 1 with fewer than k edges; to where there is none.
-pub fn advance(held: &[usize; MAX_VERTICES], from: usize, to: usize, k: usize) -> usize
+pub fn advance(degrees: &[usize; MAX_VERTICES], from: usize, to: usize, k: usize) -> usize
     requires { ⌜ to ≤ side ⌝ }
-    ensures { λ r. ⌜ r ≡ lowest from to (λ i. ltb (getD (now (held .entry)) i 0) k) ⌝ }
+    ensures { λ r. ⌜ r ≡ lowest from to (λ i. ltb (getD (now (degrees .entry)) i 0) k) ⌝ }
 {
     let mut i = from;
     while i < to {
-        if held[i] < k {
+        if degrees[i] < k {
             return i;
         }
         i += 1;
@@ -73,21 +73,21 @@ pub fn record_join(output: &mut [u8], totals: Totals, v: usize, w: usize, made: 
 fn cell_step(
     adjacency: &mut [u8],
     output: &mut [u8],
-    held: &mut [usize; MAX_VERTICES],
+    degrees: &mut [usize; MAX_VERTICES],
     starts: &[usize; STARTS],
     n: usize,
     cell: Cell,
     cursor: Cursor,
     totals: Totals,
 ) -> Step
-    requires { ⌜ Steppable n (classFrom (now starts)) cell cursor (length (now output)) (ran (now adjacency) (now output) totals) (now held) × CellOf n (now starts) cell ⌝ }
+    requires { ⌜ Steppable n (classFrom (now starts)) cell cursor (length (now output)) (ran (now adjacency) (now output) totals) (now degrees) × CellOf n (now starts) cell ⌝ }
     ensures { λ r. ⌜ (ran (now (adjacency .exit)) (now (output .exit)) (r .totals) ≡ cellStep n (classFrom (now (starts .entry))) (cell .k) (cell .l) (ran (now (adjacency .entry)) (now (output .entry)) totals)) × Resumes n (classFrom (now (starts .entry))) (now (adjacency .exit)) cell (r .cursor) ⌝ }
     ensures { λ r. ⌜ WroteRecords (totals .joins) (r .totals .joins) (now (output .entry)) (now (output .exit)) ⌝ }
-    ensures { λ _. ⌜ now (held .exit) ≡ degreesOf n (now (adjacency .exit)) ⌝ }
+    ensures { λ _. ⌜ now (degrees .exit) ≡ degreesOf n (now (adjacency .exit)) ⌝ }
 {
     let pair = open_pair(adjacency, cell, cursor.at.v, cursor.at.w);
-    let v = advance(held, cursor.low.v, cell.rows.to, class_degree(cell.k));
-    let w = advance(held, cursor.low.w, cell.columns.to, class_degree(cell.l));
+    let v = advance(degrees, cursor.low.v, cell.rows.to, class_degree(cell.k));
+    let w = advance(degrees, cursor.low.w, cell.columns.to, class_degree(cell.l));
     let row = End {
         at: pair.v,
         class: cell.k,
@@ -98,7 +98,7 @@ fn cell_step(
         class: cell.l,
         low: w,
     };
-    let done = joining::join(adjacency, held, starts, n, row, column);
+    let done = joining::join(adjacency, degrees, starts, n, row, column);
     let made = done.switches;
     let sum = record_join(output, totals, pair.v, pair.w, made);
     let next = least(done.freed, pair.w + 1);
@@ -115,17 +115,17 @@ fn cell_step(
 pub fn fill_steps(
     adjacency: &mut [u8],
     output: &mut [u8],
-    held: &mut [usize; MAX_VERTICES],
+    degrees: &mut [usize; MAX_VERTICES],
     starts: &[usize; STARTS],
     n: usize,
     cell: Cell,
     m: usize,
     totals: Totals,
 ) -> Totals
-    requires { ⌜ Fillable n (classFrom (now starts)) cell m (length (now output)) (ran (now adjacency) (now output) totals) (now held) × CellOf n (now starts) cell ⌝ }
+    requires { ⌜ Fillable n (classFrom (now starts)) cell m (length (now output)) (ran (now adjacency) (now output) totals) (now degrees) × CellOf n (now starts) cell ⌝ }
     ensures { λ r. ⌜ ran (now (adjacency .exit)) (now (output .exit)) r ≡ foldTo m (λ i. cellStep n (classFrom (now (starts .entry))) (cell .k) (cell .l)) (ran (now (adjacency .entry)) (now (output .entry)) totals) ⌝ }
     ensures { λ r. ⌜ WroteRecords (totals .joins) (r .joins) (now (output .entry)) (now (output .exit)) ⌝ }
-    ensures { λ _. ⌜ now (held .exit) ≡ degreesOf n (now (adjacency .exit)) ⌝ }
+    ensures { λ _. ⌜ now (degrees .exit) ≡ degreesOf n (now (adjacency .exit)) ⌝ }
 {
     let mut cursor = Cursor {
         at: Pair {
@@ -139,7 +139,7 @@ pub fn fill_steps(
     };
     let mut sum = totals;
     for _ in 0..m {
-        let step = cell_step(adjacency, output, held, starts, n, cell, cursor, sum);
+        let step = cell_step(adjacency, output, degrees, starts, n, cell, cursor, sum);
         cursor = step.cursor;
         sum = step.totals;
     }

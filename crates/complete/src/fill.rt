@@ -1,9 +1,8 @@
 // Filling cell by cell: each gets the joins that it misses.
 ghost use mathlib.Core.Path.{_≡_};
-ghost use mathlib.Core.Bool.{cond};
 ghost use Prim.Native.Nat.{_+_, _-_, _/_, _<_};
-ghost use lib.Dec.{eqb};
 ghost use lib.ListN.{length};
+ghost use Rattle.graph.specs.Graph.{timesCounted};
 ghost use Rattle.graph.specs.Tests.{mostClasses};
 ghost use Rattle.table.specs.Inner.Cells.{matrixOf};
 ghost use Rattle.adjacency.specs.Adjacency.{adjacencySize, edge};
@@ -22,6 +21,7 @@ use table::cells::CELLS;
 use table::cells::cell;
 use table::class::LEAST_CLASS;
 use table::class::MAX_CLASSES;
+use table::class::times_counted;
 
 // Cell (k, l) between the starts of its classes.
 fn cell_at(starts: &[usize; STARTS], k: usize, l: usize) -> Cell
@@ -42,20 +42,10 @@ fn cell_at(starts: &[usize; STARTS], k: usize, l: usize) -> Cell
     }
 }
 
-// What a join adds to cell (k, l).
-pub fn unit(k: usize, l: usize) -> usize
-    ensures { λ r. ⌜ (r ≡ cond (eqb k l) 2 1) × (0 < r) ⌝ }
-{
-    if k == l {
-        return 2;
-    }
-    1
-}
-
 // The joins that a cell misses.
 fn missing(adjacency: &[u8], cells: &[u32; CELLS], c: Cell) -> usize
     requires { ⌜ (length (now adjacency) ≡ adjacencySize) × Countable (now adjacency) (now cells) c ⌝ }
-    ensures { λ r. ⌜ r ≡ (matrixOf (now (cells .entry)) (c .k) (c .l) - blockSum (edge (now (adjacency .entry))) (c .rows .from) (c .rows .to) (c .columns .from) (c .columns .to)) / cond (eqb (c .k) (c .l)) 2 1 ⌝ }
+    ensures { λ r. ⌜ r ≡ (matrixOf (now (cells .entry)) (c .k) (c .l) - blockSum (edge (now (adjacency .entry))) (c .rows .from) (c .rows .to) (c .columns .from) (c .columns .to)) / timesCounted (c .k) (c .l) ⌝ }
 {
     let want = cell(cells, c.k, c.l);
     if want == 0 {
@@ -68,14 +58,14 @@ fn missing(adjacency: &[u8], cells: &[u32; CELLS], c: Cell) -> usize
         c.columns.from,
         c.columns.to,
     );
-    (want - have) / unit(c.k, c.l)
+    (want - have) / times_counted(c.k, c.l)
 }
 
 // Cell (k, l) filled.
 fn fill_cell(
     adjacency: &mut [u8],
     output: &mut [u8],
-    held: &mut [usize; MAX_VERTICES],
+    degrees: &mut [usize; MAX_VERTICES],
     cells: &[u32; CELLS],
     starts: &[usize; STARTS],
     n: usize,
@@ -83,38 +73,38 @@ fn fill_cell(
     l: usize,
     totals: Totals,
 ) -> Totals
-    requires { ⌜ Working n (now cells) (now starts) (now held) (length (now output)) (ran (now adjacency) (now output) totals) × (k < mostClasses) × (l < mostClasses) ⌝ }
+    requires { ⌜ Working n (now cells) (now starts) (now degrees) (length (now output)) (ran (now adjacency) (now output) totals) × (k < mostClasses) × (l < mostClasses) ⌝ }
     ensures { λ r. ⌜ ran (now (adjacency .exit)) (now (output .exit)) r ≡ fillCell n (classFrom (now (starts .entry))) (matrixOf (now (cells .entry))) k l (ran (now (adjacency .entry)) (now (output .entry)) totals) ⌝ }
     ensures { λ r. ⌜ WroteRecords (totals .joins) (r .joins) (now (output .entry)) (now (output .exit)) ⌝ }
-    ensures { λ _. ⌜ now (held .exit) ≡ degreesOf n (now (adjacency .exit)) ⌝ }
+    ensures { λ _. ⌜ now (degrees .exit) ≡ degreesOf n (now (adjacency .exit)) ⌝ }
 {
     let c = cell_at(starts, k, l);
     let m = missing(adjacency, cells, c);
-    fill_steps(adjacency, output, held, starts, n, c, m, totals)
+    fill_steps(adjacency, output, degrees, starts, n, c, m, totals)
 }
 
 // The cells of row k, from the diagonal on. A class without vertices has none to fill.
 fn fill_row(
     adjacency: &mut [u8],
     output: &mut [u8],
-    held: &mut [usize; MAX_VERTICES],
+    degrees: &mut [usize; MAX_VERTICES],
     cells: &[u32; CELLS],
     starts: &[usize; STARTS],
     n: usize,
     k: usize,
     totals: Totals,
 ) -> Totals
-    requires { ⌜ Working n (now cells) (now starts) (now held) (length (now output)) (ran (now adjacency) (now output) totals) × (k < mostClasses) ⌝ }
+    requires { ⌜ Working n (now cells) (now starts) (now degrees) (length (now output)) (ran (now adjacency) (now output) totals) × (k < mostClasses) ⌝ }
     ensures { λ r. ⌜ ran (now (adjacency .exit)) (now (output .exit)) r ≡ fillRow n (classFrom (now (starts .entry))) (matrixOf (now (cells .entry))) k (ran (now (adjacency .entry)) (now (output .entry)) totals) ⌝ }
     ensures { λ r. ⌜ WroteRecords (totals .joins) (r .joins) (now (output .entry)) (now (output .exit)) ⌝ }
-    ensures { λ _. ⌜ now (held .exit) ≡ degreesOf n (now (adjacency .exit)) ⌝ }
+    ensures { λ _. ⌜ now (degrees .exit) ≡ degreesOf n (now (adjacency .exit)) ⌝ }
 {
     if starts[k] == starts[k + 1] {
         return totals;
     }
     let mut sum = totals;
     for i in 0..MAX_CLASSES - k {
-        sum = fill_cell(adjacency, output, held, cells, starts, n, k, k + i, sum);
+        sum = fill_cell(adjacency, output, degrees, cells, starts, n, k, k + i, sum);
     }
     sum
 }
@@ -123,13 +113,13 @@ fn fill_row(
 pub fn fill_all(
     adjacency: &mut [u8],
     output: &mut [u8],
-    held: &mut [usize; MAX_VERTICES],
+    degrees: &mut [usize; MAX_VERTICES],
     cells: &[u32; CELLS],
     starts: &[usize; STARTS],
     n: usize,
     totals: Totals,
 ) -> Totals
-    requires { ⌜ Working n (now cells) (now starts) (now held) (length (now output)) (ran (now adjacency) (now output) totals) ⌝ }
+    requires { ⌜ Working n (now cells) (now starts) (now degrees) (length (now output)) (ran (now adjacency) (now output) totals) ⌝ }
     ensures { λ r. ⌜ ran (now (adjacency .exit)) (now (output .exit)) r ≡ fillAll n (classFrom (now (starts .entry))) (matrixOf (now (cells .entry))) (ran (now (adjacency .entry)) (now (output .entry)) totals) ⌝ }
     ensures { λ r. ⌜ WroteRecords (totals .joins) (r .joins) (now (output .entry)) (now (output .exit)) ⌝ }
 {
@@ -138,7 +128,7 @@ pub fn fill_all(
         sum = fill_row(
             adjacency,
             output,
-            held,
+            degrees,
             cells,
             starts,
             n,

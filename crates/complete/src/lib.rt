@@ -3,6 +3,7 @@
 ghost use mathlib.Core.Path.{_≡_};
 ghost use lib.ListN.{length};
 ghost use Rattle.answer.specs.declared.Verdict.the-variants.{Go};
+ghost use Rattle.journal.specs.Journal.{phaseLaid};
 ghost use Rattle.state.specs.State.{stateOf};
 ghost use Rattle.state.specs.Checks.{phaseVerdict};
 ghost use Rattle.state.specs.Inner.Opened.{laidFront, Opened};
@@ -33,15 +34,15 @@ fn complete_laid(
     adjacency: &mut [u8],
     cells: &[u32; CELLS],
     counts: &[usize; MAX_CLASSES],
-    held: &mut [usize; MAX_VERTICES],
+    degrees: &mut [usize; MAX_VERTICES],
     output: &mut [u8],
 ) -> CompleteAnswer
-    requires { ⌜ (phaseVerdict 1 (stateOf (now journal) (now adjacency)) ≡ Go) × Opened (stateOf (now journal) (now adjacency)) (now cells) (now counts) (now held) ⌝ }
+    requires { ⌜ (phaseVerdict phaseLaid (stateOf (now journal) (now adjacency)) ≡ Go) × Opened (stateOf (now journal) (now adjacency)) (now cells) (now counts) (now degrees) ⌝ }
     ensures { λ r. ⌜ r ≡ completeAnswer (stateOf (now (journal .entry)) (now (adjacency .entry))) (length (now (output .entry))) ⌝ }
     ensures { λ _. ⌜ now (adjacency .exit) ≡ completeAfter (stateOf (now (journal .entry)) (now (adjacency .entry))) (length (now (output .entry))) .adjacency ⌝ }
     ensures { λ _. ⌜ now (output .exit) ≡ completeOutput (stateOf (now (journal .entry)) (now (adjacency .entry))) (now (output .entry)) ⌝ }
 {
-    let begun = begin(cells, counts, held);
+    let begun = begin(cells, counts, degrees);
     if output.len() < JOIN_RECORD_BYTES * begun.missing {
         return CompleteAnswer::Refused(refuse(Cause::OutputTooShort, 0, 0));
     }
@@ -50,7 +51,7 @@ fn complete_laid(
         joins: 0,
         switches: 0,
     };
-    let done = fill_all(adjacency, output, held, cells, &starts, begun.n, none);
+    let done = fill_all(adjacency, output, degrees, cells, &starts, begun.n, none);
     CompleteAnswer::Completed(done.joins, done.switches, JOIN_RECORD_BYTES * done.joins)
 }
 
@@ -63,11 +64,11 @@ fn complete_checked(journal: &[u8], adjacency: &mut [u8], output: &mut [u8]) -> 
 {
     let mut cells = [0u32; CELLS];
     let mut counts = [0usize; MAX_CLASSES];
-    let mut held = [0usize; MAX_VERTICES];
-    if !open(journal, adjacency, &mut cells, &mut counts, &mut held) {
+    let mut degrees = [0usize; MAX_VERTICES];
+    if !open(journal, adjacency, &mut cells, &mut counts, &mut degrees) {
         return CompleteAnswer::Refused(refuse(Cause::InvalidState, 0, 0));
     }
-    complete_laid(journal, adjacency, &cells, &counts, &mut held, output)
+    complete_laid(journal, adjacency, &cells, &counts, &mut degrees, output)
 }
 
 pub fn complete(journal: &[u8], adjacency: &mut [u8], output: &mut [u8]) -> CompleteAnswer

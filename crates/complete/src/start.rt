@@ -1,6 +1,6 @@
 // What the work on a valid laid state begins with, whichever pairs it joins.
 ghost use Rattle.complete.specs.Inner.Work.{OpenArrays, Started};
-use adjacency::edges_held;
+use adjacency::edge_total;
 use layout::MAX_VERTICES;
 use layout::edges_wanted;
 use layout::vertex_count;
@@ -16,12 +16,12 @@ pub struct Start {
 pub fn begin(
     cells: &[u32; CELLS],
     counts: &[usize; MAX_CLASSES],
-    held: &[usize; MAX_VERTICES],
+    degrees: &[usize; MAX_VERTICES],
 ) -> Start
-    requires { ⌜ OpenArrays (now cells) (now counts) (now held) ⌝ }
-    ensures { λ r. ⌜ Started (now (cells .entry)) (now (counts .entry)) (now (held .entry)) r ⌝ }
+    requires { ⌜ OpenArrays (now cells) (now counts) (now degrees) ⌝ }
+    ensures { λ r. ⌜ Started (now (cells .entry)) (now (counts .entry)) (now (degrees .entry)) r ⌝ }
 {
     let n = vertex_count(cells, counts);
-    let missing = edges_wanted(counts) - edges_held(held, n);
+    let missing = edges_wanted(counts) - edge_total(degrees, n);
     Start { n, missing }
 }

@@ -43,7 +43,7 @@ begin-lows g a =
           ));
     }
 
-module _ {n : ℕ} {cells starts g held : List ℕ} {room : ℕ} (classes : List ℕ) (p : Working n cells starts held room (fresh g)) (c : ClassArray n starts classes) where
+module _ {n : ℕ} {cells starts g degrees : List ℕ} {room : ℕ} (classes : List ℕ) (p : Working n cells starts degrees room (fresh g)) (c : ClassArray n starts classes) where
   pub begin-countable : Countable n cells starts g
   begin-countable =
       record {
@@ -57,9 +57,9 @@ module _ {n : ℕ} {cells starts g held : List ℕ} {room : ℕ} (classes : List
   begin-classed v vn = rw (c v vn) (p .is-valid .filling .target .classed v vn)
 
   -- the cells are counted, then all rows
-  pub begin-shuffling : {have full counts sums : List ℕ} → Counted cellsSize n cells starts g have full
-      → counts ≡ refreshRange n classes g full 0 n (replicate side 0) → Summed counts sums
-      → Shuffling n cells starts classes g have full counts sums starts held room (fresh g)
+  pub begin-shuffling : {have full pairs sums : List ℕ} → Counted cellsSize n cells starts g have full
+      → pairs ≡ refreshRange n classes g full 0 n (replicate side 0) → Summed pairs sums
+      → Shuffling n cells starts classes g have full pairs sums starts degrees room (fresh g)
   begin-shuffling {have} {full} counted ec summed =
       record {
         tracked =
@@ -76,5 +76,5 @@ module _ {n : ℕ} {cells starts g held : List ℕ} {room : ℕ} (classes : List
             };
         lows = begin-lows g (p .arranged);
         is-valid = p .is-valid;
-        degrees-held = p .degrees-held;
+        degrees-right = p .degrees-right;
       }

@@ -19,7 +19,7 @@ use Rattle.complete.proofs.Cellwise.{edges-within}
 use Rattle.complete.proofs.Chosen.{Stepped, opened}
 use Rattle.complete.proofs.Works.{stops}
 use Rattle.complete_shuffled.specs.Choice.{nextX, pairV, pairW, position}
-use Rattle.complete_shuffled.specs.Shuffle.{Shuffled, nextShuffled, isShort, runShuffled}
+use Rattle.complete_shuffled.specs.Shuffle.{Shuffled, nextShuffled, incompleteShuffled, runShuffled}
 use Rattle.complete_shuffled.proofs.Picked.{picked, position-below, passes-open}
 
 module _ (n : ℕ) (cls : ℕ → ℕ) (T : ℕ → ℕ → ℕ) where
@@ -42,34 +42,34 @@ module _ (n : ℕ) (cls : ℕ → ℕ) (T : ℕ → ℕ → ℕ) where
     w = pairW n cls T (s .ran .adjacency) (position n cls T (s .ran .adjacency) (nextX (s .x))) v
 
     -- a join adds an edge
-    after : isShort n cls T s ≡ true → Stepped n cls T (s .ran .adjacency) (nextShuffled n cls T s .ran .adjacency) (cls v) (cls w)
+    after : incompleteShuffled n cls T s ≡ true → Stepped n cls T (s .ran .adjacency) (nextShuffled n cls T s .ran .adjacency) (cls v) (cls w)
     after e =
         let g = s .ran .adjacency in
         let p = picked n cls T g (position n cls T g (nextX (s .x))) (position-below n cls T g f e (nextX (s .x))) in
         opened n cls T g f v w (passes-open n cls T g v w (p .second) (p .passes))
 
-    pub next-more : isShort n cls T s ≡ true → edges n (edge (nextShuffled n cls T s .ran .adjacency)) ≡ edges n (edge (s .ran .adjacency)) + 1
+    pub next-more : incompleteShuffled n cls T s ≡ true → edges n (edge (nextShuffled n cls T s .ran .adjacency)) ≡ edges n (edge (s .ran .adjacency)) + 1
     next-more e = after e .one-more
 
     -- a cell is short exactly while edges are missing
-    pub still-short : edges n (edge (s .ran .adjacency)) < wanted T → isShort n cls T s ≡ true
-    still-short h = go (isShort n cls T s) refl
+    pub still-short : edges n (edge (s .ran .adjacency)) < wanted T → incompleteShuffled n cls T s ≡ true
+    still-short h = go (incompleteShuffled n cls T s) refl
       where
-        go : (b : Bool) → isShort n cls T s ≡ b → b ≡ true
+        go : (b : Bool) → incompleteShuffled n cls T s ≡ b → b ≡ true
         go true e = refl
         go false e = absurd (omega (arith, stopped (s .ran) f e))
 
-    pub not-short : edges n (edge (s .ran .adjacency)) ≡ wanted T → isShort n cls T s ≡ false
-    not-short h = go (isShort n cls T s) refl
+    pub not-short : edges n (edge (s .ran .adjacency)) ≡ wanted T → incompleteShuffled n cls T s ≡ false
+    not-short h = go (incompleteShuffled n cls T s) refl
       where
-        go : (b : Bool) → isShort n cls T s ≡ b → b ≡ false
+        go : (b : Bool) → incompleteShuffled n cls T s ≡ b → b ≡ false
         go false e = refl
         go true e = absurd (omega (arith, after e .one-more, edges-within n cls T (nextShuffled n cls T s .ran .adjacency) (after e .filling)))
 
   -- s is on the way: what is left of the run goes on from it
-  pub run-next : (i : ℕ) (s : Shuffled) {r : Shuffled} → i < mostEdges → isShort n cls T s ≡ true → runShuffled (mostEdges - i) n cls T s ≡ r
+  pub run-next : (i : ℕ) (s : Shuffled) {r : Shuffled} → i < mostEdges → incompleteShuffled n cls T s ≡ true → runShuffled (mostEdges - i) n cls T s ≡ r
       → runShuffled (mostEdges - (i + 1)) n cls T (nextShuffled n cls T s) ≡ r
-  run-next i s h e way = sym (iterate-next mostEdges i (isShort n cls T) (nextShuffled n cls T) s h e) ∙ way
+  run-next i s h e way = sym (iterate-next mostEdges i (incompleteShuffled n cls T) (nextShuffled n cls T) s h e) ∙ way
 
-  pub run-stop : (i : ℕ) (s : Shuffled) {r : Shuffled} → isShort n cls T s ≡ false → runShuffled (mostEdges - i) n cls T s ≡ r → s ≡ r
-  run-stop i s e way = sym (iterate-stop (mostEdges - i) 0 (isShort n cls T) (nextShuffled n cls T) s e) ∙ way
+  pub run-stop : (i : ℕ) (s : Shuffled) {r : Shuffled} → incompleteShuffled n cls T s ≡ false → runShuffled (mostEdges - i) n cls T s ≡ r → s ≡ r
+  run-stop i s e way = sym (iterate-stop (mostEdges - i) 0 (incompleteShuffled n cls T) (nextShuffled n cls T) s e) ∙ way

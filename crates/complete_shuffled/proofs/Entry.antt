@@ -13,6 +13,7 @@ use Rattle.graph.specs.Tests.{vertices, vertexClass}
 use Rattle.table.specs.Inner.Cells.{matrixOf}
 use Rattle.layout.specs.Layout.{mostVertices}
 use Rattle.layout.specs.Inner.Arrays.{countIn, tableIn, classesOf}
+use Rattle.journal.specs.Journal.{phaseLaid}
 use Rattle.state.specs.State.{State}
 use Rattle.state.specs.Checks.{phaseVerdict}
 use Rattle.state.specs.Inner.Opened.{Opened}
@@ -28,15 +29,15 @@ use Rattle.complete_shuffled.specs.Inner.Track.{ClassArray, Lacks, begin
 use Rattle.complete_shuffled.proofs.Works.{shuffled-works}
 use Rattle.state.proofs.Checks.{laid-passed}
 
-module _ (s : State) {cells counts held : List ℕ} (passed : phaseVerdict 1 s ≡ Go) (o : Opened s cells counts held)
-    {b : Start} (u : Started cells counts held b) {starts : List ℕ} (es : starts ≡ startsOf counts) where
+module _ (s : State) {cells counts degrees : List ℕ} (passed : phaseVerdict phaseLaid s ≡ Go) (o : Opened s cells counts degrees)
+    {b : Start} (u : Started cells counts degrees b) {starts : List ℕ} (es : starts ≡ startsOf counts) where
   abbrev t : DegreeTable
   t = tableIn cells (countIn counts 0)
 
   abbrev g : List ℕ
   g = s .adjacency
 
-  pub begin-working : (room : ℕ) → joinRecordSize * missing s ≤ room → Working (b .n) cells starts held room (fresh (s .adjacency))
+  pub begin-working : (room : ℕ) → joinRecordSize * missing s ≤ room → Working (b .n) cells starts degrees room (fresh (s .adjacency))
   begin-working = working-start s passed o (u .total) es
 
   pub begin-classes : {classes : List ℕ} → classes ≡ classesOf (tableIn cells (countIn counts 0)) → ClassArray (b .n) starts classes

@@ -33,7 +33,7 @@ use Rattle.open_pairs.proofs.Marked.{marked-length, marked-inside, marked-outsi
 use Rattle.open_pairs.proofs.Refreshed.{Right, row-else, range-else, switches-else, range-length, row-right, range-right, switches-right}
 use Rattle.complete.specs.Inner.Cellwise.{Filling}
 use Rattle.complete.proofs.Chosen.{Stepped, opened}
-use Rattle.complete_shuffled.specs.Inner.Track.{cellPlace, cellHas, Counted, Tracked, hasNow, haveAfter, isFullNow, flagsAfter, countsAfter}
+use Rattle.complete_shuffled.specs.Inner.Track.{cellPlace, cellHas, Counted, Tracked, hasNow, haveAfter, isFullNow, flagsAfter, pairsAfter}
 
 -- a row whose bytes and flags above v are the same has as many free columns
 free-same : (n k v : ℕ) (g g′ full full′ : List ℕ)
@@ -52,7 +52,7 @@ behind-switch n z h None e = omega arith
 behind-switch n z h (One x) e = behind-one n z h x e
 behind-switch n z h (Two x y) e = (behind-one n z h x (e .0), behind-one n z h y (e .1))
 
-module _ {n : ℕ} {cells starts classes g have full counts sums : List ℕ} (t : Tracked n cells starts classes g have full counts sums)
+module _ {n : ℕ} {cells starts classes g have full pairs sums : List ℕ} (t : Tracked n cells starts classes g have full pairs sums)
     (f : Filling n (classFrom starts) (matrixOf cells) g) (v w : ℕ) (vw : v < w) (pair : Open n (classFrom starts) (matrixOf cells) (edge g) v w) where
   abbrev cls : ℕ → ℕ
   cls = classFrom starts
@@ -209,7 +209,7 @@ module _ {n : ℕ} {cells starts classes g have full counts sums : List ℕ} (t 
     above : (x : ℕ) → z < x → x < n → edge g′ z x ≡ edge g z x
     above x zx xn = join-apart joinable vw z x zx xn zv apart
 
-    still : (b : Bool) → (b ≡ true → getD classes z 0 ≢ k) → Right n classes g′ (cond b (markFull k from to full) full) z counts
+    still : (b : Bool) → (b ≡ true → getD classes z 0 ≢ k) → Right n classes g′ (cond b (markFull k from to full) full) z pairs
     still true other =
         t .rows z zn
         ∙ sym (free-same n (getD classes z 0) z g g′ full (markFull k from to full)
@@ -232,41 +232,41 @@ module _ {n : ℕ} {cells starts classes g have full counts sums : List ℕ} (t 
   high-most : high ≤ n
   high-most = start-most (t .arranged .numbered) (k + 1) (omega (arith, row-class))
 
-  in-counts : (z : ℕ) → z < n → z < length counts
-  in-counts z zn = omega (arith, t .summed .sized, f .few)
+  in-pairs : (z : ℕ) → z < n → z < length pairs
+  in-pairs z zn = omega (arith, t .summed .sized, f .few)
 
   rows-after : (b : Bool) (z : ℕ) → z < n
       → Right n classes g′ (cond b (markFull k from to full) full) z
-      (countsAfter n starts classes g′ (cond b (markFull k from to full) full) v k b moved counts)
+      (pairsAfter n starts classes g′ (cond b (markFull k from to full) full) v k b moved pairs)
   rows-after true z zn =
-      switches-right n classes g′ (markFull k from to full) z moved (refreshRange n classes g′ (markFull k from to full) low high counts)
-      (omega (arith, in-counts z zn, range-length n classes g′ (markFull k from to full) low high counts))
-      (λ apart. range-right n classes g′ (markFull k from to full) z low high counts (in-counts z zn)
+      switches-right n classes g′ (markFull k from to full) z moved (refreshRange n classes g′ (markFull k from to full) low high pairs)
+      (omega (arith, in-pairs z zn, range-length n classes g′ (markFull k from to full) low high pairs))
+      (λ apart. range-right n classes g′ (markFull k from to full) z low high pairs (in-pairs z zn)
       (λ outside. still z zn apart (λ e. outside (omega (arith, in-class, e)) (omega (arith, in-class, e))) true
       (λ e c. let is = class-only (t .arranged .numbered) k z row-class zn (sym (t .classed z zn) ∙ c) in outside (is .0) (is .1))))
   rows-after false z zn =
-      switches-right n classes g′ full z moved (refreshRow n classes g′ full v counts)
-      (omega (arith, in-counts z zn, length-set counts v (freeTo g′ full (getD classes v 0) v n)))
-      (λ apart. row-right n classes g′ full z v counts (in-counts z zn)
+      switches-right n classes g′ full z moved (refreshRow n classes g′ full v pairs)
+      (omega (arith, in-pairs z zn, length-set pairs v (freeTo g′ full (getD classes v 0) v n)))
+      (λ apart. row-right n classes g′ full z v pairs (in-pairs z zn)
       (λ zv. still z zn apart zv false (λ e. absurd (false≢true e))))
 
   behind-after : (b : Bool) (z : ℕ) → n ≤ z
-      → getD (countsAfter n starts classes g′ (cond b (markFull k from to full) full) v k b moved counts) z 0 ≡ 0
+      → getD (pairsAfter n starts classes g′ (cond b (markFull k from to full) full) v k b moved pairs) z 0 ≡ 0
   behind-after true z h =
-      switches-else n classes g′ (markFull k from to full) z moved (refreshRange n classes g′ (markFull k from to full) low high counts)
+      switches-else n classes g′ (markFull k from to full) z moved (refreshRange n classes g′ (markFull k from to full) low high pairs)
       (behind-switch n z h moved (switches-below joinable))
-      ∙ range-else n classes g′ (markFull k from to full) z low high counts (omega (arith, high-most))
+      ∙ range-else n classes g′ (markFull k from to full) z low high pairs (omega (arith, high-most))
       ∙ t .behind z h
   behind-after false z h =
-      switches-else n classes g′ full z moved (refreshRow n classes g′ full v counts) (behind-switch n z h moved (switches-below joinable))
-      ∙ row-else n classes g′ full z v counts (λ e. omega (arith, pair .first))
+      switches-else n classes g′ full z moved (refreshRow n classes g′ full v pairs) (behind-switch n z h moved (switches-below joinable))
+      ∙ row-else n classes g′ full z v pairs (λ e. omega (arith, pair .first))
       ∙ t .behind z h
 
   -- everything is counted after the join
-  pub tracked-after : {counts′ sums′ : List ℕ}
-      → counts′ ≡ countsAfter n starts classes g′ (flagsAfter cells starts k l have full) v k (isFullNow cells k l have) moved counts
-      → Summed counts′ sums′
-      → Tracked n cells starts classes g′ (haveAfter k l have) (flagsAfter cells starts k l have full) counts′ sums′
+  pub tracked-after : {pairs′ sums′ : List ℕ}
+      → pairs′ ≡ pairsAfter n starts classes g′ (flagsAfter cells starts k l have full) v k (isFullNow cells k l have) moved pairs
+      → Summed pairs′ sums′
+      → Tracked n cells starts classes g′ (haveAfter k l have) (flagsAfter cells starts k l have full) pairs′ sums′
   tracked-after e summed =
       record {
         arranged = t .arranged;

@@ -25,15 +25,15 @@ use Rattle.complete.specs.Inner.Work.{ran, withJoin, Recordable}
 use Rattle.complete.proofs.ValidRuns.{joined-valid, joined-room, join-recordable}
 use Rattle.complete.proofs.Output.{joined-ran}
 use Rattle.complete_shuffled.specs.Choice.{nextX, pairV, pairW, position, openCount}
-use Rattle.complete_shuffled.specs.Shuffle.{Shuffled, nextShuffled, isShort}
-use Rattle.complete_shuffled.specs.Inner.Track.{Tracked, Lows, hasNow, haveAfter, isFullNow, flagsAfter, countsAfter, Shuffling, shuffledAt}
+use Rattle.complete_shuffled.specs.Shuffle.{Shuffled, nextShuffled, incompleteShuffled}
+use Rattle.complete_shuffled.specs.Inner.Track.{Tracked, Lows, hasNow, haveAfter, isFullNow, flagsAfter, pairsAfter, Shuffling, shuffledAt}
 use Rattle.complete_shuffled.specs.declared.step.Shuffle.{Shuffle}
 use Rattle.complete_shuffled.proofs.Picked.{Picked, picked, some-open, position-below, passes-open, passes-rising}
 use Rattle.complete_shuffled.proofs.Following.{joinable, column-class, classes-rise, now-within, scannable-after, tracked-after}
 
-module _ {n : ℕ} {cells starts classes g have full counts sums low held : List ℕ} (out : List ℕ) (d : Shuffle)
-    (p : Shuffling n cells starts classes g have full counts sums low held (length out) (ran g out (d .totals)))
-    (e : isShort n (classFrom starts) (matrixOf cells) (shuffledAt g out d) ≡ true) where
+module _ {n : ℕ} {cells starts classes g have full pairs sums low degrees : List ℕ} (out : List ℕ) (d : Shuffle)
+    (p : Shuffling n cells starts classes g have full pairs sums low degrees (length out) (ran g out (d .totals)))
+    (e : incompleteShuffled n (classFrom starts) (matrixOf cells) (shuffledAt g out d) ≡ true) where
   pub step-some : 0 < openCount n (classFrom starts) (matrixOf cells) g
   step-some = some-open n (classFrom starts) (matrixOf cells) g (p .is-valid .filling) e
 
@@ -89,9 +89,9 @@ module _ {n : ℕ} {cells starts classes g have full counts sums low held : List
           )
 
       -- what is kept after it
-      step-tracked : {have′ full′ counts′ sums′ : List ℕ} → have′ ≡ haveAfter k l have → full′ ≡ flagsAfter cells starts k l have full
-          → counts′ ≡ countsAfter n starts classes g′ (flagsAfter cells starts k l have full) v k (isFullNow cells k l have) s counts
-          → Summed counts′ sums′ → Tracked n cells starts classes g′ have′ full′ counts′ sums′
+      step-tracked : {have′ full′ pairs′ sums′ : List ℕ} → have′ ≡ haveAfter k l have → full′ ≡ flagsAfter cells starts k l have full
+          → pairs′ ≡ pairsAfter n starts classes g′ (flagsAfter cells starts k l have full) v k (isFullNow cells k l have) s pairs
+          → Summed pairs′ sums′ → Tracked n cells starts classes g′ have′ full′ pairs′ sums′
       step-tracked eh ef ec summed =
           let ec′ = rw (eg, ek, el, es) at ec in
           rw (eg, eh, ef, ek, el) (tracked-after (p .tracked) (p .is-valid .filling) v w step-rises step-pair ec′ summed)
@@ -124,10 +124,10 @@ module _ {n : ℕ} {cells starts classes g have full counts sums low held : List
                 (nextShuffled n (classFrom starts) (matrixOf cells) (shuffledAt g out d))
             same = rw ex refl
 
-        pub step-shuffling : {have′ full′ counts′ sums′ low′ held′ : List ℕ} → have′ ≡ haveAfter k l have → full′ ≡ flagsAfter cells starts k l have full
-            → counts′ ≡ countsAfter n starts classes g′ (flagsAfter cells starts k l have full) v k (isFullNow cells k l have) s counts
-            → Summed counts′ sums′ → Lows n starts (joinBytes n (classFrom starts) g v w) low′ → held′ ≡ degreesOf n (joinBytes n (classFrom starts) g v w)
-            → Shuffling n cells starts classes g′ have′ full′ counts′ sums′ low′ held′ (length out) (ran g′ out′ (withJoin (d .totals) s))
+        pub step-shuffling : {have′ full′ pairs′ sums′ low′ degrees′ : List ℕ} → have′ ≡ haveAfter k l have → full′ ≡ flagsAfter cells starts k l have full
+            → pairs′ ≡ pairsAfter n starts classes g′ (flagsAfter cells starts k l have full) v k (isFullNow cells k l have) s pairs
+            → Summed pairs′ sums′ → Lows n starts (joinBytes n (classFrom starts) g v w) low′ → degrees′ ≡ degreesOf n (joinBytes n (classFrom starts) g v w)
+            → Shuffling n cells starts classes g′ have′ full′ pairs′ sums′ low′ degrees′ (length out) (ran g′ out′ (withJoin (d .totals) s))
         step-shuffling eh ef ec summed lows ed =
             record {
               tracked = step-tracked eh ef ec summed;
@@ -135,5 +135,5 @@ module _ {n : ℕ} {cells starts classes g have full counts sums low held : List
               is-valid =
                   rw step-ran
                   (joined-valid n (classFrom starts) (matrixOf cells) (length out) (ran g out (d .totals)) (p .is-valid) v w step-pair);
-              degrees-held = rw eg ed;
+              degrees-right = rw eg ed;
             }

@@ -16,12 +16,12 @@ use Rattle.finite.proofs.Seek.{sumTo-seek, bits-seek}
 use Rattle.finite.proofs.Lowest.{lowest-only, lowest-none}
 use Rattle.finite.proofs.All.{and-left, and-right, and-both}
 use Rattle.graph.specs.Graph.{jdm}
-use Rattle.graph.specs.Target.{Open}
+use Rattle.graph.specs.Target.{Open, isShort}
 use Rattle.graph.specs.Tests.{mostClasses, classDegree}
 use Rattle.graph.proofs.Necessary.{necessary-always}
 use Rattle.graph.proofs.OpenPair.{short-has-open-pair}
 use Rattle.adjacency.specs.Adjacency.{edge}
-use Rattle.complete.specs.Choice.{shortK, shortL, shortCell}
+use Rattle.complete.specs.Choice.{shortK, shortL}
 use Rattle.complete.specs.Inner.Cellwise.{Filling}
 use Rattle.complete.proofs.Works.{short-cell}
 use Rattle.complete_shuffled.specs.Choice.{isOpen, openInRow, openBefore, openCount, standsAt, pairW, pairV, position}
@@ -30,13 +30,13 @@ module _ (n : ℕ) (cls : ℕ → ℕ) (T : ℕ → ℕ → ℕ) (g : List ℕ) 
   -- an open pair, lower vertex first, passes the test, and what passes it is one
   pub open-passes : (v w : ℕ) → v < w → Open n cls T (edge g) v w → isOpen n cls T g v w ≡ true
   open-passes v w h o =
-      and-both (ltb v w && eqb (edge g v w) 0) (shortCell n cls T g (cls v) (cls w))
+      and-both (ltb v w && eqb (edge g v w) 0) (isShort n cls T (edge g) (cls v) (cls w))
       (and-both (ltb v w) (eqb (edge g v w) 0) (lt-ltb v w h) (eq-eqb (edge g v w) 0 (o .unlinked)))
       (lt-ltb (jdm n cls (edge g) (cls v) (cls w)) (T (cls v) (cls w)) (o .short))
 
   pub passes-rising : (v w : ℕ) → isOpen n cls T g v w ≡ true → v < w
   passes-rising v w e =
-      ltb-true v w (and-left (ltb v w) (eqb (edge g v w) 0) (and-left (ltb v w && eqb (edge g v w) 0) (shortCell n cls T g (cls v) (cls w)) e))
+      ltb-true v w (and-left (ltb v w) (eqb (edge g v w) 0) (and-left (ltb v w && eqb (edge g v w) 0) (isShort n cls T (edge g) (cls v) (cls w)) e))
 
   pub passes-open : (v w : ℕ) → w < n → isOpen n cls T g v w ≡ true → Open n cls T (edge g) v w
   passes-open v w wn e =
@@ -46,10 +46,10 @@ module _ (n : ℕ) (cls : ℕ → ℕ) (T : ℕ → ℕ → ℕ) (g : List ℕ) 
         distinct = λ d. omega (arith, passes-rising v w e);
         unlinked =
             eqb-true (edge g v w) 0
-            (and-right (ltb v w) (eqb (edge g v w) 0) (and-left (ltb v w && eqb (edge g v w) 0) (shortCell n cls T g (cls v) (cls w)) e));
+            (and-right (ltb v w) (eqb (edge g v w) 0) (and-left (ltb v w && eqb (edge g v w) 0) (isShort n cls T (edge g) (cls v) (cls w)) e));
         short =
             ltb-true (jdm n cls (edge g) (cls v) (cls w)) (T (cls v) (cls w))
-            (and-right (ltb v w && eqb (edge g v w) 0) (shortCell n cls T g (cls v) (cls w)) e);
+            (and-right (ltb v w && eqb (edge g v w) 0) (isShort n cls T (edge g) (cls v) (cls w)) e);
       }
 
   -- an open pair takes a place of its own among those of its row, and its row among the rows

@@ -30,7 +30,7 @@ short-not-full h t l = go (ℕ-discrete h t)
     go (yes e) = rw (eq-eqb h t e, le-ltb h t (omega arith))
     go (no d) = rw (ne-eqb h t d, lt-ltb h t (omega arith))
 
-module _ {n : ℕ} {cells starts classes g have full counts sums : List ℕ} (t : Tracked n cells starts classes g have full counts sums)
+module _ {n : ℕ} {cells starts classes g have full pairs sums : List ℕ} (t : Tracked n cells starts classes g have full pairs sums)
     (f : Filling n (classFrom starts) (matrixOf cells) g) where
   -- above v, a column is free where the pair is open
   free-open : (v w : ℕ) → v < w → w < n → isFree g full (classFrom starts v) v w ≡ isOpen n (classFrom starts) (matrixOf cells) g v w
@@ -57,26 +57,26 @@ module _ {n : ℕ} {cells starts classes g have full counts sums : List ℕ} (t 
       whole : w ≡ v + 1 + (w - (v + 1))
       whole = omega arith
 
-  row-count : (v : ℕ) → v < n → getD counts v 0 ≡ openInRow n (classFrom starts) (matrixOf cells) g v n
+  row-count : (v : ℕ) → v < n → getD pairs v 0 ≡ openInRow n (classFrom starts) (matrixOf cells) g v n
   row-count v vn = t .rows v vn ∙ ap (λ (k : ℕ). freeTo g full k v n) (t .classed v vn) ∙ free-row v n vn (omega arith)
 
-  rows-count : (v : ℕ) → v ≤ n → openTo counts v ≡ openBefore n (classFrom starts) (matrixOf cells) g v
+  rows-count : (v : ℕ) → v ≤ n → openTo pairs v ≡ openBefore n (classFrom starts) (matrixOf cells) g v
   rows-count v vn =
-      sumTo-cong v (λ i. getD counts i 0) (λ u. openInRow n (classFrom starts) (matrixOf cells) g u n) (λ u l. row-count u (omega arith))
+      sumTo-cong v (λ i. getD pairs i 0) (λ u. openInRow n (classFrom starts) (matrixOf cells) g u n) (λ u l. row-count u (omega arith))
 
   -- document 02's m
-  pub total-count : openTo counts side ≡ openCount n (classFrom starts) (matrixOf cells) g
+  pub total-count : openTo pairs side ≡ openCount n (classFrom starts) (matrixOf cells) g
   total-count =
-      ap (openTo counts) whole
-      ∙ sumTo-split n (side - n) (λ i. getD counts i 0)
-      ∙ ap₂ _+_ (rows-count n (omega arith)) (sumTo-zero (side - n) (λ i. getD counts (n + i) 0) (λ i l. t .behind (n + i) (omega arith)))
+      ap (openTo pairs) whole
+      ∙ sumTo-split n (side - n) (λ i. getD pairs i 0)
+      ∙ ap₂ _+_ (rows-count n (omega arith)) (sumTo-zero (side - n) (λ i. getD pairs (n + i) 0) (λ i l. t .behind (n + i) (omega arith)))
       ∙ add-zero _
     where
       whole : side ≡ n + (side - n)
       whole = omega (arith, f .few)
 
   -- v: the row in which position q falls, with r pairs of the row before it
-  module _ (q v r : ℕ) (before : openTo counts v + r ≡ q) (within : r < getD counts v 0) where
+  module _ (q v r : ℕ) (before : openTo pairs v + r ≡ q) (within : r < getD pairs v 0) where
     pub row-below : v < n
     row-below = go (decLt v n)
       where

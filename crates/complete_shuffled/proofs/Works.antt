@@ -15,7 +15,7 @@ use Rattle.complete.proofs.Works.{Good, Chooser, completes-by}
 use Rattle.complete.proofs.Records.{records-length}
 use Rattle.complete.proofs.Entry.{CompleteWorks, good-start, completed-works, complete-works}
 use Rattle.complete_shuffled.specs.Choice.{nextX, stepsX, pairV, pairW, position}
-use Rattle.complete_shuffled.specs.Shuffle.{Shuffled, nextShuffled, isShort, shuffled}
+use Rattle.complete_shuffled.specs.Shuffle.{Shuffled, nextShuffled, incompleteShuffled, shuffled}
 use Rattle.complete_shuffled.specs.Outcome.{outcome}
 use Rattle.complete_shuffled.proofs.Picked.{Picked, picked, position-below, passes-open, passes-rising}
 use Rattle.state.specs.Valid.{ValidLaid}
@@ -27,7 +27,7 @@ module _ (n : ℕ) (cls : ℕ → ℕ) (T : ℕ → ℕ → ℕ) where
   abbrev pub nextW : Shuffled → ℕ
   nextW s = pairW n cls T (s .ran .adjacency) (position n cls T (s .ran .adjacency) (nextX (s .x))) (nextV s)
 
-  pub next-picked : (s : Shuffled) → Good n cls T (s .ran) → isShort n cls T s ≡ true
+  pub next-picked : (s : Shuffled) → Good n cls T (s .ran) → incompleteShuffled n cls T s ≡ true
       → Picked n cls T (s .ran .adjacency) (position n cls T (s .ran .adjacency) (nextX (s .x)))
   next-picked s good e =
       picked n cls T (s .ran .adjacency) (position n cls T (s .ran .adjacency) (nextX (s .x)))
@@ -47,7 +47,7 @@ module _ (n : ℕ) (cls : ℕ → ℕ) (T : ℕ → ℕ → ℕ) where
       }
 
   -- it is named lower vertex first
-  pub shuffled-rises : (s : Shuffled) → Good n cls T (s .ran) → isShort n cls T s ≡ true → nextV s < nextW s
+  pub shuffled-rises : (s : Shuffled) → Good n cls T (s .ran) → incompleteShuffled n cls T s ≡ true → nextV s < nextW s
   shuffled-rises s good e = passes-rising n cls T (s .ran .adjacency) (nextV s) (nextW s) (next-picked s good e .passes)
 
 module _ (s : State) (x : ℕ) where
@@ -64,7 +64,7 @@ module _ (s : State) (x : ℕ) where
   -- the last x
   pub shuffled-last : shuffled s x .x ≡ stepsX (shuffled s x .ran .joins) x
   shuffled-last =
-      iterate-keeps (λ (r : Shuffled). r .x ≡ stepsX (r .ran .joins) x) (isShort (vertexCount s) (classAt s) (jdmOf (s .journal)))
+      iterate-keeps (λ (r : Shuffled). r .x ≡ stepsX (r .ran .joins) x) (incompleteShuffled (vertexCount s) (classAt s) (jdmOf (s .journal)))
       (nextShuffled (vertexCount s) (classAt s) (jdmOf (s .journal))) mostEdges (record { ran = fresh (s .adjacency); x = x })
       (sym (foldTo-none (λ i. nextX) x))
       (λ r h t. ap nextX h ∙ sym (foldTo-more (λ i. nextX) x (r .ran .joins)))

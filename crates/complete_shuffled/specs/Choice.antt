@@ -6,8 +6,8 @@ use mathlib.Core.List.{List}
 use Prim.Native.Nat.{ℕ, _+_, _*_, _/_, _%_}
 use lib.Dec.{eqb, ltb}
 use Rattle.finite.specs.Range.{bit, sumTo, lowest, foldTo}
+use Rattle.graph.specs.Target.{isShort}
 use Rattle.adjacency.specs.Adjacency.{edge}
-use Rattle.complete.specs.Choice.{shortCell}
 
 -- x steps to x × 1,664,525 + 1,013,904,223, keeping the low 32 bits
 abbrev pub nextX : ℕ → ℕ
@@ -19,7 +19,7 @@ stepsX m x = foldTo m (λ i. nextX) x
 
 -- v – w is an open pair
 abbrev pub isOpen : ℕ → (ℕ → ℕ) → (ℕ → ℕ → ℕ) → List ℕ → ℕ → ℕ → Bool
-isOpen n cls T g v w = ltb v w && eqb (edge g v w) 0 && shortCell n cls T g (cls v) (cls w)
+isOpen n cls T g v w = ltb v w && eqb (edge g v w) 0 && isShort n cls T (edge g) (cls v) (cls w)
 
 -- how many of the pairs of v with the vertices before w are open
 abbrev pub openInRow : ℕ → (ℕ → ℕ) → (ℕ → ℕ → ℕ) → List ℕ → ℕ → ℕ → ℕ

@@ -31,12 +31,12 @@ nextShuffled n cls T s =
     record { ran = joined n cls (s .ran) v (pairW n cls T g q v); x = x }
 
 -- some cell is short
-abbrev pub isShort : ℕ → (ℕ → ℕ) → (ℕ → ℕ → ℕ) → Shuffled → Bool
-isShort n cls T s = isIncomplete n cls T (s .ran)
+abbrev pub incompleteShuffled : ℕ → (ℕ → ℕ) → (ℕ → ℕ → ℕ) → Shuffled → Bool
+incompleteShuffled n cls T s = isIncomplete n cls T (s .ran)
 
 -- at most `fuel` joins, while a cell is short
 abbrev pub runShuffled : ℕ → ℕ → (ℕ → ℕ) → (ℕ → ℕ → ℕ) → Shuffled → Shuffled
-runShuffled fuel n cls T s = iterate fuel (isShort n cls T) (nextShuffled n cls T) s
+runShuffled fuel n cls T s = iterate fuel (incompleteShuffled n cls T) (nextShuffled n cls T) s
 
 -- a laid state completed, from x on
 abbrev pub shuffled : State → ℕ → Shuffled

@@ -26,7 +26,7 @@ const FLAGS: usize = MAX_CLASSES * SIDE;
 pub fn shuffle_cells(
     adjacency: &mut [u8],
     output: &mut [u8],
-    held: &mut [usize; MAX_VERTICES],
+    degrees: &mut [usize; MAX_VERTICES],
     cells: &[u32; CELLS],
     starts: &[usize; STARTS],
     classes: &[u8; MAX_VERTICES],
@@ -34,16 +34,16 @@ pub fn shuffle_cells(
     m: usize,
     x: u32,
 ) -> Shuffle
-    requires { ⌜ Working n (now cells) (now starts) (now held) (length (now output)) (fresh (now adjacency)) × ClassArray n (now starts) (now classes) × Lacks n (now cells) (now adjacency) m ⌝ }
+    requires { ⌜ Working n (now cells) (now starts) (now degrees) (length (now output)) (fresh (now adjacency)) × ClassArray n (now starts) (now classes) × Lacks n (now cells) (now adjacency) m ⌝ }
     ensures { λ r. ⌜ shuffledAt (now (adjacency .exit)) (now (output .exit)) r ≡ runShuffled mostEdges n (classFrom (now (starts .entry))) (matrixOf (now (cells .entry))) (begins (now (adjacency .entry)) x) ⌝ }
     ensures { λ r. ⌜ WroteRecords 0 (r .totals .joins) (now (output .entry)) (now (output .exit)) ⌝ }
 {
     let mut have = [0u32; CELLS];
     let mut full = [0u8; FLAGS];
-    let mut counts = [0usize; MAX_VERTICES];
+    let mut pairs = [0usize; MAX_VERTICES];
     let mut sums = [0usize; SUMS];
     count_cells(adjacency, cells, starts, &mut have, &mut full, n);
-    refresh_range(adjacency, &full, classes, &mut counts, &mut sums, n, 0, n);
+    refresh_range(adjacency, &full, classes, &mut pairs, &mut sums, n, 0, n);
     let mut low = *starts;
     let none = Totals {
         joins: 0,
@@ -54,11 +54,11 @@ pub fn shuffle_cells(
         done = shuffle_step(
             adjacency,
             output,
-            held,
+            degrees,
             &mut low,
             &mut have,
             &mut full,
-            &mut counts,
+            &mut pairs,
             &mut sums,
             cells,
             starts,

@@ -3,6 +3,7 @@
 ghost use mathlib.Core.Path.{_≡_};
 ghost use lib.ListN.{length};
 ghost use Rattle.answer.specs.declared.Verdict.the-variants.{Go};
+ghost use Rattle.journal.specs.Journal.{phaseLaid};
 ghost use Rattle.state.specs.State.{stateOf};
 ghost use Rattle.state.specs.Checks.{phaseVerdict};
 ghost use Rattle.state.specs.Inner.Opened.{laidFront, Opened};
@@ -33,16 +34,16 @@ fn shuffle_laid(
     adjacency: &mut [u8],
     cells: &[u32; CELLS],
     counts: &[usize; MAX_CLASSES],
-    held: &mut [usize; MAX_VERTICES],
+    degrees: &mut [usize; MAX_VERTICES],
     x: u32,
     output: &mut [u8],
 ) -> ShuffleAnswer
-    requires { ⌜ (phaseVerdict 1 (stateOf (now journal) (now adjacency)) ≡ Go) × Opened (stateOf (now journal) (now adjacency)) (now cells) (now counts) (now held) ⌝ }
+    requires { ⌜ (phaseVerdict phaseLaid (stateOf (now journal) (now adjacency)) ≡ Go) × Opened (stateOf (now journal) (now adjacency)) (now cells) (now counts) (now degrees) ⌝ }
     ensures { λ r. ⌜ r ≡ shuffleAnswer (stateOf (now (journal .entry)) (now (adjacency .entry))) x (length (now (output .entry))) ⌝ }
     ensures { λ _. ⌜ now (adjacency .exit) ≡ shuffleAfter (stateOf (now (journal .entry)) (now (adjacency .entry))) x (length (now (output .entry))) .adjacency ⌝ }
     ensures { λ _. ⌜ now (output .exit) ≡ shuffleOutput (stateOf (now (journal .entry)) (now (adjacency .entry))) x (now (output .entry)) ⌝ }
 {
-    let begun = begin(cells, counts, held);
+    let begun = begin(cells, counts, degrees);
     let missing = begun.missing;
     if output.len() < JOIN_RECORD_BYTES * missing {
         return ShuffleAnswer::Refused(refuse(Cause::OutputTooShort, 0, 0));
@@ -52,7 +53,7 @@ fn shuffle_laid(
     let done = shuffle_cells(
         adjacency,
         output,
-        held,
+        degrees,
         cells,
         &starts,
         &vertex_classes,
@@ -78,11 +79,11 @@ fn shuffle_checked(journal: &[u8], adjacency: &mut [u8], x: u32, output: &mut [u
 {
     let mut cells = [0u32; CELLS];
     let mut counts = [0usize; MAX_CLASSES];
-    let mut held = [0usize; MAX_VERTICES];
-    if !open(journal, adjacency, &mut cells, &mut counts, &mut held) {
+    let mut degrees = [0usize; MAX_VERTICES];
+    if !open(journal, adjacency, &mut cells, &mut counts, &mut degrees) {
         return ShuffleAnswer::Refused(refuse(Cause::InvalidState, 0, 0));
     }
-    shuffle_laid(journal, adjacency, &cells, &counts, &mut held, x, output)
+    shuffle_laid(journal, adjacency, &cells, &counts, &mut degrees, x, output)
 }
 
 pub fn complete_shuffled(

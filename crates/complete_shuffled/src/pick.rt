@@ -32,17 +32,17 @@ pub fn pick(
     classes: &[u8; MAX_VERTICES],
     have: &[u32; CELLS],
     full: &[u8],
-    counts: &[usize; MAX_VERTICES],
+    pairs: &[usize; MAX_VERTICES],
     sums: &[usize; SUMS],
     n: usize,
     x: u32,
 ) -> Pair
-    requires { ⌜ Tracked n (now cells) (now starts) (now classes) (now adjacency) (now have) (now full) (now counts) (now sums) × Filling n (classFrom (now starts)) (matrixOf (now cells)) (now adjacency) × (0 < openCount n (classFrom (now starts)) (matrixOf (now cells)) (now adjacency)) ⌝ }
+    requires { ⌜ Tracked n (now cells) (now starts) (now classes) (now adjacency) (now have) (now full) (now pairs) (now sums) × Filling n (classFrom (now starts)) (matrixOf (now cells)) (now adjacency) × (0 < openCount n (classFrom (now starts)) (matrixOf (now cells)) (now adjacency)) ⌝ }
     ensures { λ r. ⌜ r .v ≡ pairV n (classFrom (now (starts .entry))) (matrixOf (now (cells .entry))) (now (adjacency .entry)) (position n (classFrom (now (starts .entry))) (matrixOf (now (cells .entry))) (now (adjacency .entry)) x) ⌝ }
     ensures { λ r. ⌜ r .w ≡ pairW n (classFrom (now (starts .entry))) (matrixOf (now (cells .entry))) (now (adjacency .entry)) (position n (classFrom (now (starts .entry))) (matrixOf (now (cells .entry))) (now (adjacency .entry)) x) (r .v) ⌝ }
 {
-    let m = total(counts, sums);
-    let place = row_at(counts, sums, wide32(x) / LOW_PART % m);
+    let m = total(pairs, sums);
+    let place = row_at(pairs, sums, wide32(x) / LOW_PART % m);
     let v = place.at;
     let w = column_at(adjacency, full, n, wide(classes[v]), v, place.rest);
     Pair { v, w }

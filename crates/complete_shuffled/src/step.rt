@@ -11,7 +11,7 @@ ghost use Rattle.joining.specs.Join.{joinBytes, joinSwitches};
 ghost use Rattle.adjacency.specs.Inner.Degrees.{degreesOf};
 ghost use Rattle.joining.specs.Inner.Work.{Joinable};
 ghost use Rattle.complete.specs.Inner.Work.{ran, WroteRecords, Arranged};
-ghost use Rattle.complete_shuffled.specs.Shuffle.{nextShuffled, isShort};
+ghost use Rattle.complete_shuffled.specs.Shuffle.{nextShuffled, incompleteShuffled};
 ghost use Rattle.complete_shuffled.specs.Inner.Track.{Lows, lowFrom, Shuffling, shuffledAt};
 use crate::pick::Pair;
 use crate::pick::pick;
@@ -37,16 +37,16 @@ pub struct Shuffle {
 
 // A vertex of class k before which all are saturated; the next search goes on from it.
 fn low_of(
-    held: &[usize; MAX_VERTICES],
+    degrees: &[usize; MAX_VERTICES],
     starts: &[usize; STARTS],
     low: &mut [usize; STARTS],
     k: usize,
 ) -> usize
     requires { ⌜ (k < mostClasses) × (getD (now starts) (k + 1) 0 ≤ side) ⌝ }
-    ensures { λ r. ⌜ r ≡ lowFrom (now (held .entry)) (now (starts .entry)) (now (low .entry)) k ⌝ }
-    ensures { λ _. ⌜ now (low .exit) ≡ set (now (low .entry)) k (lowFrom (now (held .entry)) (now (starts .entry)) (now (low .entry)) k) ⌝ }
+    ensures { λ r. ⌜ r ≡ lowFrom (now (degrees .entry)) (now (starts .entry)) (now (low .entry)) k ⌝ }
+    ensures { λ _. ⌜ now (low .exit) ≡ set (now (low .entry)) k (lowFrom (now (degrees .entry)) (now (starts .entry)) (now (low .entry)) k) ⌝ }
 {
-    let v = advance(held, low[k], starts[k + 1], class_degree(k));
+    let v = advance(degrees, low[k], starts[k + 1], class_degree(k));
     low[k] = v;
     v
 }
@@ -54,7 +54,7 @@ fn low_of(
 // The pair joined, its vertices being of class k and l.
 fn join_pair(
     adjacency: &mut [u8],
-    held: &mut [usize; MAX_VERTICES],
+    degrees: &mut [usize; MAX_VERTICES],
     low: &mut [usize; STARTS],
     starts: &[usize; STARTS],
     n: usize,
@@ -62,14 +62,14 @@ fn join_pair(
     k: usize,
     l: usize,
 ) -> Switches
-    requires { ⌜ Joinable n (classFrom (now starts)) (now adjacency) (pair .v) (pair .w) × (now held ≡ degreesOf n (now adjacency)) × Lows n (now starts) (now adjacency) (now low) × Arranged n (now starts) × (k ≡ classFrom (now starts) (pair .v)) × (l ≡ classFrom (now starts) (pair .w)) ⌝ }
+    requires { ⌜ Joinable n (classFrom (now starts)) (now adjacency) (pair .v) (pair .w) × (now degrees ≡ degreesOf n (now adjacency)) × Lows n (now starts) (now adjacency) (now low) × Arranged n (now starts) × (k ≡ classFrom (now starts) (pair .v)) × (l ≡ classFrom (now starts) (pair .w)) ⌝ }
     ensures { λ r. ⌜ r ≡ joinSwitches n (classFrom (now (starts .entry))) (now (adjacency .entry)) (pair .v) (pair .w) ⌝ }
     ensures { λ _. ⌜ now (adjacency .exit) ≡ joinBytes n (classFrom (now (starts .entry))) (now (adjacency .entry)) (pair .v) (pair .w) ⌝ }
-    ensures { λ _. ⌜ now (held .exit) ≡ degreesOf n (joinBytes n (classFrom (now (starts .entry))) (now (adjacency .entry)) (pair .v) (pair .w)) ⌝ }
+    ensures { λ _. ⌜ now (degrees .exit) ≡ degreesOf n (joinBytes n (classFrom (now (starts .entry))) (now (adjacency .entry)) (pair .v) (pair .w)) ⌝ }
     ensures { λ _. ⌜ Lows n (now (starts .entry)) (joinBytes n (classFrom (now (starts .entry))) (now (adjacency .entry)) (pair .v) (pair .w)) (now (low .exit)) ⌝ }
 {
-    let row = low_of(held, starts, low, k);
-    let column = low_of(held, starts, low, l);
+    let row = low_of(degrees, starts, low, k);
+    let column = low_of(degrees, starts, low, l);
     let v = End {
         at: pair.v,
         class: k,
@@ -80,7 +80,7 @@ fn join_pair(
         class: l,
         low: column,
     };
-    let joined = joining::join(adjacency, held, starts, n, v, w);
+    let joined = joining::join(adjacency, degrees, starts, n, v, w);
     joined.switches
 }
 
@@ -88,11 +88,11 @@ fn join_pair(
 pub fn shuffle_step(
     adjacency: &mut [u8],
     output: &mut [u8],
-    held: &mut [usize; MAX_VERTICES],
+    degrees: &mut [usize; MAX_VERTICES],
     low: &mut [usize; STARTS],
     have: &mut [u32; CELLS],
     full: &mut [u8],
-    counts: &mut [usize; MAX_VERTICES],
+    pairs: &mut [usize; MAX_VERTICES],
     sums: &mut [usize; SUMS],
     cells: &[u32; CELLS],
     starts: &[usize; STARTS],
@@ -100,10 +100,10 @@ pub fn shuffle_step(
     n: usize,
     done: Shuffle,
 ) -> Shuffle
-    requires { ⌜ Shuffling n (now cells) (now starts) (now classes) (now adjacency) (now have) (now full) (now counts) (now sums) (now low) (now held) (length (now output)) (ran (now adjacency) (now output) (done .totals)) × (isShort n (classFrom (now starts)) (matrixOf (now cells)) (shuffledAt (now adjacency) (now output) done) ≡ true) ⌝ }
+    requires { ⌜ Shuffling n (now cells) (now starts) (now classes) (now adjacency) (now have) (now full) (now pairs) (now sums) (now low) (now degrees) (length (now output)) (ran (now adjacency) (now output) (done .totals)) × (incompleteShuffled n (classFrom (now starts)) (matrixOf (now cells)) (shuffledAt (now adjacency) (now output) done) ≡ true) ⌝ }
     ensures { λ r. ⌜ shuffledAt (now (adjacency .exit)) (now (output .exit)) r ≡ nextShuffled n (classFrom (now (starts .entry))) (matrixOf (now (cells .entry))) (shuffledAt (now (adjacency .entry)) (now (output .entry)) done) ⌝ }
     ensures { λ r. ⌜ WroteRecords (done .totals .joins) (r .totals .joins) (now (output .entry)) (now (output .exit)) ⌝ }
-    ensures { λ r. ⌜ Shuffling n (now (cells .entry)) (now (starts .entry)) (now (classes .entry)) (now (adjacency .exit)) (now (have .exit)) (now (full .exit)) (now (counts .exit)) (now (sums .exit)) (now (low .exit)) (now (held .exit)) (length (now (output .entry))) (ran (now (adjacency .exit)) (now (output .exit)) (r .totals)) ⌝ }
+    ensures { λ r. ⌜ Shuffling n (now (cells .entry)) (now (starts .entry)) (now (classes .entry)) (now (adjacency .exit)) (now (have .exit)) (now (full .exit)) (now (pairs .exit)) (now (sums .exit)) (now (low .exit)) (now (degrees .exit)) (length (now (output .entry))) (ran (now (adjacency .exit)) (now (output .exit)) (r .totals)) ⌝ }
 {
     let stepped = next_x(done.x);
     let pair = pick(
@@ -113,7 +113,7 @@ pub fn shuffle_step(
         classes,
         have,
         full,
-        counts,
+        pairs,
         sums,
         n,
         stepped,
@@ -122,7 +122,7 @@ pub fn shuffle_step(
     let w = pair.w;
     let k = wide(classes[v]);
     let l = wide(classes[w]);
-    let made = join_pair(adjacency, held, low, starts, n, pair, k, l);
+    let made = join_pair(adjacency, degrees, low, starts, n, pair, k, l);
     let totals = record_join(output, done.totals, v, w, made);
     update(
         adjacency,
@@ -131,7 +131,7 @@ pub fn shuffle_step(
         classes,
         have,
         full,
-        counts,
+        pairs,
         sums,
         n,
         v,

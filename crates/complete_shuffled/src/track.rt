@@ -8,11 +8,10 @@ ghost use Rattle.table.specs.Inner.Cells.{cellsSize, matrixOf};
 ghost use Rattle.open_pairs.specs.Inner.Rows.{flagsSize, Scannable, Summed};
 ghost use Rattle.open_pairs.specs.Inner.Refresh.{Classed, Within};
 ghost use Rattle.complete.specs.Inner.Work.{Arranged};
-ghost use Rattle.complete_shuffled.specs.Inner.Track.{cellPlace, Countable, Counted, hasNow, haveAfter, isFullNow, flagsAfter, countsAfter};
+ghost use Rattle.complete_shuffled.specs.Inner.Track.{cellPlace, Countable, Counted, hasNow, haveAfter, isFullNow, flagsAfter, pairsAfter};
 use answer::switches::Switches;
 use classes::STARTS;
 use classes::block_sum;
-use complete::fill::unit;
 use layout::MAX_VERTICES;
 use open_pairs::refresh::mark_full;
 use open_pairs::refresh::refresh_range;
@@ -22,6 +21,7 @@ use open_pairs::row::SUMS;
 use table::cells::CELLS;
 use table::cells::upper_cell;
 use table::class::MAX_CLASSES;
+use table::class::times_counted;
 
 // Cell (k, l), k ≤ l, of n vertices: how much it has, and a flag where it is full.
 fn count_cell(
@@ -96,7 +96,7 @@ fn add_to_cell(cells: &[u32; CELLS], have: &mut [u32; CELLS], k: usize, l: usize
     ensures { λ _. ⌜ now (have .exit) ≡ haveAfter k l (now (have .entry)) ⌝ }
 {
     let want = upper_cell(cells, k, l);
-    let sum = upper_cell(have, k, l) + unit(k, l);
+    let sum = upper_cell(have, k, l) + times_counted(k, l);
     have[k * MAX_CLASSES + l] = sum as u32;
     sum == want
 }
@@ -109,7 +109,7 @@ pub fn update(
     classes: &[u8; MAX_VERTICES],
     have: &mut [u32; CELLS],
     full: &mut [u8],
-    counts: &mut [usize; MAX_VERTICES],
+    pairs: &mut [usize; MAX_VERTICES],
     sums: &mut [usize; SUMS],
     n: usize,
     v: usize,
@@ -117,12 +117,12 @@ pub fn update(
     l: usize,
     made: Switches,
 )
-    requires { ⌜ Scannable n (now adjacency) (now full) × Classed n (now classes) × Summed (now counts) (now sums) × Arranged n (now starts) × Within n made ⌝ }
+    requires { ⌜ Scannable n (now adjacency) (now full) × Classed n (now classes) × Summed (now pairs) (now sums) × Arranged n (now starts) × Within n made ⌝ }
     requires { ⌜ (v < n) × (k ≤ l) × (l < mostClasses) × (hasNow k l (now have) ≤ matrixOf (now cells) k l) ⌝ }
     ensures { λ _. ⌜ now (have .exit) ≡ haveAfter k l (now (have .entry)) ⌝ }
     ensures { λ _. ⌜ now (full .exit) ≡ flagsAfter (now (cells .entry)) (now (starts .entry)) k l (now (have .entry)) (now (full .entry)) ⌝ }
-    ensures { λ _. ⌜ now (counts .exit) ≡ countsAfter n (now (starts .entry)) (now (classes .entry)) (now (adjacency .entry)) (flagsAfter (now (cells .entry)) (now (starts .entry)) k l (now (have .entry)) (now (full .entry))) v k (isFullNow (now (cells .entry)) k l (now (have .entry))) made (now (counts .entry)) ⌝ }
-    ensures { λ _. ⌜ Summed (now (counts .exit)) (now (sums .exit)) ⌝ }
+    ensures { λ _. ⌜ now (pairs .exit) ≡ pairsAfter n (now (starts .entry)) (now (classes .entry)) (now (adjacency .entry)) (flagsAfter (now (cells .entry)) (now (starts .entry)) k l (now (have .entry)) (now (full .entry))) v k (isFullNow (now (cells .entry)) k l (now (have .entry))) made (now (pairs .entry)) ⌝ }
+    ensures { λ _. ⌜ Summed (now (pairs .exit)) (now (sums .exit)) ⌝ }
 {
     if add_to_cell(cells, have, k, l) {
         mark_full(full, k, starts[l], starts[l + 1]);
@@ -130,14 +130,14 @@ pub fn update(
             adjacency,
             full,
             classes,
-            counts,
+            pairs,
             sums,
             n,
             starts[k],
             starts[k + 1],
         );
     } else {
-        refresh_row(adjacency, full, classes, counts, sums, n, v);
+        refresh_row(adjacency, full, classes, pairs, sums, n, v);
     }
-    refresh_switches(adjacency, full, classes, counts, sums, n, made);
+    refresh_switches(adjacency, full, classes, pairs, sums, n, made);
 }

@@ -22,17 +22,17 @@ pub fn refresh_row(
     adjacency: &[u8],
     full: &[u8],
     classes: &[u8; MAX_VERTICES],
-    counts: &mut [usize; MAX_VERTICES],
+    pairs: &mut [usize; MAX_VERTICES],
     sums: &mut [usize; SUMS],
     n: usize,
     v: usize,
 )
-    requires { ⌜ Scannable n (now adjacency) (now full) × Classed n (now classes) × Summed (now counts) (now sums) × (v < n) ⌝ }
-    ensures { λ _. ⌜ now (counts .exit) ≡ refreshRow n (now (classes .entry)) (now (adjacency .entry)) (now (full .entry)) v (now (counts .entry)) ⌝ }
-    ensures { λ _. ⌜ Summed (now (counts .exit)) (now (sums .exit)) ⌝ }
+    requires { ⌜ Scannable n (now adjacency) (now full) × Classed n (now classes) × Summed (now pairs) (now sums) × (v < n) ⌝ }
+    ensures { λ _. ⌜ now (pairs .exit) ≡ refreshRow n (now (classes .entry)) (now (adjacency .entry)) (now (full .entry)) v (now (pairs .entry)) ⌝ }
+    ensures { λ _. ⌜ Summed (now (pairs .exit)) (now (sums .exit)) ⌝ }
 {
     let m = row_open(adjacency, full, n, wide(classes[v]), v);
-    set_row(counts, sums, v, m);
+    set_row(pairs, sums, v, m);
 }
 
 // The rows from, .., to - 1.
@@ -40,18 +40,18 @@ pub fn refresh_range(
     adjacency: &[u8],
     full: &[u8],
     classes: &[u8; MAX_VERTICES],
-    counts: &mut [usize; MAX_VERTICES],
+    pairs: &mut [usize; MAX_VERTICES],
     sums: &mut [usize; SUMS],
     n: usize,
     from: usize,
     to: usize,
 )
-    requires { ⌜ Scannable n (now adjacency) (now full) × Classed n (now classes) × Summed (now counts) (now sums) × (from ≤ to) × (to ≤ n) ⌝ }
-    ensures { λ _. ⌜ now (counts .exit) ≡ refreshRange n (now (classes .entry)) (now (adjacency .entry)) (now (full .entry)) from to (now (counts .entry)) ⌝ }
-    ensures { λ _. ⌜ Summed (now (counts .exit)) (now (sums .exit)) ⌝ }
+    requires { ⌜ Scannable n (now adjacency) (now full) × Classed n (now classes) × Summed (now pairs) (now sums) × (from ≤ to) × (to ≤ n) ⌝ }
+    ensures { λ _. ⌜ now (pairs .exit) ≡ refreshRange n (now (classes .entry)) (now (adjacency .entry)) (now (full .entry)) from to (now (pairs .entry)) ⌝ }
+    ensures { λ _. ⌜ Summed (now (pairs .exit)) (now (sums .exit)) ⌝ }
 {
     for v in from..to {
-        refresh_row(adjacency, full, classes, counts, sums, n, v);
+        refresh_row(adjacency, full, classes, pairs, sums, n, v);
     }
 }
 
@@ -60,17 +60,17 @@ fn refresh_switch(
     adjacency: &[u8],
     full: &[u8],
     classes: &[u8; MAX_VERTICES],
-    counts: &mut [usize; MAX_VERTICES],
+    pairs: &mut [usize; MAX_VERTICES],
     sums: &mut [usize; SUMS],
     n: usize,
     s: Switch,
 )
-    requires { ⌜ Scannable n (now adjacency) (now full) × Classed n (now classes) × Summed (now counts) (now sums) × SwitchBelow n s ⌝ }
-    ensures { λ _. ⌜ now (counts .exit) ≡ refreshSwitch n (now (classes .entry)) (now (adjacency .entry)) (now (full .entry)) s (now (counts .entry)) ⌝ }
-    ensures { λ _. ⌜ Summed (now (counts .exit)) (now (sums .exit)) ⌝ }
+    requires { ⌜ Scannable n (now adjacency) (now full) × Classed n (now classes) × Summed (now pairs) (now sums) × SwitchBelow n s ⌝ }
+    ensures { λ _. ⌜ now (pairs .exit) ≡ refreshSwitch n (now (classes .entry)) (now (adjacency .entry)) (now (full .entry)) s (now (pairs .entry)) ⌝ }
+    ensures { λ _. ⌜ Summed (now (pairs .exit)) (now (sums .exit)) ⌝ }
 {
-    refresh_row(adjacency, full, classes, counts, sums, n, least(s.a, s.t));
-    refresh_row(adjacency, full, classes, counts, sums, n, least(s.b, s.t));
+    refresh_row(adjacency, full, classes, pairs, sums, n, least(s.a, s.t));
+    refresh_row(adjacency, full, classes, pairs, sums, n, least(s.b, s.t));
 }
 
 // The rows of the edges that the switches of a join moved.
@@ -78,21 +78,21 @@ pub fn refresh_switches(
     adjacency: &[u8],
     full: &[u8],
     classes: &[u8; MAX_VERTICES],
-    counts: &mut [usize; MAX_VERTICES],
+    pairs: &mut [usize; MAX_VERTICES],
     sums: &mut [usize; SUMS],
     n: usize,
     s: Switches,
 )
-    requires { ⌜ Scannable n (now adjacency) (now full) × Classed n (now classes) × Summed (now counts) (now sums) × Within n s ⌝ }
-    ensures { λ _. ⌜ now (counts .exit) ≡ refreshSwitches n (now (classes .entry)) (now (adjacency .entry)) (now (full .entry)) s (now (counts .entry)) ⌝ }
-    ensures { λ _. ⌜ Summed (now (counts .exit)) (now (sums .exit)) ⌝ }
+    requires { ⌜ Scannable n (now adjacency) (now full) × Classed n (now classes) × Summed (now pairs) (now sums) × Within n s ⌝ }
+    ensures { λ _. ⌜ now (pairs .exit) ≡ refreshSwitches n (now (classes .entry)) (now (adjacency .entry)) (now (full .entry)) s (now (pairs .entry)) ⌝ }
+    ensures { λ _. ⌜ Summed (now (pairs .exit)) (now (sums .exit)) ⌝ }
 {
     match s {
         Switches::None => {}
-        Switches::One(x) => refresh_switch(adjacency, full, classes, counts, sums, n, x),
+        Switches::One(x) => refresh_switch(adjacency, full, classes, pairs, sums, n, x),
         Switches::Two(x, y) => {
-            refresh_switch(adjacency, full, classes, counts, sums, n, x);
-            refresh_switch(adjacency, full, classes, counts, sums, n, y);
+            refresh_switch(adjacency, full, classes, pairs, sums, n, x);
+            refresh_switch(adjacency, full, classes, pairs, sums, n, y);
         }
     }
 }

@@ -19,14 +19,14 @@ pub struct Place {
 }
 
 // The entry among from, .., to - 1 in which the position falls.
-fn seek(counts: &[usize], from: usize, to: usize, position: usize) -> Place
-    requires { ⌜ (from ≤ to) × (to ≤ length (now counts)) × (position < sumTo (to - from) (λ i. getD (now counts) (from + i) 0)) ⌝ }
-    ensures { λ r. ⌜ (from ≤ r .at) × (r .at < to) × (sumTo (r .at - from) (λ i. getD (now (counts .entry)) (from + i) 0) + r .rest ≡ position) × (r .rest < getD (now (counts .entry)) (r .at) 0) ⌝ }
+fn seek(pairs: &[usize], from: usize, to: usize, position: usize) -> Place
+    requires { ⌜ (from ≤ to) × (to ≤ length (now pairs)) × (position < sumTo (to - from) (λ i. getD (now pairs) (from + i) 0)) ⌝ }
+    ensures { λ r. ⌜ (from ≤ r .at) × (r .at < to) × (sumTo (r .at - from) (λ i. getD (now (pairs .entry)) (from + i) 0) + r .rest ≡ position) × (r .rest < getD (now (pairs .entry)) (r .at) 0) ⌝ }
 {
     let mut at = from;
     let mut rest = position;
     while at < to {
-        let count = counts[at];
+        let count = pairs[at];
         if rest < count {
             return Place { at, rest };
         }
@@ -37,9 +37,9 @@ fn seek(counts: &[usize], from: usize, to: usize, position: usize) -> Place
 }
 
 // How many open pairs there are.
-pub fn total(counts: &[usize; MAX_VERTICES], sums: &[usize; SUMS]) -> usize
-    requires { ⌜ Summed (now counts) (now sums) ⌝ }
-    ensures { λ r. ⌜ r ≡ openTo (now (counts .entry)) side ⌝ }
+pub fn total(pairs: &[usize; MAX_VERTICES], sums: &[usize; SUMS]) -> usize
+    requires { ⌜ Summed (now pairs) (now sums) ⌝ }
+    ensures { λ r. ⌜ r ≡ openTo (now (pairs .entry)) side ⌝ }
 {
     let mut sum = 0;
     for b in 0..SUMS {
@@ -49,22 +49,22 @@ pub fn total(counts: &[usize; MAX_VERTICES], sums: &[usize; SUMS]) -> usize
 }
 
 // The row in which the open pair at the position stands.
-pub fn row_at(counts: &[usize; MAX_VERTICES], sums: &[usize; SUMS], position: usize) -> Place
-    requires { ⌜ Summed (now counts) (now sums) × (position < openTo (now counts) side) ⌝ }
-    ensures { λ r. ⌜ (r .at < side) × (openTo (now (counts .entry)) (r .at) + r .rest ≡ position) × (r .rest < getD (now (counts .entry)) (r .at) 0) ⌝ }
+pub fn row_at(pairs: &[usize; MAX_VERTICES], sums: &[usize; SUMS], position: usize) -> Place
+    requires { ⌜ Summed (now pairs) (now sums) × (position < openTo (now pairs) side) ⌝ }
+    ensures { λ r. ⌜ (r .at < side) × (openTo (now (pairs .entry)) (r .at) + r .rest ≡ position) × (r .rest < getD (now (pairs .entry)) (r .at) 0) ⌝ }
 {
     let block = seek(sums, 0, SUMS, position);
     let from = ROWS * block.at;
-    seek(counts, from, from + ROWS, block.rest)
+    seek(pairs, from, from + ROWS, block.rest)
 }
 
 // Row v has m open pairs now.
-pub fn set_row(counts: &mut [usize; MAX_VERTICES], sums: &mut [usize; SUMS], v: usize, m: usize)
-    requires { ⌜ Summed (now counts) (now sums) × (v < side) × (m ≤ side) ⌝ }
-    ensures { λ _. ⌜ now (counts .exit) ≡ set (now (counts .entry)) v m ⌝ }
-    ensures { λ _. ⌜ Summed (set (now (counts .entry)) v m) (now (sums .exit)) ⌝ }
+pub fn set_row(pairs: &mut [usize; MAX_VERTICES], sums: &mut [usize; SUMS], v: usize, m: usize)
+    requires { ⌜ Summed (now pairs) (now sums) × (v < side) × (m ≤ side) ⌝ }
+    ensures { λ _. ⌜ now (pairs .exit) ≡ set (now (pairs .entry)) v m ⌝ }
+    ensures { λ _. ⌜ Summed (set (now (pairs .entry)) v m) (now (sums .exit)) ⌝ }
 {
     let b = v / ROWS;
-    sums[b] = sums[b] - counts[v] + m;
-    counts[v] = m;
+    sums[b] = sums[b] - pairs[v] + m;
+    pairs[v] = m;
 }

@@ -2,13 +2,11 @@
 -- `run` of specs/Complete.antt is a law (proofs/Cellwise.antt); the entry's contract does not speak of it.
 -- Assumes nothing.
 use mathlib.Core.Path.{_≡_}
-use mathlib.Core.Bool.{cond}
 use mathlib.Core.List.{List}
 use Prim.Native.Nat.{ℕ, _+_, _-_, _/_, _≤_}
-use lib.Dec.{eqb}
 use lib.ListN.{length}
 use Rattle.finite.specs.Range.{foldTo}
-use Rattle.graph.specs.Graph.{jdm}
+use Rattle.graph.specs.Graph.{jdm, timesCounted}
 use Rattle.graph.specs.Target.{Target, Partial}
 use Rattle.graph.specs.Tests.{leastClass, mostClasses, classDegree}
 use Rattle.layout.specs.Layout.{mostVertices}
@@ -21,9 +19,9 @@ abbrev pub cellStep : ℕ → (ℕ → ℕ) → ℕ → ℕ → Ran → Ran
 cellStep n cls k l s =
     joined n cls s (openV n cls (s .adjacency) k l) (openW n cls (s .adjacency) k l (openV n cls (s .adjacency) k l))
 
--- how many joins cell (k, l) misses: a join adds 1 to it, or 2 on the diagonal
+-- how many joins cell (k, l) misses: a join counts in it as often as its edge
 abbrev pub cellMissing : ℕ → (ℕ → ℕ) → (ℕ → ℕ → ℕ) → List ℕ → ℕ → ℕ → ℕ
-cellMissing n cls T g k l = (T k l - jdm n cls (edge g) k l) / cond (eqb k l) 2 1
+cellMissing n cls T g k l = (T k l - jdm n cls (edge g) k l) / timesCounted k l
 
 -- cell (k, l) filled; row k from the diagonal on; all rows
 abbrev pub fillCell : ℕ → (ℕ → ℕ) → (ℕ → ℕ → ℕ) → ℕ → ℕ → Ran → Ran

@@ -13,6 +13,8 @@ use Rattle.graph.specs.Graph.{jdm, edges}
 use Rattle.graph.specs.Switch.{unsaturated}
 use Rattle.graph.specs.Tests.{mostClasses, vertices, classDegree}
 use Rattle.graph.specs.Theorems.{allCells}
+use Rattle.graph.specs.Target.{Short}
+use Rattle.journal.specs.Journal.{phaseLaid}
 use Rattle.adjacency.specs.Adjacency.{edge}
 use Rattle.table.specs.Inner.Cells.{matrixOf}
 use Rattle.layout.specs.Layout.{mostVertices, wanted}
@@ -81,21 +83,21 @@ pub record Resumes (n : ℕ) (cls : ℕ → ℕ) (g : List ℕ) (c : Cell) (u : 
   pub saturated-columns : Saturated n cls g (c .l) (u .low .w)
 
 -- m joins may be made in the cell: it misses as many
-pub record Fillable (n : ℕ) (cls : ℕ → ℕ) (c : Cell) (m room : ℕ) (s : Ran) (held : List ℕ) : Type 0 where
+pub record Fillable (n : ℕ) (cls : ℕ → ℕ) (c : Cell) (m room : ℕ) (s : Ran) (degrees : List ℕ) : Type 0 where
   pub table : ℕ → ℕ → ℕ
   pub is-valid : ValidRun n cls table room s
   pub missing : m ≤ cellMissing n cls table (s .adjacency) (c .k) (c .l)
   pub ranged : Ranged n cls c
-  pub degrees-held : held ≡ degreesOf n (s .adjacency)
+  pub degrees-right : degrees ≡ degreesOf n (s .adjacency)
 
 -- one join may be made in the cell: it is short
-pub record Steppable (n : ℕ) (cls : ℕ → ℕ) (c : Cell) (u : Cursor) (room : ℕ) (s : Ran) (held : List ℕ) : Type 0 where
+pub record Steppable (n : ℕ) (cls : ℕ → ℕ) (c : Cell) (u : Cursor) (room : ℕ) (s : Ran) (degrees : List ℕ) : Type 0 where
   pub table : ℕ → ℕ → ℕ
   pub is-valid : ValidRun n cls table room s
-  pub short : jdm n cls (edge (s .adjacency)) (c .k) (c .l) < table (c .k) (c .l)
+  pub short : Short n cls table (edge (s .adjacency)) (c .k) (c .l)
   pub ranged : Ranged n cls c
   pub resumes : Resumes n cls (s .adjacency) c u
-  pub degrees-held : held ≡ degreesOf n (s .adjacency)
+  pub degrees-right : degrees ≡ degreesOf n (s .adjacency)
 
 -- cell (k, l) between the starts of its classes
 abbrev pub cellIn : List ℕ → ℕ → ℕ → Cell
@@ -118,10 +120,10 @@ pub record Arranged (n : ℕ) (starts : List ℕ) : Type 0 where
   pub numbered : Numbered n starts
 
 -- these, and beside them a partial graph of the table with its degrees
-pub record Working (n : ℕ) (cells starts held : List ℕ) (room : ℕ) (s : Ran) : Type 0 where
+pub record Working (n : ℕ) (cells starts degrees : List ℕ) (room : ℕ) (s : Ran) : Type 0 where
   pub arranged : Arranged n starts
   pub is-valid : ValidRun n (classFrom starts) (matrixOf cells) room s
-  pub degrees-held : held ≡ degreesOf n (s .adjacency)
+  pub degrees-right : degrees ≡ degreesOf n (s .adjacency)
 
 -- what a cell misses can be counted: its ranges are ranges of vertices, and it does not hold more than the table
 pub record Countable (g cells : List ℕ) (c : Cell) : Type 0 where
@@ -131,12 +133,12 @@ pub record Countable (g cells : List ℕ) (c : Cell) : Type 0 where
   pub within : blockSum (edge g) (c .rows .from) (c .rows .to) (c .columns .from) (c .columns .to) ≤ matrixOf cells (c .k) (c .l)
 
 -- the arrays of a valid laid state
-pub record OpenArrays (cells counts held : List ℕ) : Type 0 where
+pub record OpenArrays (cells counts degrees : List ℕ) : Type 0 where
   pub state : State
-  pub passed : phaseVerdict 1 state ≡ Go
-  pub opened : Opened state cells counts held
+  pub passed : phaseVerdict phaseLaid state ≡ Go
+  pub opened : Opened state cells counts degrees
 
 -- what the work begins with, as the arrays say
-pub record Started (cells counts held : List ℕ) (b : Start) : Type 0 where
+pub record Started (cells counts degrees : List ℕ) (b : Start) : Type 0 where
   pub total : b .n ≡ vertices (tableIn cells (countIn counts 0))
-  pub lacks : b .missing ≡ wanted (matrixOf cells) - sumTo (b .n) (λ v. getD held v 0) / 2
+  pub lacks : b .missing ≡ wanted (matrixOf cells) - sumTo (b .n) (λ v. getD degrees v 0) / 2

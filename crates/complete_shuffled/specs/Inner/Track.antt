@@ -9,7 +9,7 @@ use lib.Dec.{eqb, ltb}
 use lib.ListN.{length, getD, set}
 use Rattle.finite.specs.Range.{bit, lowest}
 use Rattle.answer.specs.declared.switches.Switches.{Switches}
-use Rattle.graph.specs.Graph.{Simple, jdm, edges}
+use Rattle.graph.specs.Graph.{Simple, jdm, timesCounted, edges}
 use Rattle.graph.specs.Tests.{mostClasses, classDegree}
 use Rattle.table.specs.Inner.Cells.{cellsSize, matrixOf}
 use Rattle.layout.specs.Layout.{wanted}
@@ -52,16 +52,16 @@ ClassArray n starts classes = (v : ℕ) → v < n → getD classes v 0 ≡ class
 
 -- row v is counted as it is
 abbrev pub RowRight : ℕ → List ℕ → List ℕ → List ℕ → List ℕ → ℕ → Type 0
-RowRight n classes g full counts v = getD counts v 0 ≡ freeTo g full (getD classes v 0) v n
+RowRight n classes g full pairs v = getD pairs v 0 ≡ freeTo g full (getD classes v 0) v n
 
 -- everything is counted
-pub record Tracked (n : ℕ) (cells starts classes g have full counts sums : List ℕ) : Type 0 where
+pub record Tracked (n : ℕ) (cells starts classes g have full pairs sums : List ℕ) : Type 0 where
   pub arranged : Arranged n starts
   pub classed : ClassArray n starts classes
   pub counted : Counted cellsSize n cells starts g have full
-  pub summed : Summed counts sums
-  pub rows : (v : ℕ) → v < n → RowRight n classes g full counts v
-  pub behind : (v : ℕ) → n ≤ v → getD counts v 0 ≡ 0
+  pub summed : Summed pairs sums
+  pub rows : (v : ℕ) → v < n → RowRight n classes g full pairs v
+  pub behind : (v : ℕ) → n ≤ v → getD pairs v 0 ≡ 0
 
 -- before low k, all vertices of class k are saturated
 pub record Lows (n : ℕ) (starts g low : List ℕ) : Type 0 where
@@ -72,7 +72,7 @@ pub record Lows (n : ℕ) (starts g low : List ℕ) : Type 0 where
 
 -- What a join in cell (k, l), k ≤ l, changes: it has one edge more, and may be full now ..
 abbrev pub hasNow : ℕ → ℕ → List ℕ → ℕ
-hasNow k l have = getD have (cellPlace k l) 0 + cond (eqb k l) 2 1
+hasNow k l have = getD have (cellPlace k l) 0 + timesCounted k l
 
 abbrev pub haveAfter : ℕ → ℕ → List ℕ → List ℕ
 haveAfter k l have = set have (cellPlace k l) (hasNow k l have)
@@ -85,25 +85,25 @@ flagsAfter cells starts k l have full = cond (isFullNow cells k l have) (markFul
 
 -- .. and the rows are counted anew in which pairs were opened or closed: that of the lower vertex v, where the cell is full all rows of its class, and
 -- those of the edges that the switches moved
-abbrev pub countsAfter : ℕ → List ℕ → List ℕ → List ℕ → List ℕ → ℕ → ℕ → Bool → Switches → List ℕ → List ℕ
-countsAfter n starts classes g full v k isFull s counts =
+abbrev pub pairsAfter : ℕ → List ℕ → List ℕ → List ℕ → List ℕ → ℕ → ℕ → Bool → Switches → List ℕ → List ℕ
+pairsAfter n starts classes g full v k isFull s pairs =
     refreshSwitches n classes g full s
-    (cond isFull (refreshRange n classes g full (getD starts k 0) (getD starts (k + 1) 0) counts) (refreshRow n classes g full v counts))
+    (cond isFull (refreshRange n classes g full (getD starts k 0) (getD starts (k + 1) 0) pairs) (refreshRow n classes g full v pairs))
 
 -- the matrix and the output, with what was done so far: a run, and x
 abbrev pub shuffledAt : List ℕ → List ℕ → Shuffle → Shuffled
 shuffledAt g out d = record { ran = ran g out (d .totals); x = d .x }
 
 -- what holds before each join and after it; the output has `room` bytes
-pub record Shuffling (n : ℕ) (cells starts classes g have full counts sums low held : List ℕ) (room : ℕ) (s : Ran) : Type 0 where
-  pub tracked : Tracked n cells starts classes g have full counts sums
+pub record Shuffling (n : ℕ) (cells starts classes g have full pairs sums low degrees : List ℕ) (room : ℕ) (s : Ran) : Type 0 where
+  pub tracked : Tracked n cells starts classes g have full pairs sums
   pub lows : Lows n starts g low
   pub is-valid : ValidRun n (classFrom starts) (matrixOf cells) room s
-  pub degrees-held : held ≡ degreesOf n g
+  pub degrees-right : degrees ≡ degreesOf n g
 
 -- the search for an unsaturated vertex of class k goes on from where it was
 abbrev pub lowFrom : List ℕ → List ℕ → List ℕ → ℕ → ℕ
-lowFrom held starts low k = lowest (getD low k 0) (getD starts (k + 1) 0) (λ i. ltb (getD held i 0) (classDegree k))
+lowFrom degrees starts low k = lowest (getD low k 0) (getD starts (k + 1) 0) (λ i. ltb (getD degrees i 0) (classDegree k))
 
 -- m edges are missing, no more than a layout can have
 abbrev pub Lacks : ℕ → List ℕ → List ℕ → ℕ → Type 0

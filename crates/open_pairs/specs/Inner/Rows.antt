@@ -40,11 +40,11 @@ sumCount = 25
 
 -- how many open pairs the rows before v have together
 abbrev pub openTo : List ℕ → ℕ → ℕ
-openTo counts v = sumTo v (λ i. getD counts i 0)
+openTo pairs v = sumTo v (λ i. getD pairs i 0)
 
 -- each row's count, and beside them the sums over eight rows
-pub record Summed (counts sums : List ℕ) : Type 0 where
-  pub sized : length counts ≡ side
+pub record Summed (pairs sums : List ℕ) : Type 0 where
+  pub sized : length pairs ≡ side
   pub sums-sized : length sums ≡ sumCount
-  pub few : (v : ℕ) → getD counts v 0 ≤ side
-  pub summed : (b : ℕ) → b < sumCount → getD sums b 0 ≡ sumTo rowsInSum (λ i. getD counts (rowsInSum * b + i) 0)
+  pub few : (v : ℕ) → getD pairs v 0 ≤ side
+  pub summed : (b : ℕ) → b < sumCount → getD sums b 0 ≡ sumTo rowsInSum (λ i. getD pairs (rowsInSum * b + i) 0)

@@ -12,10 +12,10 @@ use Rattle.complete.proofs.cell.advance.Statement.{statement}
 use Rattle.complete.proofs.cell.advance.Tie as tie
 
 abbrev Inv-loop : tie.InvT-loop
-Inv-loop held from to k i₀ i = lowest from to (λ i. ltb (getD held i 0) k) ≡ lowest i to (λ i. ltb (getD held i 0) k)
+Inv-loop degrees from to k i₀ i = lowest from to (λ i. ltb (getD degrees i 0) k) ≡ lowest i to (λ i. ltb (getD degrees i 0) k)
 
 abbrev μ-loop : tie.MeasureT-loop
-μ-loop held from to k i₀ i = to - i
+μ-loop degrees from to k i₀ i = to - i
 
 pub advance-spec : {M : Type 1} → statement M
 advance-spec =

@@ -31,7 +31,7 @@ cell-step-spec =
     let ex = rw (x .before .class-degree .ensures) at (x .advance .ensures) in
     let ey = rw (y .before .class-degree2 .ensures) at (y .advance2 .ensures) in (
       step-joinable (f .pre .0) _ _ (e .0) (e .1),
-      f .pre .0 .degrees-held,
+      f .pre .0 .degrees-right,
       row-placed (f .pre .0) (f .pre .1) _ _ (e .0) (e .1) _ _ ex ey,
       column-placed (f .pre .0) (f .pre .1) _ _ (e .0) (e .1) _ _ ex ey,
     ))  -- join-requires

@@ -15,15 +15,15 @@ use Rattle.complete.proofs.cell.fill_steps.Statement.{statement}
 use Rattle.complete.proofs.cell.fill_steps.Tie as tie
 
 abbrev Inv-loop : tie.InvT-loop
-Inv-loop adjacency₀ output₀ held₀ starts n cell m cursor₀ sum₀ counter₀ adjacency output held cursor sum counter =
+Inv-loop adjacency₀ output₀ degrees₀ starts n cell m cursor₀ sum₀ counter₀ adjacency output degrees cursor sum counter =
     (counter ≤ m)
     × (ran adjacency output sum ≡ foldTo counter (λ i. cellStep n (classFrom starts) (cell .k) (cell .l)) (ran adjacency₀ output₀ sum₀))
-    × (held ≡ degreesOf n adjacency)
+    × (degrees ≡ degreesOf n adjacency)
     × Resumes n (classFrom starts) adjacency cell cursor
     × WroteRecords (sum₀ .joins) (sum .joins) output₀ output
 
 abbrev μ-loop : tie.MeasureT-loop
-μ-loop adjacency₀ output₀ held₀ starts n cell m cursor₀ sum₀ counter₀ adjacency output held cursor sum counter = m - counter
+μ-loop adjacency₀ output₀ degrees₀ starts n cell m cursor₀ sum₀ counter₀ adjacency output degrees cursor sum counter = m - counter
 
 pub fill-steps-spec : {M : Type 1} → statement M
 fill-steps-spec =
@@ -32,7 +32,7 @@ fill-steps-spec =
     let f = c .before .before in
     let a = f .args in
     let start = start-resumes (a .n) (classFrom (a .starts .now)) (a .adjacency .now) (a .cell) (f .pre .0 .ranged) in
-    (omega arith, sym (foldTo-none _ _), f .pre .0 .degrees-held, start, wrote-none _ _))  -- loop-holds
+    (omega arith, sym (foldTo-none _ _), f .pre .0 .degrees-right, start, wrote-none _ _))  -- loop-holds
     (λ c κs.
     let t = c .before .before .before in
     let l = t .before in

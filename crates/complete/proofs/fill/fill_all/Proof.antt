@@ -17,19 +17,19 @@ use Rattle.complete.proofs.fill.fill_all.Statement.{statement}
 use Rattle.complete.proofs.fill.fill_all.Tie as tie
 
 abbrev Inv-loop : tie.InvT-loop
-Inv-loop adjacency₀ output₀ held₀ cells starts n sum₀ i₀ adjacency output held sum i =
+Inv-loop adjacency₀ output₀ degrees₀ cells starts n sum₀ i₀ adjacency output degrees sum i =
     (i ≤ mostClasses - leastClass)
     × (ran adjacency output sum ≡ foldTo i (λ i. fillRow n (classFrom starts) (matrixOf cells) (leastClass + i)) (ran adjacency₀ output₀ sum₀))
-    × (held ≡ degreesOf n adjacency)
+    × (degrees ≡ degreesOf n adjacency)
     × WroteRecords (sum₀ .joins) (sum .joins) output₀ output
 
 abbrev μ-loop : tie.MeasureT-loop
-μ-loop adjacency₀ output₀ held₀ cells starts n sum₀ i₀ adjacency output held sum i = mostClasses - leastClass - i
+μ-loop adjacency₀ output₀ degrees₀ cells starts n sum₀ i₀ adjacency output degrees sum i = mostClasses - leastClass - i
 
 pub fill-all-spec : {M : Type 1} → statement M
 fill-all-spec =
     tie.close (tie.spec Inv-loop μ-loop
-    (λ c. let f = c .before .before in (omega arith, sym (foldTo-none _ _), f .pre .degrees-held, wrote-none _ _))  -- loop-holds
+    (λ c. let f = c .before .before in (omega arith, sym (foldTo-none _ _), f .pre .degrees-right, wrote-none _ _))  -- loop-holds
     (λ c. let l = c .before .before .before .before in omega (arith, l .loop .inv .0))  -- add-complete-row
     (λ c κs.
     let t = c .before .before .before in

@@ -17,14 +17,14 @@ use Rattle.complete.proofs.fill.fill_row.Statement.{statement}
 use Rattle.complete.proofs.fill.fill_row.Tie as tie
 
 abbrev Inv-loop : tie.InvT-loop
-Inv-loop adjacency₀ output₀ held₀ cells starts n k sum₀ i₀ i-end adjacency output held sum i =
+Inv-loop adjacency₀ output₀ degrees₀ cells starts n k sum₀ i₀ i-end adjacency output degrees sum i =
     (k + i ≤ mostClasses)
     × (ran adjacency output sum ≡ foldTo i (λ i. fillCell n (classFrom starts) (matrixOf cells) k (k + i)) (ran adjacency₀ output₀ sum₀))
-    × (held ≡ degreesOf n adjacency)
+    × (degrees ≡ degreesOf n adjacency)
     × WroteRecords (sum₀ .joins) (sum .joins) output₀ output
 
 abbrev μ-loop : tie.MeasureT-loop
-μ-loop adjacency₀ output₀ held₀ cells starts n k sum₀ i₀ i-end adjacency output held sum i = i-end - i
+μ-loop adjacency₀ output₀ degrees₀ cells starts n k sum₀ i₀ i-end adjacency output degrees sum i = i-end - i
 
 pub fill-row-spec : {M : Type 1} → statement M
 fill-row-spec =
@@ -36,11 +36,11 @@ fill-row-spec =
     (λ c. omega (arith, c .before .before .before .pre .1))  -- element-copy-out-if1-2
     (λ c.
     let f = c .before .before .before .before .before in
-    (row-empty (f .pre .0) (f .args .k) (f .pre .1) (c .if1 .taken), (wrote-none _ _, f .pre .0 .degrees-held)))  -- returns
+    (row-empty (f .pre .0) (f .args .k) (f .pre .1) (c .if1 .taken), (wrote-none _ _, f .pre .0 .degrees-right)))  -- returns
     (λ c. omega (arith, c .before .before .before .before .before .pre .1))  -- sub-i-end
     (λ c.
     let f = c .before .before .before .before .before in
-    (omega (arith, f .pre .1), sym (foldTo-none _ _), f .pre .0 .degrees-held, wrote-none _ _))  -- loop-holds
+    (omega (arith, f .pre .1), sym (foldTo-none _ _), f .pre .0 .degrees-right, wrote-none _ _))  -- loop-holds
     (λ c. let l = c .before .before .before .before in omega (arith, l .loop .inv .0))  -- add-complete-cell
     (λ c κs.
     let t = c .before .before .before in

@@ -22,6 +22,6 @@ missing-spec =
     (λ c.
     let f = c .before .before .before .before in
     omega (arith, f .pre .1 .within, c .block-sum .ensures, c .before .before .cell .ensures .0))  -- sub-result
-    (λ c κs. tt)  -- unit-requires
-    (λ c. omega (arith, c .unit .ensures .1))  -- div-result
-    (λ c. rw (c .unit .ensures .0, c .before .block-sum .ensures, c .before .before .before .cell .ensures .0)))  -- returns-2
+    (λ c κs. tt)  -- times-counted-requires
+    (λ c. omega (arith, c .times-counted .ensures .1))  -- div-result
+    (λ c. rw (c .times-counted .ensures .0, c .before .block-sum .ensures, c .before .before .before .cell .ensures .0)))  -- returns-2

@@ -20,19 +20,19 @@ begin-spec =
     let p = n .before .pre in (
       omega (arith, vertices-few (p .state) (p .passed) (p .opened), n .vertex-count .ensures),
       λ v l. opened-few (p .state) (p .opened) (laid (p .state) (p .passed) (p .opened)) (n .vertex-count .ensures) v (omega (arith, l)),
-    ))  -- edges-held-requires
+    ))  -- edge-total-requires
     (λ c.
     let w = c .before in
     let n = w .before in
     let p = n .before .pre in
     wanted-enough (p .state) (p .passed) (p .opened) (n .vertex-count .ensures)
     (opened-wanted (p .state) (p .opened) (laid (p .state) (p .passed) (p .opened)) (w .edges-wanted .ensures))
-    (opened-edges (p .state) (p .opened) (laid (p .state) (p .passed) (p .opened)) (n .vertex-count .ensures) (c .edges-held .ensures)))  -- sub-missing
+    (opened-edges (p .state) (p .opened) (laid (p .state) (p .passed) (p .opened)) (n .vertex-count .ensures) (c .edge-total .ensures)))  -- sub-missing
     (λ c.
     let w = c .before in
     let p = w .before .before .pre in
     record {
       total = w .before .vertex-count .ensures;
       lacks =
-          ap₂ _-_ (opened-wanted (p .state) (p .opened) (laid (p .state) (p .passed) (p .opened)) (w .edges-wanted .ensures)) (c .edges-held .ensures);
+          ap₂ _-_ (opened-wanted (p .state) (p .opened) (laid (p .state) (p .passed) (p .opened)) (w .edges-wanted .ensures)) (c .edge-total .ensures);
     }))  -- returns

@@ -20,16 +20,16 @@ use Rattle.complete_shuffled.proofs.fill.shuffle_cells.Statement.{state
 use Rattle.complete_shuffled.proofs.fill.shuffle_cells.Tie as tie
 
 abbrev Inv-loop : tie.InvT-loop
-Inv-loop adjacency₀ output₀ held₀ cells starts classes n m x have₀ full₀ counts₀ sums₀ low₀ done₀ counter₀ adjacency output held have full counts sums low done counter =
+Inv-loop adjacency₀ output₀ degrees₀ cells starts classes n m x have₀ full₀ pairs₀ sums₀ low₀ done₀ counter₀ adjacency output degrees have full pairs sums low done counter =
     (counter ≤ m)
-    × Shuffling n cells starts classes adjacency have full counts sums low held (length output) (ran adjacency output (done .totals))
+    × Shuffling n cells starts classes adjacency have full pairs sums low degrees (length output) (ran adjacency output (done .totals))
     × (runShuffled (mostEdges - counter) n (classFrom starts) (matrixOf cells) (shuffledAt adjacency output done)
     ≡ runShuffled mostEdges n (classFrom starts) (matrixOf cells) (begins adjacency₀ x))
     × (edges n (edge adjacency) ≡ edges n (edge adjacency₀) + counter)
     × WroteRecords 0 (done .totals .joins) output₀ output
 
 abbrev μ-loop : tie.MeasureT-loop
-μ-loop adjacency₀ output₀ held₀ cells starts classes n m x have₀ full₀ counts₀ sums₀ low₀ done₀ counter₀ adjacency output held have full counts sums low done counter =
+μ-loop adjacency₀ output₀ degrees₀ cells starts classes n m x have₀ full₀ pairs₀ sums₀ low₀ done₀ counter₀ adjacency output degrees have full pairs sums low done counter =
     m - counter
 
 pub shuffle-cells-spec : {M : Type 1} → statement M

@@ -31,7 +31,7 @@ shuffle-step-spec =
     let f = p .before .before .before .before .before .before .before .before .before .before in
     let e = p .pick .ensures in (
       step-joinable (f .args .output .now) (f .args .done) (f .pre .0) (f .pre .1) _ _ _ (e .0) (e .1),
-      f .pre .0 .degrees-held,
+      f .pre .0 .degrees-right,
       f .pre .0 .lows,
       f .pre .0 .tracked .arranged,
       row-of (f .args .output .now) (f .args .done) (f .pre .0) (f .pre .1) _ _ _ (e .0) (e .1) (k .wide .ensures .0),

@@ -10,11 +10,11 @@ use Rattle.open_pairs.proofs.refresh.refresh_range.Statement.{statement
 use Rattle.open_pairs.proofs.refresh.refresh_range.Tie as tie
 
 abbrev Inv-loop : tie.InvT-loop
-Inv-loop adjacency full classes counts₀ sums₀ n from to v₀ counts sums v =
-    (from ≤ v) × (v ≤ to) × Summed counts sums × (counts ≡ refreshRange n classes adjacency full from v counts₀)
+Inv-loop adjacency full classes pairs₀ sums₀ n from to v₀ pairs sums v =
+    (from ≤ v) × (v ≤ to) × Summed pairs sums × (pairs ≡ refreshRange n classes adjacency full from v pairs₀)
 
 abbrev μ-loop : tie.MeasureT-loop
-μ-loop adjacency full classes counts₀ sums₀ n from to v₀ counts sums v = to - v
+μ-loop adjacency full classes pairs₀ sums₀ n from to v₀ pairs sums v = to - v
 
 pub refresh-range-spec : {M : Type 1} → statement M
 refresh-range-spec =

@@ -10,11 +10,11 @@ use Rattle.open_pairs.proofs.row.seek.Statement.{statement}
 use Rattle.open_pairs.proofs.row.seek.Tie as tie
 
 abbrev Inv-loop : tie.InvT-loop
-Inv-loop counts from to position at₀ rest₀ at rest =
-    (from ≤ at) × (at ≤ to) × (sumTo (at - from) (λ i. getD counts (from + i) 0) + rest ≡ position)
+Inv-loop pairs from to position at₀ rest₀ at rest =
+    (from ≤ at) × (at ≤ to) × (sumTo (at - from) (λ i. getD pairs (from + i) 0) + rest ≡ position)
 
 abbrev μ-loop : tie.MeasureT-loop
-μ-loop counts from to position at₀ rest₀ at rest = to - at
+μ-loop pairs from to position at₀ rest₀ at rest = to - at
 
 pub seek-spec : {M : Type 1} → statement M
 seek-spec =

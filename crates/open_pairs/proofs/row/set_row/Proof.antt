@@ -21,6 +21,6 @@ set-row-spec =
     omega (arith, sum-most (s .pre .0) (s .args .v / rowsInSum) (omega arith)))  -- add-sums
     (λ c. omega arith)  -- mul-sums-3
     (λ c. omega arith)  -- element-write-sums
-    (λ c. omega arith)  -- mul-counts
-    (λ c. omega arith)  -- element-write-counts
+    (λ c. omega arith)  -- mul-pairs
+    (λ c. omega arith)  -- element-write-pairs
     (λ c. let s = c .before .before in (refl, summed-set (s .pre .0) (s .args .v) (s .pre .1) (s .args .m) (s .pre .2))))  -- returns

@@ -11,10 +11,10 @@ use Rattle.open_pairs.proofs.row.total.Statement.{statement}
 use Rattle.open_pairs.proofs.row.total.Tie as tie
 
 abbrev Inv-loop : tie.InvT-loop
-Inv-loop counts sums sum₀ b₀ sum b = (b ≤ sumCount) × (sum ≡ openTo counts (rowsInSum * b)) × (sum ≤ rowsInSum * side * b)
+Inv-loop pairs sums sum₀ b₀ sum b = (b ≤ sumCount) × (sum ≡ openTo pairs (rowsInSum * b)) × (sum ≤ rowsInSum * side * b)
 
 abbrev μ-loop : tie.MeasureT-loop
-μ-loop counts sums sum₀ b₀ sum b = sumCount - b
+μ-loop pairs sums sum₀ b₀ sum b = sumCount - b
 
 pub total-spec : {M : Type 1} → statement M
 total-spec =
