@@ -29,7 +29,7 @@ fn print_replica(form: Form, choice: Choice) {
         return;
     }
     let mut output = [0u8; MAX_TEXT_BYTES];
-    let len = runner::render(form, choice, &input[..n], &mut output);
+    let len = runner::program_text(form, choice, &input[..n], &mut output);
     if !io::write_all(STDOUT_FILENO, &output[..len]) {
         io::write_all(STDERR_FILENO, b"replica: the output could not be written\n");
     }

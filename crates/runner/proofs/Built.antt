@@ -24,7 +24,7 @@ use Rattle.answer.specs.declared.CompleteAnswer.{CompleteAnswer}
 use Rattle.answer.specs.declared.CompleteAnswer.the-variants.{Completed, Refused as CompleteRefused}
 use Rattle.answer.specs.declared.Choice.{Choice}
 use Rattle.table.specs.Block.{blockCell, blockIsolated, plus}
-use Rattle.journal.specs.Journal.{phase, blocks, tableOf}
+use Rattle.journal.specs.Journal.{phaseTaking, phase, blocks, tableOf}
 use Rattle.journal.proofs.Store.{phase-stored, blocks-stored, table-stored}
 use Rattle.journal.proofs.Laid.{phase-laid}
 use Rattle.adjacency.specs.Adjacency.{edge}
@@ -93,7 +93,7 @@ tableTo input i =
 record Reached (input : List ℕ) (i : ℕ) (s : State) : Type 0 where
   lengths : lengthsOk s ≡ true
   is-valid : valid s ≡ true
-  taking : phase (s .journal) ≡ 0
+  taking : phase (s .journal) ≡ phaseTaking
   numbered : blocks (s .journal) ≡ i
   table : tableOf (s .journal) ≡ tableTo input i
 

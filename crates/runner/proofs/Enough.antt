@@ -13,8 +13,7 @@ use Rattle.answer.specs.declared.Verdict.{Verdict}
 use Rattle.answer.specs.declared.Verdict.the-variants.{Go, Stop}
 use Rattle.answer.specs.declared.Choice.{Choice}
 use Rattle.slices.proofs.Part.{length-part, getD-part}
-use Rattle.table.specs.Block.{blockMost}
-use Rattle.journal.specs.Journal.{mostBlocks}
+use Rattle.table.specs.Block.{blockMost, mostBlocks}
 use Rattle.state.specs.State.{State, cleared}
 use Rattle.runner.specs.Program.{blocksIn, blockIn, Taking, takeNext, takeAll, takenText, textFrom, inputMost}
 use Rattle.options.specs.declared.Form.{Form}

@@ -15,8 +15,7 @@ use Rattle.answer.specs.declared.Verdict.{Verdict}
 use Rattle.answer.specs.declared.Verdict.the-variants.{Go, Stop}
 use Rattle.answer.specs.declared.TakeAnswer.{TakeAnswer}
 use Rattle.answer.specs.declared.TakeAnswer.the-variants.{Taken, Held, Refused}
-use Rattle.table.specs.Block.{blockMost}
-use Rattle.journal.specs.Journal.{mostBlocks}
+use Rattle.table.specs.Block.{blockMost, mostBlocks}
 use Rattle.journal.proofs.Facts.{journal-facts}
 use Rattle.state.specs.State.{State, withJournal}
 use Rattle.state.proofs.Facts.{valid-journal}

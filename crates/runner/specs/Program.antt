@@ -16,8 +16,7 @@ use Rattle.answer.specs.declared.LayOutAnswer.the-variants.{LaidOut, Refused as
 use Rattle.answer.specs.declared.CompleteAnswer.{CompleteAnswer}
 use Rattle.answer.specs.declared.CompleteAnswer.the-variants.{Completed, Refused as CompleteRefused}
 use Rattle.answer.specs.declared.Choice.{Choice}
-use Rattle.table.specs.Block.{blockMost}
-use Rattle.journal.specs.Journal.{mostBlocks}
+use Rattle.table.specs.Block.{blockMost, mostBlocks}
 use Rattle.state.specs.State.{State, cleared}
 use Rattle.state.specs.Laid.{vertexCount}
 use Rattle.take_block.specs.Take.{takeAnswer, afterTake}

@@ -31,7 +31,6 @@ use answer::WrittenAnswer;
 use complete_shuffled::complete_shuffled;
 use join_records::JOIN_RECORD_BYTES;
 use journal::JOURNAL_BYTES;
-use journal::MAX_BLOCKS;
 use layout::MAX_VERTICES;
 use libc::STDOUT_FILENO;
 use options::Form;
@@ -39,6 +38,7 @@ use slices::least;
 use slices::put;
 use table::degree::MAX_DEGREE;
 use table::record::MAX_BLOCK_BYTES;
+use table::record::MAX_BLOCKS;
 use text::MAX_EDGE_BYTES;
 use text::MAX_HEAD_BYTES;
 use text::put_edges;
@@ -65,7 +65,7 @@ pub fn is_enough(n: usize) -> bool
 }
 
 // How many blocks len bytes are; the last may be shorter.
-fn block_count(len: usize) -> usize
+fn blocks_in(len: usize) -> usize
     ensures { λ r. ⌜ r ≡ (len + (blockMost - 1)) / blockMost ⌝ }
 {
     if len % MAX_BLOCK_BYTES == 0 {
@@ -104,7 +104,7 @@ fn take_all(journal: &mut [u8], adjacency: &[u8], input: &[u8]) -> Verdict
     ensures { λ r. ⌜ r ≡ takeAll (stateOf (now (journal .entry)) (now (adjacency .entry))) (now (input .entry)) .verdict ⌝ }
     ensures { λ _. ⌜ now (journal .exit) ≡ takeAll (stateOf (now (journal .entry)) (now (adjacency .entry))) (now (input .entry)) .state .journal ⌝ }
 {
-    let n = least(block_count(input.len()), MAX_BLOCKS + 1);
+    let n = least(blocks_in(input.len()), MAX_BLOCKS + 1);
     for number in 0..n {
         let verdict = take_one(journal, adjacency, number, block_in(input, number));
         match verdict {
@@ -116,7 +116,7 @@ fn take_all(journal: &mut [u8], adjacency: &[u8], input: &[u8]) -> Verdict
 }
 
 // The first line and a line for each edge of a list.
-fn put_list(output: &mut [u8], n: usize, switches: usize, edges: &[u8]) -> usize
+fn put_lines(output: &mut [u8], n: usize, switches: usize, edges: &[u8]) -> usize
     requires { ⌜ headMost + length (edgeLines (now edges)) ≤ length (now output) ⌝ }
     ensures { λ r. ⌜ r ≡ length (headLine n (length (now (edges .entry)) / 2) switches ++ edgeLines (now (edges .entry))) ⌝ }
     ensures { λ _. ⌜ now (output .exit) ≡ sets (now (output .entry)) 0 (headLine n (length (now (edges .entry)) / 2) switches ++ edgeLines (now (edges .entry))) ⌝ }
@@ -142,19 +142,19 @@ fn put_graph6(output: &mut [u8], n: usize, edges: &[u8]) -> usize
 }
 
 // The list in the form asked for.
-fn put_form(output: &mut [u8], form: Form, n: usize, switches: usize, edges: &[u8]) -> usize
+fn put_list_text(output: &mut [u8], form: Form, n: usize, switches: usize, edges: &[u8]) -> usize
     requires { ⌜ (listVerdict (now edges) n ≡ Go) × (textMost ≤ length (now output)) × (headMost + length (edgeLines (now edges)) ≤ length (now output)) ⌝ }
     ensures { λ r. ⌜ r ≡ length (listText form n switches (now (edges .entry))) ⌝ }
     ensures { λ _. ⌜ now (output .exit) ≡ sets (now (output .entry)) 0 (listText form n switches (now (edges .entry))) ⌝ }
 {
     match form {
-        Form::Lines => put_list(output, n, switches, edges),
+        Form::Lines => put_lines(output, n, switches, edges),
         Form::Graph6 => put_graph6(output, n, edges),
     }
 }
 
 // A completed state of n vertices. Its list is never refused: there is room for every edge.
-fn put_state(
+fn put_state_text(
     journal: &[u8],
     adjacency: &[u8],
     form: Form,
@@ -170,7 +170,7 @@ fn put_state(
     let answer = edge_list::edge_list(journal, adjacency, &mut list);
     match answer {
         WrittenAnswer::Refused(r) => put_refused(output, 0, r),
-        WrittenAnswer::Written(len) => put_form(output, form, n, switches, &list[..len]),
+        WrittenAnswer::Written(len) => put_list_text(output, form, n, switches, &list[..len]),
     }
 }
 
@@ -205,7 +205,7 @@ fn complete_by(
 }
 
 // Completes a laid state of n vertices. There is room for every record.
-fn complete(
+fn put_laid_text(
     journal: &[u8],
     adjacency: &mut [u8],
     form: Form,
@@ -221,7 +221,7 @@ fn complete(
     let answer = complete_by(journal, adjacency, choice, &mut records);
     match answer {
         CompleteAnswer::Refused(r) => put_refused(output, 0, r),
-        CompleteAnswer::Completed(_, switches, _) => put_state(
+        CompleteAnswer::Completed(_, switches, _) => put_state_text(
             journal,
             adjacency,
             form,
@@ -233,7 +233,7 @@ fn complete(
 }
 
 // Lays out what was taken.
-fn lay_out(
+fn put_taken_text(
     journal: &mut [u8],
     adjacency: &mut [u8],
     form: Form,
@@ -247,12 +247,17 @@ fn lay_out(
     let answer = lay_out::lay_out(journal, adjacency);
     match answer {
         LayOutAnswer::Refused(r) => put_refused(output, 0, r),
-        LayOutAnswer::LaidOut(n) => complete(journal, adjacency, form, choice, n, output),
+        LayOutAnswer::LaidOut(n) => put_laid_text(journal, adjacency, form, choice, n, output),
     }
 }
 
 // The program's text for an input, at the start of the output. Its length; it always fits.
-pub fn render(form: Form, choice: Choice, input: &[u8], output: &mut [u8; MAX_TEXT_BYTES]) -> usize
+pub fn program_text(
+    form: Form,
+    choice: Choice,
+    input: &[u8],
+    output: &mut [u8; MAX_TEXT_BYTES],
+) -> usize
     ensures { λ r. ⌜ r ≡ length (programText form choice (now (input .entry))) ⌝ }
     ensures { λ r. ⌜ Counts r (now (output .exit)) ⌝ }
     ensures { λ _. ⌜ now (output .exit) ≡ sets (now (output .entry)) 0 (programText form choice (now (input .entry))) ⌝ }
@@ -262,13 +267,13 @@ pub fn render(form: Form, choice: Choice, input: &[u8], output: &mut [u8; MAX_TE
     let taken = take_all(&mut journal, &adjacency, input);
     match taken {
         Verdict::Stop(r) => put_refused(output, 0, r),
-        Verdict::Go => lay_out(&mut journal, &mut adjacency, form, choice, output),
+        Verdict::Go => put_taken_text(&mut journal, &mut adjacency, form, choice, output),
     }
 }
 
 // Prints the lines for an input, completed by the lowest open pairs.
 pub fn run(input: &[u8]) -> bool {
     let mut output = [0u8; MAX_TEXT_BYTES];
-    let len = render(Form::Lines, Choice::Lowest, input, &mut output);
+    let len = program_text(Form::Lines, Choice::Lowest, input, &mut output);
     io::write_all(STDOUT_FILENO, &output[..len])
 }

@@ -21,7 +21,7 @@ abbrev μ-loop : tie.MeasureT-loop
 pub take-all-spec : {M : Type 1} → statement M
 take-all-spec =
     tie.close (tie.spec Inv-loop μ-loop
-    (λ c κs. tt)  -- block-count-requires
+    (λ c κs. tt)  -- blocks-in-requires
     (λ c. omega arith)  -- add-least
     (λ c κs. tt)  -- least-requires
     (λ c. (omega arith, refl, foldTo-none _ _))  -- loop-holds

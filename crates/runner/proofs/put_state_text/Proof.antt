@@ -1,4 +1,4 @@
--- `runner::put_state` meets its contract: its list is never refused.
+-- `runner::put_state_text` meets its contract: its list is never refused.
 -- Assumes nothing.
 use Prim.Native.Nat.{ℕ, _*_}
 use native.Mathlib.Omega.{arith}
@@ -7,11 +7,11 @@ use lib.ListN.{replicate, length-replicate}
 use Rattle.state.specs.State.{stateOf}
 use Rattle.complete.specs.Complete.{mostEdges}
 use Rattle.runner.proofs.Room.{never-refused, listed, passes, lines-fit}
-use Rattle.runner.proofs.put_state.Statement.{statement}
-use Rattle.runner.proofs.put_state.Tie as tie
+use Rattle.runner.proofs.put_state_text.Statement.{statement}
+use Rattle.runner.proofs.put_state_text.Tie as tie
 
-pub put-state-spec : {M : Type 1} → statement M
-put-state-spec =
+pub put-state-text-spec : {M : Type 1} → statement M
+put-state-text-spec =
     tie.close (tie.spec
     (λ c. search needs)  -- slice-aggregate-edge-list
     (λ c κs. tt)  -- edge-list-requires
@@ -41,7 +41,7 @@ put-state-spec =
       passes (stateOf (a .journal .now) (a .adjacency .now)) (s .pre .0),
       s .pre .2,
       omega (arith, lines-fit (stateOf (a .journal .now) (a .adjacency .now)) (s .pre .0), s .pre .2),
-    ))  -- put-form-requires
+    ))  -- put-list-text-requires
     (λ c. search needs)  -- same-length
     (λ c.
     let k = c .before .before .before .before .before in
@@ -57,4 +57,4 @@ put-state-spec =
     let s = l .before .before .before .before .before in
     let a = s .args in
     let f = listed (stateOf (a .journal .now) (a .adjacency .now)) (s .pre .0) (replicate (2 * mostEdges) 0) (length-replicate {A = ℕ} (2 * mostEdges) 0) _ _ (l .edge-list .ensures) _ (k .answer2 .given .1) in
-    rw (f .1) at (p .put-form .ensures)))  -- returns-2
+    rw (f .1) at (p .put-list-text .ensures)))  -- returns-2

@@ -1,4 +1,4 @@
--- `runner::put_list` meets its contract.
+-- `runner::put_lines` meets its contract.
 -- Assumes nothing.
 use mathlib.Core.Path.{_∙_}
 use Prim.Native.Nat.{_/_}
@@ -9,11 +9,11 @@ use lib.ListN.{length, length-append}
 use Rattle.text.specs.Text.{headLine, edgeLines}
 use Rattle.text.proofs.Decimal.{head-length}
 use Rattle.text.proofs.Written.{fits-next, written-next}
-use Rattle.runner.proofs.put_list.Statement.{statement}
-use Rattle.runner.proofs.put_list.Tie as tie
+use Rattle.runner.proofs.put_lines.Statement.{statement}
+use Rattle.runner.proofs.put_lines.Tie as tie
 
-pub put-list-spec : {M : Type 1} → statement M
-put-list-spec =
+pub put-lines-spec : {M : Type 1} → statement M
+put-lines-spec =
     tie.close (tie.spec
     (λ c κs. omega arith)  -- put-head-requires
     (λ c κs.

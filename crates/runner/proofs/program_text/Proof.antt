@@ -1,14 +1,14 @@
--- `runner::render` meets its contract.
+-- `runner::program_text` meets its contract.
 -- Assumes nothing.
 use borrow.Author.Needs.{needs}
 use Rattle.state.specs.State.{cleared}
 use Rattle.runner.specs.Program.{textFrom}
 use Rattle.runner.proofs.Said.{says, says-line, said-stopped, said-taken, says-fits}
-use Rattle.runner.proofs.render.Statement.{statement}
-use Rattle.runner.proofs.render.Tie as tie
+use Rattle.runner.proofs.program_text.Statement.{statement}
+use Rattle.runner.proofs.program_text.Tie as tie
 
-pub render-spec : {M : Type 1} → statement M
-render-spec =
+pub program-text-spec : {M : Type 1} → statement M
+program-text-spec =
     tie.close (tie.spec
     (λ c. search needs)  -- slice-aggregate-take-all
     (λ c. search needs)  -- slice-aggregate-take-all-2
@@ -18,7 +18,7 @@ render-spec =
     (λ c. search needs)  -- enum-told
     (λ c. search needs)  -- slice-aggregate-lay-out
     (λ c. search needs)  -- slice-aggregate-lay-out-2
-    (λ c κs. search needs)  -- lay-out-requires
+    (λ c κs. search needs)  -- put-taken-text-requires
     (λ c.
     let k = c .before .before .before in
     let t = k .before .before .before in
@@ -35,4 +35,4 @@ render-spec =
     says-fits (a .form) (a .choice) cleared (a .input .now) (a .output .now) _ _ (search needs)
     (says (textFrom (a .form) (a .choice) cleared (a .input .now)) _ (a .output .now) _ _
     (said-taken (a .form) (a .choice) cleared (a .input .now) _ _ (t .take-all .ensures) (k .enum-told .given .1))
-    (p .lay-out .ensures))))  -- returns-2
+    (p .put-taken-text .ensures))))  -- returns-2

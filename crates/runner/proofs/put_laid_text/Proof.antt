@@ -1,4 +1,4 @@
--- `runner::complete` meets its contract.
+-- `runner::put_laid_text` meets its contract.
 -- Assumes nothing.
 use Prim.Native.Nat.{ℕ}
 use native.Mathlib.Omega.{arith}
@@ -7,11 +7,11 @@ use lib.ListN.{length-replicate}
 use Rattle.state.specs.State.{stateOf}
 use Rattle.runner.specs.Program.{recordsMost}
 use Rattle.runner.proofs.Said.{says, says-line, said-refused, said-completed, completed-laid}
-use Rattle.runner.proofs.complete.Statement.{statement}
-use Rattle.runner.proofs.complete.Tie as tie
+use Rattle.runner.proofs.put_laid_text.Statement.{statement}
+use Rattle.runner.proofs.put_laid_text.Tie as tie
 
-pub complete-spec : {M : Type 1} → statement M
-complete-spec =
+pub put-laid-text-spec : {M : Type 1} → statement M
+put-laid-text-spec =
     tie.close (tie.spec
     (λ c. search needs)  -- slice-aggregate-complete-by
     (λ c κs. tt)  -- complete-by-requires
@@ -26,7 +26,7 @@ complete-spec =
     let e = l .complete-by .ensures in
     let f = completed-laid (a .form) (a .choice) (stateOf (a .journal .now) (a .adjacency .now)) (a .n) _ (length-replicate {A = ℕ} recordsMost 0) _ _ (e .0) (e .1)
     _ _ _ (k .answer2 .given .1) in
-    (f, s .pre .0, s .pre .1))  -- put-state-requires
+    (f, s .pre .0, s .pre .1))  -- put-state-text-requires
     (λ c. search needs)  -- same-length
     (λ c. search needs)  -- same-length-2
     (λ c.
@@ -49,4 +49,4 @@ complete-spec =
     says _ _ (a .output .now) _ _
     (said-completed (a .form) (a .choice) (stateOf (a .journal .now) (a .adjacency .now)) (a .n) _ (length-replicate {A = ℕ} recordsMost 0) _ _ (e .0) (e .1)
     _ _ _ (k .answer2 .given .1))
-    (p .put-state .ensures)))  -- returns-2
+    (p .put-state-text .ensures)))  -- returns-2
