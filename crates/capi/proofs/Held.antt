@@ -4,7 +4,7 @@ use mathlib.Core.Path.{_≡_}
 use Prim.Native.Nat.{ℕ, _<_}
 use native.Mathlib.Omega.{arith}
 use Rattle.answer.specs.declared.LengthAnswer.the-variants.{Length}
-use Rattle.journal.specs.Journal.{mostBlocks}
+use Rattle.table.specs.Block.{mostBlocks}
 use Rattle.journal.proofs.Facts.{journal-facts}
 use Rattle.state.specs.State.{State}
 use Rattle.state.proofs.Facts.{valid-journal}

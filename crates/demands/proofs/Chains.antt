@@ -6,7 +6,7 @@ use mathlib.Core.List.{List, [], _∷_}
 use Prim.Native.Nat.{ℕ, _+_, _%_, _≤_}
 use lib.Dec.{leb, ltb, eqb}
 use lib.ListN.{length}
-use Rattle.answer.specs.Refusals.{refusal, stop, unless, unlessStopped}
+use Rattle.answer.specs.Refusals.{refuse, stopped, unless, unlessStopped}
 use Rattle.answer.specs.Numbers.{numberOf, oneOf}
 use Rattle.answer.specs.declared.Cause.the-variants.{WrongLength, InvalidState, WrongPhase, BlockLength, BadRecord, BlockNumber, BlockDiffers, JournalFull, OddDiagonal, RowNotDivisible, CellTooLarge, TooManyVertices, NoSuchVertex, SameVertex, EdgePresent, CellNotShort, EdgeAbsent, OutputTooShort, BadEdgeList, DegreeTooHigh, Graph6Text, Graph6Size}
 use Rattle.answer.specs.declared.Refusal.{Refusal}
@@ -36,8 +36,8 @@ use Rattle.answer.specs.declared.ReadAnswer.the-variants as Read
 use Rattle.graph.specs.Graph.{DegreeTable}
 use Rattle.graph.specs.Tests.{mostClasses, firstOdd, firstUneven, firstOverfull, firstOverfullIn, vertices}
 use Rattle.layout.specs.Layout.{mostVertices, layoutVerdict}
-use Rattle.table.specs.Block.{records, firstBad}
-use Rattle.journal.specs.Journal.{mostBlocks, phase, blocks, sameBlock}
+use Rattle.table.specs.Block.{mostBlocks, records, firstBad}
+use Rattle.journal.specs.Journal.{phaseTaking, phase, blocks, sameBlock}
 use Rattle.state.specs.State.{State}
 use Rattle.state.specs.Checks.{stateVerdict, phaseVerdict, pairVerdict}
 use Rattle.state.specs.Valid.{lengthsOk, valid}
@@ -101,7 +101,7 @@ behind Of ns (Stop r) refused rest f h x = f r h
 pub state-numbers : (s : State) (ns : List ℕ) → OfVerdict (1 ∷ 2 ∷ ns) (stateVerdict s)
 state-numbers s ns = go (lengthsOk s) (valid s)
   where
-    go : (a b : Bool) → OfVerdict (1 ∷ 2 ∷ ns) (unless a (stop WrongLength) (unless b (stop InvalidState) Go))
+    go : (a b : Bool) → OfVerdict (1 ∷ 2 ∷ ns) (unless a (stopped WrongLength) (unless b (stopped InvalidState) Go))
     go false b = refl
     go true false = refl
     go true true = tt
@@ -110,23 +110,23 @@ pub phase-numbers : (p : ℕ) (s : State) (ns : List ℕ) → OfVerdict (1 ∷ 2
 phase-numbers p s ns =
     behind OfVerdict (1 ∷ 2 ∷ 3 ∷ ns) (stateVerdict s) Stop _ (λ r h. h) (state-numbers s (3 ∷ ns)) (go (eqb (phase (s .journal)) p))
   where
-    go : (c : Bool) → OfVerdict (1 ∷ 2 ∷ 3 ∷ ns) (unless c (stop WrongPhase) Go)
+    go : (c : Bool) → OfVerdict (1 ∷ 2 ∷ 3 ∷ ns) (unless c (stopped WrongPhase) Go)
     go false = refl
     go true = tt
 
 -- Each entry's own checks, test by test: whatever the tests say, what comes out is one of its answers.
-pub clear-chain : (a : Bool) → OfClear (1 ∷ []) (unless a (Clear.Refused (refusal WrongLength 0 0)) Clear.Cleared)
+pub clear-chain : (a : Bool) → OfClear (1 ∷ []) (unless a (Clear.Refused (refuse WrongLength 0 0)) Clear.Cleared)
 clear-chain false = refl
 clear-chain true = tt
 
 -- .. of taking, those behind 4
 later-chain : (d e f g h i : Bool) (bad next : ℕ)
     → OfTake (5 ∷ 6 ∷ 7 ∷ 3 ∷ 8 ∷ [])
-    (unless d (Take.Refused (refusal BadRecord bad 0))
-    (unless e (Take.Refused (refusal BlockNumber 0 0))
-    (cond f (unless g (Take.Refused (refusal BlockDiffers 0 0)) Take.Held)
-    (unless h (Take.Refused (refusal WrongPhase 0 0))
-    (unless i (Take.Refused (refusal JournalFull 0 0))
+    (unless d (Take.Refused (refuse BadRecord bad 0))
+    (unless e (Take.Refused (refuse BlockNumber 0 0))
+    (cond f (unless g (Take.Refused (refuse BlockDiffers 0 0)) Take.Held)
+    (unless h (Take.Refused (refuse WrongPhase 0 0))
+    (unless i (Take.Refused (refuse JournalFull 0 0))
     (Take.Taken next))))))
 later-chain false e f g h i bad next = refl
 later-chain true false f g h i bad next = refl
@@ -138,11 +138,11 @@ later-chain true true false g true true bad next = tt
 
 -- the answer to a block whose length 4 lets pass
 abbrev pub takeLater : List ℕ → ℕ → List ℕ → TakeAnswer
-takeLater j number b = unless (eqb (firstBad b) (records b)) (Take.Refused (refusal BadRecord (firstBad b) 0)) (takeNumbered j number b)
+takeLater j number b = unless (eqb (firstBad b) (records b)) (Take.Refused (refuse BadRecord (firstBad b) 0)) (takeNumbered j number b)
 
 pub later-numbers : (j : List ℕ) (number : ℕ) (b : List ℕ) → OfTake (5 ∷ 6 ∷ 7 ∷ 3 ∷ 8 ∷ []) (takeLater j number b)
 later-numbers j number b =
-    later-chain (eqb (firstBad b) (records b)) (leb number (blocks j)) (ltb number (blocks j)) (sameBlock j number b) (eqb (phase j) 0)
+    later-chain (eqb (firstBad b) (records b)) (leb number (blocks j)) (ltb number (blocks j)) (sameBlock j number b) (eqb (phase j) phaseTaking)
     (ltb (blocks j) mostBlocks) (firstBad b) (blocks j + 1)
 
 take-more : (m : ℕ) (ns : List ℕ) (a : TakeAnswer) → OfTake ns a → OfTake (m ∷ ns) a
@@ -151,20 +151,20 @@ take-more m ns Take.Held h = tt
 take-more m ns (Take.Refused r) h = rw h (or-true (eqb (numberOf (r .cause)) m))
 
 pub take-chain : (c : Bool) (a : TakeAnswer) → OfTake (5 ∷ 6 ∷ 7 ∷ 3 ∷ 8 ∷ []) a
-    → OfTake (1 ∷ 2 ∷ 4 ∷ 5 ∷ 6 ∷ 7 ∷ 3 ∷ 8 ∷ []) (unless c (Take.Refused (refusal BlockLength 0 0)) a)
+    → OfTake (1 ∷ 2 ∷ 4 ∷ 5 ∷ 6 ∷ 7 ∷ 3 ∷ 8 ∷ []) (unless c (Take.Refused (refuse BlockLength 0 0)) a)
 take-chain false a h = refl
 take-chain true a h = take-more 1 _ a (take-more 2 _ a (take-more 4 _ a h))
 
-pub length-chain : (c : Bool) (n : ℕ) → OfLength (1 ∷ 2 ∷ 6 ∷ []) (unless c (Len.Refused (refusal BlockNumber 0 0)) (Len.Length n))
+pub length-chain : (c : Bool) (n : ℕ) → OfLength (1 ∷ 2 ∷ 6 ∷ []) (unless c (Len.Refused (refuse BlockNumber 0 0)) (Len.Length n))
 length-chain false n = refl
 length-chain true n = tt
 
 pub verdict-chain : (a b c d : Bool) (i j k l : ℕ)
     → OfVerdict (1 ∷ 2 ∷ 3 ∷ 9 ∷ 10 ∷ 11 ∷ 12 ∷ [])
-    (unless a (Stop (refusal OddDiagonal i i))
-    (unless b (Stop (refusal RowNotDivisible j 0))
-    (unless c (Stop (refusal CellTooLarge k l))
-    (unless d (stop TooManyVertices) Go))))
+    (unless a (Stop (refuse OddDiagonal i i))
+    (unless b (Stop (refuse RowNotDivisible j 0))
+    (unless c (Stop (refuse CellTooLarge k l))
+    (unless d (stopped TooManyVertices) Go))))
 verdict-chain false b c d i j k l = refl
 verdict-chain true false c d i j k l = refl
 verdict-chain true true false d i j k l = refl
@@ -183,9 +183,9 @@ pair-numbers n v w ns = go (ltb v n) (ltb w n) (not (eqb v w))
   where
     go : (a b c : Bool)
         → OfVerdict (1 ∷ 2 ∷ 3 ∷ 13 ∷ 14 ∷ ns)
-        (unlessStopped (unless a (stop NoSuchVertex) Go) Stop
-        (unlessStopped (unless b (stop NoSuchVertex) Go) Stop
-        (unless c (stop SameVertex) Go)))
+        (unlessStopped (unless a (stopped NoSuchVertex) Go) Stop
+        (unlessStopped (unless b (stopped NoSuchVertex) Go) Stop
+        (unless c (stopped SameVertex) Go)))
     go false b c = refl
     go true false c = refl
     go true true false = refl
@@ -193,26 +193,26 @@ pair-numbers n v w ns = go (ltb v n) (ltb w n) (not (eqb v w))
 
 pub add-chain : (g h : Bool) (k l : ℕ) (s : Switches)
     → OfAdd (1 ∷ 2 ∷ 3 ∷ 13 ∷ 14 ∷ 15 ∷ 16 ∷ [])
-    (unless g (Add.Refused (refusal EdgePresent 0 0))
-    (unless h (Add.Refused (refusal CellNotShort k l))
+    (unless g (Add.Refused (refuse EdgePresent 0 0))
+    (unless h (Add.Refused (refuse CellNotShort k l))
     (Add.Added s)))
 add-chain false h k l s = refl
 add-chain true false k l s = refl
 add-chain true true k l s = tt
 
 pub remove-chain : (g : Bool)
-    → OfRemove (1 ∷ 2 ∷ 3 ∷ 13 ∷ 14 ∷ 17 ∷ []) (unless g (Remove.Refused (refusal EdgeAbsent 0 0)) Remove.Removed)
+    → OfRemove (1 ∷ 2 ∷ 3 ∷ 13 ∷ 14 ∷ 17 ∷ []) (unless g (Remove.Refused (refuse EdgeAbsent 0 0)) Remove.Removed)
 remove-chain false = refl
 remove-chain true = tt
 
 pub complete-chain : (d : Bool) (i s n : ℕ)
-    → OfComplete (1 ∷ 2 ∷ 3 ∷ 18 ∷ []) (unless d (Complete.Refused (refusal OutputTooShort 0 0)) (Complete.Completed i s n))
+    → OfComplete (1 ∷ 2 ∷ 3 ∷ 18 ∷ []) (unless d (Complete.Refused (refuse OutputTooShort 0 0)) (Complete.Completed i s n))
 complete-chain false i s n = refl
 complete-chain true i s n = tt
 
 -- an output that is long enough, or the check 18, which is among the numbers
 pub fits-chain : (ns : List ℕ) → oneOf 18 ns ≡ true → (d : Bool) (n m : ℕ) → (d ≡ true → n ≤ m)
-    → OfWritten ns n m (unless d (Write.Refused (refusal OutputTooShort 0 0)) (Write.Written n))
+    → OfWritten ns n m (unless d (Write.Refused (refuse OutputTooShort 0 0)) (Write.Written n))
 fits-chain ns e false n m h = e
 fits-chain ns e true n m h = (refl, h refl)
 
@@ -222,9 +222,9 @@ list-numbers e total ns = go (leb total mostVertices) (eqb (length e % 2) 0) (eq
   where
     go : (a b c : Bool)
         → OfVerdict (19 ∷ ns)
-        (unless a (Stop (refusal BadEdgeList 0 0))
-        (unless b (Stop (refusal BadEdgeList (listed e) 0))
-        (unless c (Stop (refusal BadEdgeList (firstBadEdge e total) 0)) Go)))
+        (unless a (Stop (refuse BadEdgeList 0 0))
+        (unless b (Stop (refuse BadEdgeList (listed e) 0))
+        (unless c (Stop (refuse BadEdgeList (firstBadEdge e total) 0)) Go)))
     go false b c = refl
     go true false c = refl
     go true true false = refl
@@ -232,17 +232,17 @@ list-numbers e total ns = go (leb total mostVertices) (eqb (length e % 2) 0) (eq
 
 pub survey-chain : (ns : List ℕ) → oneOf 20 ns ≡ true → oneOf 18 ns ≡ true → (c d : Bool) (k n m : ℕ) → (d ≡ true → n ≤ m)
     → OfWritten ns n m
-    (unless c (Write.Refused (refusal DegreeTooHigh k 0))
-    (unless d (Write.Refused (refusal OutputTooShort 0 0))
+    (unless c (Write.Refused (refuse DegreeTooHigh k 0))
+    (unless d (Write.Refused (refuse OutputTooShort 0 0))
     (Write.Written n)))
 survey-chain ns a b false d k n m h = a
 survey-chain ns a b true d k n m h = fits-chain ns b d n m h
 
 pub read-chain : (a b d : Bool) (n total m : ℕ) → (d ≡ true → n ≤ m)
     → OfRead (22 ∷ 21 ∷ 18 ∷ []) n m
-    (unless a (Read.Refused (refusal Graph6Size 0 0))
-    (unless b (Read.Refused (refusal Graph6Text 0 0))
-    (unless d (Read.Refused (refusal OutputTooShort 0 0))
+    (unless a (Read.Refused (refuse Graph6Size 0 0))
+    (unless b (Read.Refused (refuse Graph6Text 0 0))
+    (unless d (Read.Refused (refuse OutputTooShort 0 0))
     (Read.Read n total))))
 read-chain false b d n total m h = refl
 read-chain true false d n total m h = refl

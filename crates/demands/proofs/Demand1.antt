@@ -34,12 +34,12 @@ use Rattle.answer.specs.declared.Choice.the-variants.{Lowest, Picked}
 use Rattle.graph.specs.Tests.{vertices}
 use Rattle.table.specs.Block.{blockLength}
 use Rattle.layout.specs.Layout.{layoutVerdict}
-use Rattle.journal.specs.Journal.{blocks, slotLength, tableOf}
+use Rattle.journal.specs.Journal.{phaseTaking, phaseLaid, blocks, slotLength, tableOf}
 use Rattle.adjacency.specs.Adjacency.{edge}
 use Rattle.state.specs.State.{State}
 use Rattle.state.specs.Checks.{stateVerdict, phaseVerdict, pairVerdict}
 use Rattle.state.specs.Valid.{lengthsOk}
-use Rattle.state.specs.Laid.{vertexCount, classAt, isShort}
+use Rattle.state.specs.Laid.{vertexCount, classAt, shortAt}
 use Rattle.joining.specs.Join.{joinSwitches}
 use Rattle.clear.specs.Clear.{afterClear}
 use Rattle.take_block.specs.Take.{takeOnValid, afterTake}
@@ -73,8 +73,8 @@ past out bytes n e h = (
 edges-numbers : (s : State) (m : ℕ) → OfWritten (1 ∷ 2 ∷ 3 ∷ 18 ∷ []) (length (listBytes (vertexCount s) (s .adjacency))) m (listAnswer s m)
 edges-numbers s m =
     let n = length (listBytes (vertexCount s) (s .adjacency)) in
-    behind (λ ns. OfWritten ns n m) (1 ∷ 2 ∷ 3 ∷ 18 ∷ []) (phaseVerdict 1 s) Write.Refused (listLaid s m) (λ r h. h)
-    (phase-numbers 1 s (18 ∷ [])) (fits-chain (1 ∷ 2 ∷ 3 ∷ 18 ∷ []) refl (leb n m) n m (leb-true n m))
+    behind (λ ns. OfWritten ns n m) (1 ∷ 2 ∷ 3 ∷ 18 ∷ []) (phaseVerdict phaseLaid s) Write.Refused (listLaid s m) (λ r h. h)
+    (phase-numbers phaseLaid s (18 ∷ [])) (fits-chain (1 ∷ 2 ∷ 3 ∷ 18 ∷ []) refl (leb n m) n m (leb-true n m))
 
 -- behind the checks 19, and with them
 pub survey-rest : (ns : List ℕ) → oneOf 20 ns ≡ true → oneOf 18 ns ≡ true → (e : List ℕ) (total m : ℕ)
@@ -109,7 +109,7 @@ complete-refused : (s : State) (r : Ran) (out : List ℕ) (q : Refusal) → ranA
     → Numbered q (1 ∷ 2 ∷ 3 ∷ 18 ∷ []) × (ranAfter r s (length out) ≡ s) × (ranOutput r s out ≡ out)
 complete-refused s r out q e = (
   subst (OfComplete (1 ∷ 2 ∷ 3 ∷ 18 ∷ [])) e
-      (behind OfComplete _ (phaseVerdict 1 s) Complete.Refused (ranLaid r s (length out)) (λ r h. h) (phase-numbers 1 s _)
+      (behind OfComplete _ (phaseVerdict phaseLaid s) Complete.Refused (ranLaid r s (length out)) (λ r h. h) (phase-numbers phaseLaid s _)
       (complete-chain (leb (joinRecordSize * missing s) (length out)) (r .joins) (r .switches) (length (r .records)))),
   ap (λ (a : CompleteAnswer). afterRan a r s) e,
   ap (λ (a : CompleteAnswer). outputRan a r out) e,
@@ -148,22 +148,22 @@ demand-1 =
       );
       lay-out = λ s r e. (
         subst (OfLayOut (1 ∷ 2 ∷ 3 ∷ 9 ∷ 10 ∷ 11 ∷ 12 ∷ [])) e
-            (behind OfLayOut _ (phaseVerdict 0 s) LayOut.Refused _ (λ r h. h) (phase-numbers 0 s _)
+            (behind OfLayOut _ (phaseVerdict phaseTaking s) LayOut.Refused _ (λ r h. h) (phase-numbers phaseTaking s _)
             (behind OfLayOut _ (layoutVerdict (tableOf (s .journal))) LayOut.Refused (LayOut.LaidOut (vertices (tableOf (s .journal)))) (λ r h. h)
             (layout-numbers (tableOf (s .journal))) tt)),
         ap (λ (a : LayOutAnswer). afterLayOut a s) e,
       );
       add = λ s v w r e. (
         subst (OfAdd (1 ∷ 2 ∷ 3 ∷ 13 ∷ 14 ∷ 15 ∷ 16 ∷ [])) e
-            (behind OfAdd _ (phaseVerdict 1 s) Add.Refused _ (λ r h. h) (phase-numbers 1 s _)
+            (behind OfAdd _ (phaseVerdict phaseLaid s) Add.Refused _ (λ r h. h) (phase-numbers phaseLaid s _)
             (behind OfAdd _ (pairVerdict (vertexCount s) v w) Add.Refused (addPair s v w) (λ r h. h) (pair-numbers (vertexCount s) v w _)
-            (add-chain (eqb (edge (s .adjacency) v w) 0) (isShort s (classAt s v) (classAt s w))
+            (add-chain (eqb (edge (s .adjacency) v w) 0) (shortAt s (classAt s v) (classAt s w))
             (min (classAt s v) (classAt s w)) (max (classAt s v) (classAt s w)) (joinSwitches (vertexCount s) (classAt s) (s .adjacency) v w)))),
         ap (λ (a : AddAnswer). afterAdd a s v w) e,
       );
       remove = λ s v w r e. (
         subst (OfRemove (1 ∷ 2 ∷ 3 ∷ 13 ∷ 14 ∷ 17 ∷ [])) e
-            (behind OfRemove _ (phaseVerdict 1 s) Remove.Refused _ (λ r h. h) (phase-numbers 1 s _)
+            (behind OfRemove _ (phaseVerdict phaseLaid s) Remove.Refused _ (λ r h. h) (phase-numbers phaseLaid s _)
             (behind OfRemove _ (pairVerdict (vertexCount s) v w) Remove.Refused _ (λ r h. h) (pair-numbers (vertexCount s) v w _)
             (remove-chain (eqb (edge (s .adjacency) v w) 1)))),
         ap (λ (a : RemoveAnswer). afterRemove a s v w) e,

@@ -28,7 +28,7 @@ use Rattle.answer.specs.Numbers.{oneOf}
 use Rattle.table.specs.Block.{wellFormed, blockCell, blockIsolated, plus}
 use Rattle.graph.proofs.Passes.{Passed, passes-passed}
 use Rattle.graph.proofs.Realizability.{has-table, has-isolated}
-use Rattle.journal.specs.Journal.{phase, blocks, jdmOf, tableOf}
+use Rattle.journal.specs.Journal.{phaseLaid, phase, blocks, jdmOf, tableOf}
 use Rattle.journal.proofs.Table.{jdm-table}
 use Rattle.adjacency.specs.Adjacency.{edge}
 use Rattle.state.specs.State.{State, cleared}
@@ -46,8 +46,8 @@ use Rattle.complete.proofs.Entry.{completed-facts}
 use Rattle.complete_shuffled.specs.Outcome.{outcome, choiceAnswer, choiceAfter}
 use Rattle.complete_shuffled.proofs.Works.{outcome-works}
 use Rattle.demands.specs.Calls.{Change, take, layOut, add, remove, complete, Call, changes, reads, changed, afterAll}
-use Rattle.demands.specs.Tally.{Tally, noTally, told, toldAdd, toldRemove, toldComplete, counts, withBlock, laysOut, nowLaid, tally, tallyAll}
-use Rattle.demands.specs.Matrix.{Short, HasTable}
+use Rattle.demands.specs.Tally.{Tally, noTally, told, toldAdd, toldRemove, toldComplete, addsBlock, withBlock, laysOut, nowLaid, tally, tallyAll}
+use Rattle.demands.specs.Matrix.{ShortFor, HasTable}
 use Rattle.demands.specs.Accepted.{accepted}
 use Rattle.demands.specs.Demand2.{answered, answeredSum, addRefused, removeRefused, quietly, quiet, Demand2}
 use Rattle.demands.proofs.Choices.{outcome-has, after-choice}
@@ -99,16 +99,16 @@ module _ (adds : List ℕ → ℕ) (read : DegreeTable → ℕ) (more : (u : Deg
       → read (t .table) + answered adds seen s calls ≡ read (tallyAll s t calls .table)
   answered-tally [] s t seen r h = add-zero (read (t .table))
   answered-tally (changes (take number b) ∷ cs) s t seen r h =
-      go (takeAnswer s number b) refl (counts t number b) refl
+      go (takeAnswer s number b) refl (addsBlock t number b) refl
       (λ t′ seen′ r′ h′. answered-tally cs (takeAfter s number b) t′ seen′ r′ h′)
     where
-      tested : isTaken (takeAnswer s number b) ≡ counts t number b
+      tested : isTaken (takeAnswer s number b) ≡ addsBlock t number b
       tested = take-taken s number b (r .lengths) (r .is-valid) .0 ∙ same-next s t r number b
 
-      reached : (c : Bool) → counts t number b ≡ c → Reach (takeAfter s number b) (cond c (withBlock t b) t)
+      reached : (c : Bool) → addsBlock t number b ≡ c → Reach (takeAfter s number b) (cond c (withBlock t b) t)
       reached c e = subst (λ (c : Bool). Reach (takeAfter s number b) (cond c (withBlock t b) t)) e (after-call s t r (take number b))
 
-      go : (a : TakeAnswer) → takeAnswer s number b ≡ a → (c : Bool) → counts t number b ≡ c
+      go : (a : TakeAnswer) → takeAnswer s number b ≡ a → (c : Bool) → addsBlock t number b ≡ c
           → ((t′ : Tally) (seen′ : List ℕ) → Reach (takeAfter s number b) t′ → Seen seen′ (t′ .blocks)
           → read (t′ .table) + answered adds seen′ (takeAfter s number b) cs ≡ read (tallyAll (takeAfter s number b) t′ cs .table))
           → read (t .table) + cond (accepted a && not (oneOf number seen)) (adds b + answered adds (number ∷ seen) (takeAfter s number b) cs)
@@ -244,9 +244,9 @@ completed-has before rest f out joins switches n e q =
         ∙ ap (λ (s : State). tableOf (s .journal)) (after-append before (changes (complete f out) ∷ rest) cleared)
 
 -- laid, and no cell short: no cell is above the table on a valid state, so that every cell is the table's
-finished-has : (s : State) (lengths : lengthsOk s ≡ true) (is-valid : valid s ≡ true)
-    → phase (s .journal) ≡ 1 → ((k l : ℕ) → Short (tableOf (s .journal)) s k l → ⊥) → HasTable (tableOf (s .journal)) s
-finished-has s lengths is-valid phased full =
+none-short-has : (s : State) (lengths : lengthsOk s ≡ true) (is-valid : valid s ≡ true)
+    → phase (s .journal) ≡ phaseLaid → ((k l : ℕ) → ShortFor (tableOf (s .journal)) s k l → ⊥) → HasTable (tableOf (s .journal)) s
+none-short-has s lengths is-valid phased full =
     record {
       simple = laid .partial .simple;
       exact = has-table (tableOf (s .journal)) table passed (edge (s .adjacency)) (laid .partial) filled;
@@ -273,11 +273,11 @@ pub demand-2 : Demand2
 demand-2 =
     record {
       completed = completed-has;
-      finished = λ calls phased full.
+      none-short = λ calls phased full.
           let r = reach calls in
           let same = answered-table calls in
           subst (λ (u : DegreeTable). HasTable u (afterAll cleared calls)) (sym same)
-          (finished-has (afterAll cleared calls) (r .lengths) (r .is-valid) phased
-          (subst (λ (u : DegreeTable). (k l : ℕ) → Short u (afterAll cleared calls) k l → ⊥) same full));
+          (none-short-has (afterAll cleared calls) (r .lengths) (r .is-valid) phased
+          (subst (λ (u : DegreeTable). (k l : ℕ) → ShortFor u (afterAll cleared calls) k l → ⊥) same full));
       once = accepted-once;
     }

@@ -37,7 +37,7 @@ use Rattle.complete_shuffled.specs.Outcome.{outcome, choiceAnswer}
 use Rattle.complete_shuffled.proofs.Works.{outcome-works}
 use Rattle.demands.specs.Calls.{Call, afterAll}
 use Rattle.demands.specs.Tally.{Tally, noTally, missingEdges, tallyAll}
-use Rattle.demands.specs.Matrix.{Short}
+use Rattle.demands.specs.Matrix.{ShortFor}
 use Rattle.demands.specs.Demand3 as D
 use Rattle.demands.proofs.Choices.{outcome-answer, after-choice, choice-has}
 use Rattle.demands.proofs.Reach.{Reach, reach, laid-counted, phase-0, phase-1}
@@ -104,7 +104,7 @@ module _ (s : State) (checked : ValidLaid s) where
           }
 
   -- a short cell has an open pair; no cell past the classes is short
-  some-pair : (k l : ℕ) → Short (tableOf (s .journal)) s k l → (v w : ℕ) × D.OpenPair (tableOf (s .journal)) s v w
+  some-pair : (k l : ℕ) → ShortFor (tableOf (s .journal)) s k l → (v w : ℕ) × D.OpenPair (tableOf (s .journal)) s v w
   some-pair k l h =
       let o = short-has-open-pair (vertexCount s) mostClasses (classAt s) classDegree (jdmOf (s .journal)) (edge (s .adjacency)) (laid .target)
       (laid .partial) k l (below k l h) (below l k (mirrored k l h)) h in (
@@ -119,14 +119,14 @@ module _ (s : State) (checked : ValidLaid s) where
         },
       )
     where
-      below : (k l : ℕ) → Short (tableOf (s .journal)) s k l → k < mostClasses
+      below : (k l : ℕ) → ShortFor (tableOf (s .journal)) s k l → k < mostClasses
       below k l h = go (native.Mathlib.Decide.decLt k mostClasses)
         where
           go : Dec (k < mostClasses) → k < mostClasses
           go (yes p) = p
           go (no p) = absurd (omega (arith, h, jdm-table (s .journal) (facts .journal-ok) .none-above k l (omega arith)))
 
-      mirrored : (k l : ℕ) → Short (tableOf (s .journal)) s k l → Short (tableOf (s .journal)) s l k
+      mirrored : (k l : ℕ) → ShortFor (tableOf (s .journal)) s k l → ShortFor (tableOf (s .journal)) s l k
       mirrored k l h =
           omega (
             arith,
@@ -204,7 +204,7 @@ demand-3 calls = (not-laid, laid-out)
               );
           pair = λ k l h.
               let q = some-pair (afterAll cleared calls) valid-laid k l
-              (subst (λ (u : DegreeTable). Short u (afterAll cleared calls) k l) (sym (r .table)) h) in
+              (subst (λ (u : DegreeTable). ShortFor u (afterAll cleared calls) k l) (sym (r .table)) h) in
               (q .0, q .1, subst (λ (u : DegreeTable). D.OpenPair u (afterAll cleared calls) (q .0) (q .1)) (r .table) (q .2));
           completes = completes (afterAll cleared calls) valid-laid (tallyAll cleared noTally calls) (r .table) (laid-counted _ _ r e);
           refuses = refuses (afterAll cleared calls) valid-laid (tallyAll cleared noTally calls) (r .table) (laid-counted _ _ r e);

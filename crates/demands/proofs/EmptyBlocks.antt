@@ -8,12 +8,12 @@ use native.Mathlib.Omega.{arith}
 use lib.ListN.{length}
 use borrow.Author.Tests.{eq-eqb, lt-ltb}
 use Rattle.graph.specs.Graph.{DegreeTable}
-use Rattle.answer.specs.Refusals.{refusal}
+use Rattle.answer.specs.Refusals.{refuse}
 use Rattle.answer.specs.declared.Cause.the-variants.{BlockLength}
 use Rattle.answer.specs.declared.TakeAnswer.the-variants.{Refused}
-use Rattle.table.specs.Block.{blockLength}
+use Rattle.table.specs.Block.{mostBlocks, blockLength}
 use Rattle.table.proofs.Empty.{empty-well-formed, empty-adds, other-length}
-use Rattle.journal.specs.Journal.{mostBlocks, phase, blocks, tableOf}
+use Rattle.journal.specs.Journal.{phaseTaking, phase, blocks, tableOf}
 use Rattle.journal.proofs.Store.{stored-empty}
 use Rattle.state.specs.Valid.{lengthsOk, valid}
 use Rattle.state.proofs.Checks.{state-go}
@@ -21,13 +21,13 @@ use Rattle.state.proofs.Facts.{valid-journal}
 use Rattle.take_block.specs.Take.{takeOnValid}
 use Rattle.take_block.proofs.Take.{TakenFacts, facts-taken, taken-table}
 use Rattle.state.specs.State.{State}
-use Rattle.demands.specs.Tally.{Tally, counts, withBlock}
+use Rattle.demands.specs.Tally.{Tally, addsBlock, withBlock}
 use Rattle.demands.specs.EmptyBlocks.{TakesEmpty, EmptyBlocks}
 use Rattle.demands.proofs.Chains.{OfTake, later-numbers}
 use Rattle.demands.proofs.Kept.{reads-back}
 
 module _ (s : State) (lengths : lengthsOk s ≡ true) (is-valid : valid s ≡ true)
-    (taking : phase (s .journal) ≡ 0) (room : blocks (s .journal) < mostBlocks) where
+    (taking : phase (s .journal) ≡ phaseTaking) (room : blocks (s .journal) < mostBlocks) where
   facts : TakenFacts s (blocks (s .journal)) []
   facts =
       record {
@@ -49,7 +49,7 @@ module _ (s : State) (lengths : lengthsOk s ≡ true) (is-valid : valid s ≡ tr
       }
 
 -- no check behind 4 gives that answer
-four-length : (j : List ℕ) (number : ℕ) (b : List ℕ) → takeOnValid j number b ≡ Refused (refusal BlockLength 0 0) → blockLength (length b) ≡ false
+four-length : (j : List ℕ) (number : ℕ) (b : List ℕ) → takeOnValid j number b ≡ Refused (refuse BlockLength 0 0) → blockLength (length b) ≡ false
 four-length j number b e = go (blockLength (length b)) refl
   where
     go : (t : Bool) → blockLength (length b) ≡ t → blockLength (length b) ≡ false
@@ -57,7 +57,7 @@ four-length j number b e = go (blockLength (length b)) refl
     go false h = h
 
 -- the tally counts it
-counted : (t : Tally) → t .laid ≡ false → t .blocks < mostBlocks → counts t (t .blocks) [] ≡ true
+counted : (t : Tally) → t .laid ≡ false → t .blocks < mostBlocks → addsBlock t (t .blocks) [] ≡ true
 counted t e l = rw (empty-well-formed, eq-eqb (t .blocks) (t .blocks) refl, e, lt-ltb (t .blocks) mostBlocks l)
 
 -- one block more, with this table

@@ -23,6 +23,7 @@ use Rattle.state.specs.Valid.{ValidLaid}
 use Rattle.state.specs.Laid.{vertexCount, classAt}
 use Rattle.state.proofs.Facts.{StateFacts, Laid, valid-facts}
 use Rattle.joining.specs.Join.{joinSwitches}
+use Rattle.join_records.specs.Record.{joinRecordSize}
 use Rattle.add_edge.specs.Add.{addAnswer, afterAdd, addAfter}
 use Rattle.add_edge.proofs.Add.{AddFacts, added-facts}
 use Rattle.complete.specs.Complete.{Ran, fresh, mostEdges, missing, afterRan, outputRan}
@@ -59,7 +60,7 @@ module _ (n : ℕ) (cls : ℕ → ℕ) (T : ℕ → ℕ → ℕ) {S : Type 0} (c
                 ∙ join-plays n cls T (r .adjacency) (c .v s) (c .w s) (f .sized) (f .few) (f .target) (f .partial) (c .pair s (h .0) t)),
           )
 
-completing-plays : (f : Choice) (s : State) (out : List ℕ) → ValidLaid s → 8 * missing s ≤ length out → CompletingPlays f s out
+completing-plays : (f : Choice) (s : State) (out : List ℕ) → ValidLaid s → joinRecordSize * missing s ≤ length out → CompletingPlays f s out
 completing-plays f s out checked room =
     record {
       joins = r .joins;
@@ -67,13 +68,13 @@ completing-plays f s out checked room =
       answer = e;
       made = x .made;
       played =
-          ap (λ (a : CompleteAnswer). play (take (8 * r .joins) (outputRan a r out)) (s .adjacency)) e
+          ap (λ (a : CompleteAnswer). play (take (joinRecordSize * r .joins) (outputRan a r out)) (s .adjacency)) e
           ∙ ap (λ (k : ℕ). play (take k (sets out 0 (r .records))) (s .adjacency)) (sym (x .written))
           ∙ ap (λ (l : List ℕ). play l (s .adjacency)) (take-sets out (r .records) (omega (arith, x .written, x .made)))
           ∙ rw (b .ends)
           (run-plays (vertexCount s) (classAt s) (jdmOf (s .journal)) (b .way) (s .adjacency) mostEdges (b .start) (b .begins) (good-start s checked))
           ∙ sym (ap (λ (a : CompleteAnswer). fits (afterRan a r s .adjacency)) e);
-      rising = λ i l. rw (e, there (8 * i) (omega (arith, x .written)), there (8 * i + 1) (omega (arith, x .written))) (rising i l);
+      rising = λ i l. rw (e, there (joinRecordSize * i) (omega (arith, x .written)), there (joinRecordSize * i + 1) (omega (arith, x .written))) (rising i l);
     }
   where
     r : Ran
@@ -95,7 +96,7 @@ completing-plays f s out checked room =
         (records-rising (vertexCount s) (classAt s) (jdmOf (s .journal)) (b .way) (b .rises) mostEdges (b .start) (s .adjacency) (b .begins)
         (good-start s checked))
 
-    e : choiceAnswer f s (length out) ≡ Completed (outcome f s .joins) (outcome f s .switches) (8 * outcome f s .joins)
+    e : choiceAnswer f s (length out) ≡ Completed (outcome f s .joins) (outcome f s .switches) (joinRecordSize * outcome f s .joins)
     e = outcome-answer s f checked (length out) room
 
 adding-plays : (s : State) (v w : ℕ) (x : Switches) → addAnswer s v w ≡ Added x

@@ -24,7 +24,7 @@ use Rattle.adjacency.specs.Adjacency.{adjacencySize, edge, setEdge}
 use Rattle.adjacency.proofs.Set.{set-other}
 use Rattle.joining.specs.Join.{substituteAt, transferAt, neighborSwitch, relieveBytes, joinBytes, switchAt, inOrder, joinSwitches}
 use Rattle.joining.proofs.Bytes.{ready-v, pair-w, sized-once}
-use Rattle.join_records.specs.Record.{joinRecord}
+use Rattle.join_records.specs.Record.{joinRecordSize, joinRecord}
 use Rattle.demands.specs.Playback.{Played, removeEdge, addEdge, playTriple, playRecord, play}
 
 -- the matrix g, when everything so far fitted
@@ -100,7 +100,7 @@ module _ (n : ℕ) (cls : ℕ → ℕ) (T : ℕ → ℕ → ℕ) where
       pair′ = pair-w n cls T g v w sized few target partial pair
 
 -- the same 8 bytes are the same record
-same-record : (r r′ : List ℕ) (i i′ : ℕ) (p : Played) → ((k : ℕ) → k < 8 → getD r (8 * i + k) 0 ≡ getD r′ (8 * i′ + k) 0)
+same-record : (r r′ : List ℕ) (i i′ : ℕ) (p : Played) → ((k : ℕ) → k < joinRecordSize → getD r (joinRecordSize * i + k) 0 ≡ getD r′ (joinRecordSize * i′ + k) 0)
     → playRecord r i p ≡ playRecord r′ i′ p
 same-record r r′ i i′ p h =
     rw (
@@ -118,21 +118,21 @@ pub play-none : (g : List ℕ) → play [] g ≡ fits g
 play-none g = foldTo-none (playRecord []) (fits g)
 
 -- one record more is played after the others
-pub play-more : (r : List ℕ) (m v w : ℕ) (s : Switches) (g : List ℕ) → length r ≡ 8 * m → play (r ++ joinRecord v w s) g ≡ playJoin v w s (play r g)
+pub play-more : (r : List ℕ) (m v w : ℕ) (s : Switches) (g : List ℕ) → length r ≡ joinRecordSize * m → play (r ++ joinRecord v w s) g ≡ playJoin v w s (play r g)
 play-more r m v w s g e =
     ap (λ (k : ℕ). foldTo k (playRecord l) (fits g)) count
     ∙ foldTo-more (playRecord l) (fits g) m
     ∙ same-record l (joinRecord v w s) m 0 (foldTo m (playRecord l) (fits g)) (λ k h. rw (← e, zero-add) (getD-append-add r (joinRecord v w s) k 0))
     ∙ ap (playJoin v w s)
     (foldTo-cong (playRecord l) (playRecord r) (fits g) m
-    (λ i p h. same-record l r i i p (λ k h′. List·getD-append r (joinRecord v w s) 0 (8 * i + k) (omega (arith, e))))
+    (λ i p h. same-record l r i i p (λ k h′. List·getD-append r (joinRecord v w s) 0 (joinRecordSize * i + k) (omega (arith, e))))
     ∙ ap (λ (k : ℕ). foldTo k (playRecord r) (fits g)) before)
   where
     l : List ℕ
     l = r ++ joinRecord v w s
 
-    count : length l / 8 ≡ m + 1
+    count : length l / joinRecordSize ≡ m + 1
     count = rw length-append (omega (arith, e))
 
-    before : m ≡ length r / 8
+    before : m ≡ length r / joinRecordSize
     before = omega (arith, e)

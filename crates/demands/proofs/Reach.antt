@@ -21,9 +21,9 @@ use Rattle.answer.specs.declared.CompleteAnswer.the-variants as Complete
 use Rattle.answer.specs.declared.Choice.{Choice}
 use Rattle.graph.specs.Graph.{DegreeTable}
 use Rattle.graph.specs.Tests.{passes, vertices}
-use Rattle.table.specs.Block.{wellFormed, plus}
+use Rattle.table.specs.Block.{mostBlocks, wellFormed, plus}
 use Rattle.layout.specs.Layout.{mostVertices}
-use Rattle.journal.specs.Journal.{mostBlocks, phase, blocks, tableOf, stored, laid}
+use Rattle.journal.specs.Journal.{phaseTaking, phaseLaid, phase, blocks, tableOf, stored, laid}
 use Rattle.journal.proofs.Store.{phase-stored, blocks-stored, table-stored}
 use Rattle.journal.proofs.Laid.{blocks-laid, table-laid, phase-laid}
 use Rattle.adjacency.proofs.Empty.{no-edges}
@@ -44,12 +44,12 @@ use Rattle.complete.proofs.Entry.{completed-facts}
 use Rattle.complete_shuffled.specs.Outcome.{outcome}
 use Rattle.complete_shuffled.proofs.Works.{outcome-works}
 use Rattle.demands.specs.Calls.{Change, take, layOut, add, remove, complete, Call, changes, reads, changed, after, afterAll}
-use Rattle.demands.specs.Tally.{Tally, noTally, told, toldAdd, toldRemove, toldComplete, counts, withBlock, laysOut, nowLaid, withEdges, tally, tallyAll}
+use Rattle.demands.specs.Tally.{Tally, noTally, told, toldAdd, toldRemove, toldComplete, addsBlock, withBlock, laysOut, nowLaid, withEdges, tally, tallyAll}
 
 -- the phase that the tally says
 abbrev phaseOf : Bool → ℕ
-phaseOf false = 0
-phaseOf true = 1
+phaseOf false = phaseTaking
+phaseOf true = phaseLaid
 
 -- as many edges as the tally counts; none before laying out
 abbrev Counted : Bool → ℕ → ℕ → Type 0
@@ -69,8 +69,8 @@ reach-cleared =
     let c = cleared-state in
     record { lengths = c .lengths; is-valid = c .is-valid; table = c .no-table; numbered = c .no-blocks; phased = c .taking; counted = refl }
 
--- what a join, a lift or a finish that was not refused needs: a laid state
-pub laid-tally : (s : State) (t : Tally) → Reach s t → phase (s .journal) ≡ 1 → t .laid ≡ true
+-- what adding, removing or completing that was not refused needs: a laid state
+pub laid-tally : (s : State) (t : Tally) → Reach s t → phase (s .journal) ≡ phaseLaid → t .laid ≡ true
 laid-tally s t r e = go (t .laid) refl
   where
     go : (b : Bool) → t .laid ≡ b → t .laid ≡ true
@@ -80,10 +80,10 @@ laid-tally s t r e = go (t .laid) refl
 pub laid-counted : (s : State) (t : Tally) → Reach s t → t .laid ≡ true → edgeTotal s ≡ t .edges
 laid-counted s t r e = subst (λ (b : Bool). Counted b (edgeTotal s) (t .edges)) e (r .counted)
 
-pub phase-0 : (s : State) (t : Tally) → Reach s t → t .laid ≡ false → phase (s .journal) ≡ 0
+pub phase-0 : (s : State) (t : Tally) → Reach s t → t .laid ≡ false → phase (s .journal) ≡ phaseTaking
 phase-0 s t r e = r .phased ∙ ap phaseOf e
 
-pub phase-1 : (s : State) (t : Tally) → Reach s t → t .laid ≡ true → phase (s .journal) ≡ 1
+pub phase-1 : (s : State) (t : Tally) → Reach s t → t .laid ≡ true → phase (s .journal) ≡ phaseLaid
 phase-1 s t r e = r .phased ∙ ap phaseOf e
 
 -- the tally's edges moved on a laid state
@@ -101,21 +101,21 @@ with-edges s g t m r e v count =
 
 module _ (s : State) (t : Tally) (r : Reach s t) where
   -- the tally's test of a block is the journal's
-  pub same-next : (number : ℕ) (b : List ℕ) → isNext (s .journal) number b ≡ counts t number b
+  pub same-next : (number : ℕ) (b : List ℕ) → isNext (s .journal) number b ≡ addsBlock t number b
   same-next number b = rw (r .numbered, r .phased) (go (t .laid))
     where
-      go : (l : Bool) → (wellFormed b && eqb number (t .blocks) && eqb (phaseOf l) 0 && ltb (t .blocks) mostBlocks)
+      go : (l : Bool) → (wellFormed b && eqb number (t .blocks) && eqb (phaseOf l) phaseTaking && ltb (t .blocks) mostBlocks)
           ≡ (wellFormed b && eqb number (t .blocks) && not l && ltb (t .blocks) mostBlocks)
       go true = refl
       go false = refl
 
   after-take : (number : ℕ) (b : List ℕ) → Reach (changed s (take number b)) (tally t (told s (take number b)))
-  after-take number b = go (takeAnswer s number b) refl (counts t number b) refl
+  after-take number b = go (takeAnswer s number b) refl (addsBlock t number b) refl
     where
-      tested : isTaken (takeAnswer s number b) ≡ counts t number b
+      tested : isTaken (takeAnswer s number b) ≡ addsBlock t number b
       tested = take-taken s number b (r .lengths) (r .is-valid) .0 ∙ same-next number b
 
-      go : (a : TakeAnswer) → takeAnswer s number b ≡ a → (c : Bool) → counts t number b ≡ c
+      go : (a : TakeAnswer) → takeAnswer s number b ≡ a → (c : Bool) → addsBlock t number b ≡ c
           → Reach (afterTake a s b) (cond c (withBlock t b) t)
       go (Taken m) e true h = new (taken-facts s number b m e)
         where
@@ -146,10 +146,10 @@ module _ (s : State) (t : Tally) (r : Reach s t) where
   -- the tally's test of a layout is the journal's
   same-lays : laysOutNow (s .journal) ≡ laysOut t
   same-lays =
-      ap (λ (u : DegreeTable). eqb (phase (s .journal)) 0 && passes (u .cells) && leb (vertices u) mostVertices) (r .table)
+      ap (λ (u : DegreeTable). eqb (phase (s .journal)) phaseTaking && passes (u .cells) && leb (vertices u) mostVertices) (r .table)
       ∙ rw (r .phased) (go (t .laid))
     where
-      go : (l : Bool) → (eqb (phaseOf l) 0 && passes (t .table .cells) && leb (vertices (t .table)) mostVertices)
+      go : (l : Bool) → (eqb (phaseOf l) phaseTaking && passes (t .table .cells) && leb (vertices (t .table)) mostVertices)
           ≡ (not l && passes (t .table .cells) && leb (vertices (t .table)) mostVertices)
       go true = refl
       go false = refl

@@ -1,4 +1,4 @@
--- Shuffled finishing (specs/Shuffled.antt): the laws of every finish at the one that x picks, and the last x.
+-- Shuffled completing (specs/Shuffled.antt): the laws of completing by every choice, at the one that x picks, and the last x.
 -- Assumes nothing.
 use mathlib.Core.Path.{_≡_, refl, sym, ap, ap₂, _∙_}
 use mathlib.Core.Bool.{true}
@@ -16,31 +16,32 @@ use Rattle.journal.specs.Journal.{jdmOf, tableOf}
 use Rattle.state.specs.State.{State}
 use Rattle.state.specs.Valid.{ValidLaid}
 use Rattle.state.specs.Laid.{cellAt}
+use Rattle.join_records.specs.Record.{joinRecordSize}
 use Rattle.complete.specs.Complete.{Ran, fresh, missing, ranAnswer, afterRan, outputRan}
 use Rattle.complete_shuffled.specs.Choice.{nextX, stepsX}
 use Rattle.complete_shuffled.specs.Shuffle.{shuffled, withX, shuffleOutput}
 use Rattle.complete_shuffled.proofs.Answers.{with-x-refused}
 use Rattle.complete_shuffled.proofs.Works.{shuffled-last, outcome-works}
 use Rattle.demands.specs.Shuffled.{Shuffles, LeftAlone, ShuffledCompleting}
-use Rattle.demands.specs.Matrix.{Short}
+use Rattle.demands.specs.Matrix.{ShortFor}
 use Rattle.demands.specs.Playback.{play}
 use Rattle.demands.proofs.Choices.{outcome-answer, full-outcome, full-answer, choice-has}
 use Rattle.demands.proofs.Playback.{playback}
 
-shuffles : (s : State) (x : ℕ) (out : List ℕ) → ValidLaid s → 8 * missing s ≤ length out → Shuffles s x out
+shuffles : (s : State) (x : ℕ) (out : List ℕ) → ValidLaid s → joinRecordSize * missing s ≤ length out → Shuffles s x out
 shuffles s x out checked room =
     record {
       joins = r .joins;
       switches = r .switches;
       answer =
           ap (withX (shuffled s x .x)) answered
-          ∙ ap (Completed (r .joins) (r .switches) (8 * r .joins)) (shuffled-last s x);
+          ∙ ap (Completed (r .joins) (r .switches) (joinRecordSize * r .joins)) (shuffled-last s x);
       made = made;
-      has-table = choice-has s (Picked x) out (r .joins) (r .switches) (8 * r .joins) checked answered;
+      has-table = choice-has s (Picked x) out (r .joins) (r .switches) (joinRecordSize * r .joins) checked answered;
       played =
           let p = playback .completing (Picked x) s out checked room in
           let e : p .joins ≡ r .joins = omega (arith, p .made, made) in
-          ap (λ (m : ℕ). play (take (8 * m) (shuffleOutput s x out)) (s .adjacency)) (sym e) ∙ p .played;
+          ap (λ (m : ℕ). play (take (joinRecordSize * m) (shuffleOutput s x out)) (s .adjacency)) (sym e) ∙ p .played;
     }
   where
     r : Ran
@@ -49,10 +50,10 @@ shuffles s x out checked room =
     made : shuffled s x .ran .joins ≡ missing s
     made = outcome-works (Picked x) s checked .made
 
-    answered : ranAnswer r s (length out) ≡ Complete.Completed (r .joins) (r .switches) (8 * r .joins)
+    answered : ranAnswer r s (length out) ≡ Complete.Completed (r .joins) (r .switches) (joinRecordSize * r .joins)
     answered = outcome-answer s (Picked x) checked (length out) room
 
-left-alone : (s : State) (x : ℕ) (out : List ℕ) → ValidLaid s → ((k l : ℕ) → Short (tableOf (s .journal)) s k l → ⊥) → LeftAlone s x out
+left-alone : (s : State) (x : ℕ) (out : List ℕ) → ValidLaid s → ((k l : ℕ) → ShortFor (tableOf (s .journal)) s k l → ⊥) → LeftAlone s x out
 left-alone s x out checked none =
     record {
       answer =

@@ -19,9 +19,9 @@ use Rattle.answer.specs.declared.AddAnswer.{AddAnswer}
 use Rattle.answer.specs.declared.AddAnswer.the-variants.{Added, Refused as AddRefused}
 use Rattle.answer.specs.declared.CompleteAnswer.the-variants.{Completed, Refused}
 use Rattle.answer.specs.declared.Choice.{Choice}
-use Rattle.table.specs.Block.{wellFormed, blockIsolated}
+use Rattle.table.specs.Block.{mostBlocks, wellFormed, blockIsolated}
+use Rattle.journal.specs.Journal.{tableOf}
 use Rattle.adjacency.specs.Adjacency.{edge, setEdge}
-use Rattle.journal.specs.Journal.{mostBlocks, tableOf}
 use Rattle.state.specs.Laid.{vertexCount, classAt}
 use Rattle.take_block.specs.Take.{takeAnswer}
 use Rattle.joining.proofs.Alone.{none-alone}
@@ -34,7 +34,7 @@ use Rattle.state.specs.State.{State, emptyMatrix, cleared}
 use Rattle.state.specs.Valid.{ValidLaid}
 use Rattle.demands.specs.Calls.{take, complete, Call, changes, afterAll}
 use Rattle.demands.specs.Accepted.{accepted, AcceptedIn}
-use Rattle.demands.specs.Tally.{Tally, noTally, missingEdges, toldTake, counts, withBlock, tally, tallyAll}
+use Rattle.demands.specs.Tally.{Tally, noTally, missingEdges, toldTake, addsBlock, withBlock, tally, tallyAll}
 use Rattle.demands.specs.Demand2.{answered, answeredSum}
 use Rattle.demands.specs.Demand3.{RefusedForWantOfAGraph, OpenPair, CanBeJoined}
 use Rattle.demands.specs.WithinReach.{Replica, Pair, Order, adds, AddedAlone, AllAdded}
@@ -94,7 +94,7 @@ module _ (calls : List Call) where
       (record { before = calls; rest = []; offered = refl; answer = h })
 
 -- a block that was counted is not counted when it is sent again
-pub resent-once : (t : Tally) (number : ℕ) (b : List ℕ) → counts t number b ≡ true
+pub resent-once : (t : Tally) (number : ℕ) (b : List ℕ) → addsBlock t number b ≡ true
     → tally (tally t (toldTake number b)) (toldTake number b) ≡ tally t (toldTake number b)
 resent-once t number b h = rw h (ap (λ (c : Bool). cond c (withBlock (withBlock t b) b) (withBlock t b)) again)
   where
@@ -105,7 +105,7 @@ resent-once t number b h = rw h (ap (λ (c : Bool). cond c (withBlock (withBlock
         (and-left (wellFormed b && eqb number (t .blocks)) (not (t .laid))
         (and-left (wellFormed b && eqb number (t .blocks) && not (t .laid)) (ltb (t .blocks) mostBlocks) h)))
 
-    again : counts (withBlock t b) number b ≡ false
+    again : addsBlock (withBlock t b) number b ≡ false
     again = rw (ne-eqb number (t .blocks + 1) (λ e. omega (arith, number-is, e)), and-false (wellFormed b))
 
 -- of each pair of a list that is all added alone, the answer has no triples

@@ -16,7 +16,7 @@ use Rattle.answer.specs.declared.Choice.{Choice}
 use Rattle.graph.specs.Graph.{DegreeTable}
 use Rattle.answer.specs.Numbers.{oneOf}
 use Rattle.table.specs.Block.{blockCell, blockIsolated}
-use Rattle.journal.specs.Journal.{phase}
+use Rattle.journal.specs.Journal.{phaseLaid, phase}
 use Rattle.state.specs.State.{State, cleared}
 use Rattle.take_block.specs.Take.{takeAnswer, takeAfter}
 use Rattle.lay_out.specs.LayOut.{layOutAfter}
@@ -24,7 +24,7 @@ use Rattle.add_edge.specs.Add.{addAnswer, addAfter}
 use Rattle.remove_edge.specs.Remove.{removeAnswer, removeAfter}
 use Rattle.complete_shuffled.specs.Outcome.{choiceAnswer, choiceAfter}
 use Rattle.demands.specs.Calls.{Change, take, layOut, add, remove, complete, Call, changes, reads, changed, afterAll}
-use Rattle.demands.specs.Matrix.{Short, HasTable}
+use Rattle.demands.specs.Matrix.{ShortFor, HasTable}
 use Rattle.demands.specs.Accepted.{accepted, AcceptedIn}
 
 -- What the blocks answered as taken or held by these calls add up to, each block number once: `adds b` is what block b adds, `seen` are the
@@ -74,10 +74,10 @@ pub record Demand2 : Type 0 where
       choiceAnswer f s (length out) ≡ Completed joins switches n →
       quiet (choiceAfter f s (length out)) rest ≡ true →
       HasTable (answeredSum (before ++ changes (complete f out) ∷ rest)) (afterAll (choiceAfter f s (length out)) rest)
-  -- finished in any way, "touched by these entries alone since its last clear": laid, and no cell is short
-  pub finished : (calls : List Call) →
+  -- complete in any way, "touched by these entries alone since its last clear": laid, and no cell is short
+  pub none-short : (calls : List Call) →
       let s = afterAll cleared calls in
       let t = answeredSum calls in
-      phase (s .journal) ≡ 1 → ((k l : ℕ) → Short t s k l → ⊥) → HasTable t s
+      phase (s .journal) ≡ phaseLaid → ((k l : ℕ) → ShortFor t s k l → ⊥) → HasTable t s
   -- "each block number once": the blocks answered as taken or held under one number are one block
   pub once : (calls : List Call) (number : ℕ) (b b′ : List ℕ) → AcceptedIn calls number b → AcceptedIn calls number b′ → b ≡ b′

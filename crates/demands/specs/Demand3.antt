@@ -11,7 +11,7 @@ use Rattle.graph.specs.Graph.{edges, DegreeTable}
 use Rattle.graph.specs.Tests.{mostClasses, rowSum, vertices, vertexClass}
 use Rattle.graph.specs.Theorems.{Realized}
 use Rattle.answer.specs.Numbers.{layOutNumbers}
-use Rattle.answer.specs.Refusals.{refusal}
+use Rattle.answer.specs.Refusals.{refuse}
 use Rattle.answer.specs.declared.Cause.the-variants.{OutputTooShort}
 use Rattle.answer.specs.declared.switches.Switches.{Switches}
 use Rattle.answer.specs.declared.AddAnswer.the-variants.{Added}
@@ -25,7 +25,7 @@ use Rattle.add_edge.specs.Add.{addAnswer, addAfter}
 use Rattle.join_records.specs.Record.{joinRecordSize}
 use Rattle.complete_shuffled.specs.Outcome.{choiceAnswer, choiceAfter}
 use Rattle.demands.specs.Calls.{Call, afterAll}
-use Rattle.demands.specs.Matrix.{Short, HasTable}
+use Rattle.demands.specs.Matrix.{ShortFor, HasTable}
 use Rattle.demands.specs.Tally.{Tally, noTally, missingEdges, tallyAll}
 
 -- laying out is refused for want of a graph: with 9, 10 or 11
@@ -44,7 +44,7 @@ pub record OpenPair (t : DegreeTable) (s : State) (v w : ℕ) : Type 0 where
   pub second : w < vertices t
   pub different : v ≢ w
   pub unlinked : edge (s .adjacency) v w ≢ 1
-  pub short : Short t s (vertexClass t v) (vertexClass t w)
+  pub short : ShortFor t s (vertexClass t v) (vertexClass t w)
 
 -- joining v and w is not refused; afterwards the state is valid, the pair is linked, and there is exactly one edge more
 pub record CanBeJoined (t : DegreeTable) (s : State) (v w : ℕ) : Type 0 where
@@ -70,7 +70,7 @@ HasRoom t out = joinRecordSize * missingEdges t ≤ length out
 
 -- completing into a shorter output is refused with 18, and nothing changes
 pub record RefusedShort (s : State) (f : Choice) (out : List ℕ) : Type 0 where
-  pub answer : choiceAnswer f s (length out) ≡ Refused (refusal OutputTooShort 0 0)
+  pub answer : choiceAnswer f s (length out) ≡ Refused (refuse OutputTooShort 0 0)
   pub unchanged : choiceAfter f s (length out) ≡ s
 
 -- not laid: refused with 9, 10 or 11 if and only if no simple graph of any size has T (isolated vertices hinder no graph)
@@ -80,7 +80,7 @@ pub record NotLaid (t : Tally) (s : State) : Type 0 where
 -- laid: no dead end
 pub record Laid (t : Tally) (s : State) : Type 0 where
   pub joinable : (v w : ℕ) → OpenPair (t .table) s v w → CanBeJoined (t .table) s v w × CanBeJoined (t .table) s w v
-  pub pair : (k l : ℕ) → Short (t .table) s k l → (v w : ℕ) × OpenPair (t .table) s v w
+  pub pair : (k l : ℕ) → ShortFor (t .table) s k l → (v w : ℕ) × OpenPair (t .table) s v w
   pub completes : (f : Choice) (out : List ℕ) → HasRoom t out → Completes t s f out
   pub refuses : (f : Choice) (out : List ℕ) → (HasRoom t out → ⊥) → RefusedShort s f out
 

@@ -7,12 +7,12 @@ use mathlib.Core.List.{List, []}
 use mathlib.Core.Logic.{_⊎_, _↔_}
 use Prim.Native.Nat.{ℕ, _+_, _%_, _<_}
 use lib.ListN.{length, set}
-use Rattle.answer.specs.Refusals.{refusal}
+use Rattle.answer.specs.Refusals.{refuse}
 use Rattle.answer.specs.declared.Cause.the-variants.{BlockLength, BlockDiffers}
 use Rattle.answer.specs.declared.TakeAnswer.the-variants.{Taken, Held, Refused}
 use Rattle.answer.specs.declared.LengthAnswer.the-variants.{Length}
-use Rattle.table.specs.Block.{recordSize, blockMost, wellFormed}
-use Rattle.journal.specs.Journal.{mostBlocks, phase, blocks, tableOf}
+use Rattle.table.specs.Block.{recordSize, blockMost, mostBlocks, wellFormed}
+use Rattle.journal.specs.Journal.{phaseTaking, phase, blocks, tableOf}
 use Rattle.state.specs.State.{State, withJournal, cleared}
 use Rattle.state.specs.Valid.{lengthsOk, valid}
 use Rattle.take_block.specs.Take.{takeAnswer, takeAfter}
@@ -34,23 +34,23 @@ pub record TakesEmpty (s : State) : Type 0 where
 pub record HoldsEmpty (s : State) (number : ℕ) : Type 0 where
   -- "resent, it is held", and any block with bytes is 7
   pub resent : takeAnswer s number [] ≡ Held
-  pub full-differs : (b : List ℕ) → wellFormed b ≡ true → 0 < length b → takeAnswer s number b ≡ Refused (refusal BlockDiffers 0 0)
+  pub full-differs : (b : List ℕ) → wellFormed b ≡ true → 0 < length b → takeAnswer s number b ≡ Refused (refuse BlockDiffers 0 0)
   -- "with length 0"; "read back, it is an empty part"
   pub length-0 : lengthAnswer s number ≡ Length 0
   pub part : heldPart s number ≡ []
 
 pub record EmptyBlocks : Type 0 where
   pub taken : (s : State) → lengthsOk s ≡ true → valid s ≡ true →
-      phase (s .journal) ≡ 0 → blocks (s .journal) < mostBlocks → TakesEmpty s
+      phase (s .journal) ≡ phaseTaking → blocks (s .journal) < mostBlocks → TakesEmpty s
   -- once taken or held, it is held from then on, whatever calls came after it
   pub held : (calls : List Call) (number : ℕ) → AcceptedIn calls number [] → HoldsEmpty (afterAll cleared calls) number
   -- over a block with bytes it is 7
   pub differs : (calls : List Call) (number : ℕ) (b : List ℕ) → AcceptedIn calls number b → 0 < length b →
-      let s = afterAll cleared calls in takeAnswer s number [] ≡ Refused (refusal BlockDiffers 0 0)
+      let s = afterAll cleared calls in takeAnswer s number [] ≡ Refused (refuse BlockDiffers 0 0)
   -- "Only the other lengths remain under 4": over 64 bytes, or not whole records
   pub other-lengths : (s : State) → lengthsOk s ≡ true → valid s ≡ true →
       (number : ℕ) (b : List ℕ) →
-      (takeAnswer s number b ≡ Refused (refusal BlockLength 0 0))
+      (takeAnswer s number b ≡ Refused (refuse BlockLength 0 0))
       ↔ ((blockMost < length b) ⊎ (length b % recordSize ≡ 0 → ⊥))
   -- the tally takes it in as any block: one more, the same table
   pub tallied : (t : Tally) → t .laid ≡ false → t .blocks < mostBlocks →

@@ -10,13 +10,13 @@ use Rattle.journal.specs.Journal.{isolatedOf}
 use Rattle.adjacency.specs.Adjacency.{edge}
 use Rattle.state.specs.State.{State}
 use Rattle.state.specs.Valid.{ValidLaid}
-use Rattle.state.specs.Laid.{vertexCount, classAt, isShort}
+use Rattle.state.specs.Laid.{vertexCount, classAt, shortAt}
 use Rattle.graph.specs.Tests.{classDegree}
 
 -- vertex v, isolated in the table
 pub record Alone (s : State) (v : ℕ) : Type 0 where
   pub no-edge : (w : ℕ) → w < vertexCount s → edge (s .adjacency) v w ≡ 0
-  pub no-cell : (w : ℕ) → (isShort s (classAt s v) (classAt s w) ≡ false) × (isShort s (classAt s w) (classAt s v) ≡ false)
+  pub no-cell : (w : ℕ) → (shortAt s (classAt s v) (classAt s w) ≡ false) × (shortAt s (classAt s w) (classAt s v) ≡ false)
   pub no-substitute : (a other : ℕ) → canSubstitute (vertexCount s) (classAt s) classDegree (edge (s .adjacency)) a other v ≡ false
 
 abbrev pub IsolatedAlone : Type 0

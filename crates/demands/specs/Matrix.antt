@@ -1,15 +1,16 @@
 -- The state's matrix beside a degree table t: which cells are short, and that it has t.
 -- Assumes nothing.
 use mathlib.Core.Path.{_≡_}
-use Prim.Native.Nat.{ℕ, _<_}
-use Rattle.graph.specs.Graph.{Simple, jdm, ownJdm, isolated, DegreeTable}
+use Prim.Native.Nat.{ℕ}
+use Rattle.graph.specs.Graph.{Simple, ownJdm, isolated, DegreeTable}
+use Rattle.graph.specs.Target.{Short}
 use Rattle.graph.specs.Tests.{vertices, vertexClass}
 use Rattle.adjacency.specs.Adjacency.{edge}
 use Rattle.state.specs.State.{State}
 
--- The edges counted as equation (1) does, but at the classes laid out, stay below t in the cell (k, l).
-abbrev pub Short : DegreeTable → State → ℕ → ℕ → Type 0
-Short t s k l = jdm (vertices t) (vertexClass t) (edge (s .adjacency)) k l < t .cells k l
+-- Cell (k, l) is short: the edges counted as equation (1) does, but at the classes laid out, stay below t there.
+abbrev pub ShortFor : DegreeTable → State → ℕ → ℕ → Type 0
+ShortFor t s = Short (vertices t) (vertexClass t) (t .cells) (edge (s .adjacency))
 
 -- "a simple graph whose table, counted by equation (1) .., equals in every cell" that of t: on N vertices, at the graph's own degrees; and of
 -- these N exactly as many as t says have no edge

@@ -17,6 +17,7 @@ use Rattle.adjacency.specs.Adjacency.{edge, setEdge}
 use Rattle.state.specs.State.{State}
 use Rattle.state.specs.Valid.{ValidLaid}
 use Rattle.state.specs.Laid.{vertexCount}
+use Rattle.join_records.specs.Record.{joinRecordSize}
 use Rattle.add_edge.specs.Add.{addAnswer, addAfter}
 use Rattle.complete.specs.Complete.{missing}
 use Rattle.complete_shuffled.specs.Outcome.{choiceAnswer, choiceAfter, choiceOutput}
@@ -39,25 +40,25 @@ playTriple a b t p = cond (eqb a 255) p (addEdge b t (removeEdge a t p))
 -- record i, 8 bytes: its two triples, then its edge
 abbrev pub playRecord : List ℕ → ℕ → Played → Played
 playRecord records i p =
-    let at : ℕ → ℕ = λ k. getD records (8 * i + k) 0 in
+    let at : ℕ → ℕ = λ k. getD records (joinRecordSize * i + k) 0 in
     addEdge (at 0) (at 1) (playTriple (at 5) (at 6) (at 7) (playTriple (at 2) (at 3) (at 4) p))
 
 -- all records, one after the other, onto the matrix g
 abbrev pub play : List ℕ → List ℕ → Played
-play records g = foldTo (length records / 8) (playRecord records) (record { adjacency = g; fitted = true })
+play records g = foldTo (length records / joinRecordSize) (playRecord records) (record { adjacency = g; fitted = true })
 
 -- Completing a valid laid state into an output with room: it makes the missing joins, and its records, played onto the matrix of before, fit and give
 -- the matrix of after. Each names two vertices, the lower one first.
 pub record CompletingPlays (f : Choice) (s : State) (out : List ℕ) : Type 0 where
   pub joins : ℕ
   pub switches : ℕ
-  pub answer : choiceAnswer f s (length out) ≡ Completed joins switches (8 * joins)
+  pub answer : choiceAnswer f s (length out) ≡ Completed joins switches (joinRecordSize * joins)
   pub made : joins ≡ missing s
-  pub played : play (take (8 * joins) (choiceOutput f s out)) (s .adjacency)
+  pub played : play (take (joinRecordSize * joins) (choiceOutput f s out)) (s .adjacency)
       ≡ record { adjacency = choiceAfter f s (length out) .adjacency; fitted = true }
   pub rising : (i : ℕ) → i < joins →
       let r = choiceOutput f s out in
-      (getD r (8 * i) 0 < getD r (8 * i + 1) 0) × (getD r (8 * i + 1) 0 < vertexCount s)
+      (getD r (joinRecordSize * i) 0 < getD r (joinRecordSize * i + 1) 0) × (getD r (joinRecordSize * i + 1) 0 < vertexCount s)
 
 -- an added edge as a record: its ends, and the triples that its answer hands back
 abbrev pub addedRecord : ℕ → ℕ → Switches → List ℕ
@@ -66,6 +67,6 @@ addedRecord v w x =
     v ∷ w ∷ n .a1 ∷ n .b1 ∷ n .t1 ∷ n .a2 ∷ n .b2 ∷ n .t2 ∷ []
 
 pub record Playback : Type 0 where
-  pub completing : (f : Choice) (s : State) (out : List ℕ) → ValidLaid s → 8 * missing s ≤ length out → CompletingPlays f s out
+  pub completing : (f : Choice) (s : State) (out : List ℕ) → ValidLaid s → joinRecordSize * missing s ≤ length out → CompletingPlays f s out
   pub adding : (s : State) (v w : ℕ) (x : Switches) → addAnswer s v w ≡ Added x →
       play (addedRecord v w x) (s .adjacency) ≡ record { adjacency = addAfter s v w .adjacency; fitted = true }

@@ -5,7 +5,7 @@ use mathlib.Core.Bool.{true}
 use mathlib.Core.List.{List}
 use Prim.Native.Nat.{ℕ, _<_}
 use lib.ListN.{length}
-use Rattle.answer.specs.Refusals.{refusal}
+use Rattle.answer.specs.Refusals.{refuse}
 use Rattle.answer.specs.declared.Cause.the-variants.{BlockDiffers}
 use Rattle.answer.specs.declared.TakeAnswer.the-variants.{Held, Refused}
 use Rattle.answer.specs.declared.LengthAnswer.the-variants.{Length}
@@ -24,7 +24,7 @@ pub record Holds (s : State) (number : ℕ) (b : List ℕ) : Type 0 where
   pub sized : lengthAnswer s number ≡ Length (length b)
   pub same : heldPart s number ≡ b
   pub resent : takeAnswer s number b ≡ Held
-  pub differs : (b′ : List ℕ) → wellFormed b′ ≡ true → (b ≡ b′ → ⊥) → takeAnswer s number b′ ≡ Refused (refusal BlockDiffers 0 0)
+  pub differs : (b′ : List ℕ) → wellFormed b′ ≡ true → (b ≡ b′ → ⊥) → takeAnswer s number b′ ≡ Refused (refuse BlockDiffers 0 0)
 
 pub record ReadsBack : Type 0 where
   -- every block answered as taken or held is held from then on, whatever calls came after it ..

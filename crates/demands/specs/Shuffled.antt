@@ -13,22 +13,23 @@ use Rattle.answer.specs.declared.Choice.the-variants.{Picked}
 use Rattle.journal.specs.Journal.{tableOf}
 use Rattle.state.specs.State.{State}
 use Rattle.state.specs.Valid.{ValidLaid}
+use Rattle.join_records.specs.Record.{joinRecordSize}
 use Rattle.complete.specs.Complete.{missing}
 use Rattle.complete_shuffled.specs.Choice.{stepsX}
 use Rattle.complete_shuffled.specs.Shuffle.{shuffleAnswer, shuffleAfter, shuffleOutput}
 use Rattle.complete_shuffled.specs.Outcome.{choiceAnswer}
 use Rattle.demands.specs.Calls.{complete, changed}
-use Rattle.demands.specs.Matrix.{Short, HasTable}
+use Rattle.demands.specs.Matrix.{ShortFor, HasTable}
 use Rattle.demands.specs.Playback.{play}
 
 -- a valid laid state, from x on, into an output with room: the records, played onto the matrix of before, fit it and give the matrix of after
 pub record Shuffles (s : State) (x : ℕ) (out : List ℕ) : Type 0 where
   pub joins : ℕ
   pub switches : ℕ
-  pub answer : shuffleAnswer s x (length out) ≡ Completed joins switches (8 * joins) (stepsX joins x)
+  pub answer : shuffleAnswer s x (length out) ≡ Completed joins switches (joinRecordSize * joins) (stepsX joins x)
   pub made : joins ≡ missing s
   pub has-table : HasTable (tableOf (s .journal)) (shuffleAfter s x (length out))
-  pub played : play (take (8 * joins) (shuffleOutput s x out)) (s .adjacency)
+  pub played : play (take (joinRecordSize * joins) (shuffleOutput s x out)) (s .adjacency)
       ≡ record { adjacency = shuffleAfter s x (length out) .adjacency; fitted = true }
 
 -- x comes back as it came, and no byte changes
@@ -38,9 +39,9 @@ pub record LeftAlone (s : State) (x : ℕ) (out : List ℕ) : Type 0 where
   pub same-output : shuffleOutput s x out ≡ out
 
 pub record ShuffledCompleting : Type 0 where
-  pub shuffles : (s : State) (x : ℕ) (out : List ℕ) → ValidLaid s → 8 * missing s ≤ length out → Shuffles s x out
+  pub shuffles : (s : State) (x : ℕ) (out : List ℕ) → ValidLaid s → joinRecordSize * missing s ≤ length out → Shuffles s x out
   -- a complete state, in which no cell is short, whatever the output
-  pub complete-already : (s : State) (x : ℕ) (out : List ℕ) → ValidLaid s → ((k l : ℕ) → Short (tableOf (s .journal)) s k l → ⊥) → LeftAlone s x out
+  pub complete-already : (s : State) (x : ℕ) (out : List ℕ) → ValidLaid s → ((k l : ℕ) → ShortFor (tableOf (s .journal)) s k l → ⊥) → LeftAlone s x out
   -- the entry is the completing of the list of calls that x picks: it is refused where that is, and leaves the state that that leaves
   pub refused : (s : State) (x : ℕ) (out : List ℕ) (r : Refusal) →
       shuffleAnswer s x (length out) ≡ Refused r → choiceAnswer (Picked x) s (length out) ≡ Complete.Refused r

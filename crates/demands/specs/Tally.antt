@@ -14,9 +14,8 @@ use Rattle.answer.specs.declared.CompleteAnswer.{CompleteAnswer}
 use Rattle.answer.specs.declared.CompleteAnswer.the-variants as Complete
 use Rattle.graph.specs.Graph.{DegreeTable, noTable}
 use Rattle.graph.specs.Tests.{passes, vertices}
-use Rattle.table.specs.Block.{wellFormed, plus}
+use Rattle.table.specs.Block.{mostBlocks, wellFormed, plus}
 use Rattle.layout.specs.Layout.{mostVertices, wanted}
-use Rattle.journal.specs.Journal.{mostBlocks}
 use Rattle.add_edge.specs.Add.{addAnswer}
 use Rattle.remove_edge.specs.Remove.{removeAnswer}
 use Rattle.complete_shuffled.specs.Outcome.{choiceAnswer}
@@ -50,8 +49,8 @@ abbrev pub noTally : Tally
 noTally = record { blocks = 0; table = noTable; laid = false; edges = 0 }
 
 -- A block that 4 and 5 let pass, numbered as the block count, while not laid and with that count below the most.
-abbrev pub counts : Tally → ℕ → List ℕ → Bool
-counts t number b = wellFormed b && eqb number (t .blocks) && not (t .laid) && ltb (t .blocks) mostBlocks
+abbrev pub addsBlock : Tally → ℕ → List ℕ → Bool
+addsBlock t number b = wellFormed b && eqb number (t .blocks) && not (t .laid) && ltb (t .blocks) mostBlocks
 
 -- one block more, its records are added to T and to the isolated vertices
 abbrev pub withBlock : Tally → List ℕ → Tally
@@ -69,7 +68,7 @@ abbrev pub withEdges : Tally → ℕ → Tally
 withEdges t m = record { blocks = t .blocks; table = t .table; laid = t .laid; edges = m }
 
 abbrev pub tally : Tally → Told → Tally
-tally t (toldTake number b) = cond (counts t number b) (withBlock t b) t
+tally t (toldTake number b) = cond (addsBlock t number b) (withBlock t b) t
 tally t toldLayOut = cond (laysOut t) (nowLaid t) t
 tally t (toldAdd (Add.Added switches)) = withEdges t (t .edges + 1)
 tally t (toldAdd (Add.Refused r)) = t

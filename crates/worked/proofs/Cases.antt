@@ -7,7 +7,7 @@ use Prim.Native.Nat.{ℕ}
 use lib.Dec.{eqb, ltb}
 use lib.ListN.{length}
 use borrow.Author.Tests.{eqb-true}
-use Rattle.answer.specs.Refusals.{refusal, stop, unless, unlessStopped}
+use Rattle.answer.specs.Refusals.{refuse, stopped, unless, unlessStopped}
 use Rattle.answer.specs.Numbers.{takeNumbers, layOutNumbers, addNumbers, removeNumbers, completeNumbers, shuffleNumbers, lengthNumbers, writtenNumbers, readNumbers, figuresNumbers}
 use Rattle.answer.specs.declared.Cause.the-variants.{WrongPhase, BlockNumber, EdgeAbsent}
 use Rattle.answer.specs.declared.Verdict.{Verdict}
@@ -30,7 +30,7 @@ use Rattle.finite.specs.Range.{δ, sumTo, allTo, lowFrom, lowest, catTo, iterat
 use Rattle.graph.specs.Graph.{jdm, edges}
 use Rattle.graph.specs.Tests.{vertices}
 use Rattle.layout.specs.Layout.{layoutVerdict}
-use Rattle.journal.specs.Journal.{phase, blocks, slotLength, tableOf}
+use Rattle.journal.specs.Journal.{phaseTaking, phase, blocks, slotLength, tableOf}
 use Rattle.adjacency.specs.Adjacency.{edge}
 use Rattle.state.specs.State.{State, cleared}
 use Rattle.state.specs.Checks.{stateVerdict, pairVerdict}
@@ -59,7 +59,7 @@ use Rattle.demands.proofs.Reach.{Reach, reach-cleared, after-call}
 
 -- The answers past the checks 1 and 2.
 abbrev phaseRest : ℕ → State → Verdict
-phaseRest p s = unless (eqb (phase (s .journal)) p) (stop WrongPhase) Go
+phaseRest p s = unless (eqb (phase (s .journal)) p) (stopped WrongPhase) Go
 
 abbrev layOutRest : State → LayOutAnswer
 layOutRest s =
@@ -72,14 +72,14 @@ abbrev removeRest : State → ℕ → ℕ → RemoveAnswer
 removeRest s v w =
     unlessStopped (phaseRest 1 s) Remove.Refused
     (unlessStopped (pairVerdict (vertexCount s) v w) Remove.Refused
-    (unless (eqb (edge (s .adjacency) v w) 1) (Remove.Refused (refusal EdgeAbsent 0 0)) Remove.Removed))
+    (unless (eqb (edge (s .adjacency) v w) 1) (Remove.Refused (refuse EdgeAbsent 0 0)) Remove.Removed))
 
 abbrev completeRest : Ran → State → ℕ → CompleteAnswer
 completeRest r s m = unlessStopped (phaseRest 1 s) Complete.Refused (ranLaid r s m)
 
 abbrev lengthRest : State → ℕ → LengthAnswer
 lengthRest s number =
-    unless (ltb number (blocks (s .journal))) (Len.Refused (refusal BlockNumber 0 0)) (Len.Length (slotLength (s .journal) number))
+    unless (ltb number (blocks (s .journal))) (Len.Refused (refuse BlockNumber 0 0)) (Len.Length (slotLength (s .journal) number))
 
 abbrev listRest : State → ℕ → WrittenAnswer
 listRest s m = unlessStopped (phaseRest 1 s) Write.Refused (listLaid s m)
@@ -101,7 +101,7 @@ changeRest s (complete (Picked x) out) =
 abbrev readingRest : State → Reading → List ℕ
 readingRest s (readBack number) = let a = lengthRest s number in six (lengthNumbers a) ++ partHeld a (s .journal) number
 readingRest s (list out) = let a = listRest s (length out) in six (writtenNumbers a) ++ outputListed a s out
-readingRest s figures = six (figuresNumbers (Figs.Reported (figuresOf (eqb (phase (s .journal)) 0) s)))
+readingRest s figures = six (figuresNumbers (Figs.Reported (figuresOf (eqb (phase (s .journal)) phaseTaking) s)))
 readingRest s (survey e total out) = let a = surveyAnswer e total (length out) in six (writtenNumbers a) ++ surveyOutput a e total out
 readingRest s (writeGraph6 e total out) = let a = writeAnswer e total (length out) in six (writtenNumbers a) ++ writeOutput a e total out
 readingRest s (readGraph6 text out) = let a = readAnswer text (length out) in six (readNumbers a) ++ readOutput a text out
@@ -149,15 +149,15 @@ module _ (s : State) (t : Tally) (r : Reach s t) where
 
 -- in phase 0 there are no edges, so that none need be looked for
 abbrev edgesRest : State → List ℕ
-edgesRest s = cond (eqb (phase (s .journal)) 0) [] (edgesOf s)
+edgesRest s = cond (eqb (phase (s .journal)) phaseTaking) [] (edgesOf s)
 
 edges-rest : (s : State) (t : Tally) → Reach s t → edgesOf s ≡ edgesRest s
-edges-rest s t r = go (eqb (phase (s .journal)) 0) refl
+edges-rest s t r = go (eqb (phase (s .journal)) phaseTaking) refl
   where
-    go : (b : Bool) → eqb (phase (s .journal)) 0 ≡ b → edgesOf s ≡ cond b [] (edgesOf s)
+    go : (b : Bool) → eqb (phase (s .journal)) phaseTaking ≡ b → edgesOf s ≡ cond b [] (edgesOf s)
     go true e =
         zeros-none (vertexCount s) (s .adjacency)
-        (valid-facts s (r .lengths) (r .is-valid) .empty (eqb-true (phase (s .journal)) 0 e))
+        (valid-facts s (r .lengths) (r .is-valid) .empty (eqb-true (phase (s .journal)) phaseTaking e))
     go false e = refl
 
 abbrev holdsRest : State → List Step → List ℕ → Bool

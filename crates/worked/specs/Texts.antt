@@ -6,7 +6,7 @@ use mathlib.Core.List.{List, [], _∷_}
 use Prim.Native.Nat.{ℕ, suc}
 use Rattle.finite.specs.Range.{catTo}
 use Rattle.answer.specs.Numbers.{Numbers, refused, done, writtenNumbers, readNumbers}
-use Rattle.answer.specs.Refusals.{refusal}
+use Rattle.answer.specs.Refusals.{refuse}
 use Rattle.answer.specs.declared.Cause.the-variants.{BadEdgeList, DegreeTooHigh, OutputTooShort, Graph6Text, Graph6Size}
 use Rattle.jdm_of_edges.specs.Survey.{surveyAnswer}
 use Rattle.graph6.specs.Format.{sizeBytes}
@@ -25,10 +25,10 @@ abbrev pub reading : List ℕ → Numbers
 reading t = readNumbers (readAnswer t 6)
 
 abbrev pub tooLarge : Numbers
-tooLarge = refused (refusal Graph6Size 0 0)
+tooLarge = refused (refuse Graph6Size 0 0)
 
 abbrev pub malformed : Numbers
-malformed = refused (refusal Graph6Text 0 0)
+malformed = refused (refuse Graph6Text 0 0)
 
 -- vertex 0 linked to each of 1, .., n
 abbrev pub star : ℕ → List ℕ
@@ -39,8 +39,8 @@ pub record Graph6Cases : Type 0 where
   pub written : writeText links 4 ≡ CN
   pub read : readList CN ≡ links
   pub fits : readNumbers (readAnswer CN 8) ≡ done 8 4
-  pub short : readNumbers (readAnswer CN 7) ≡ refused (refusal OutputTooShort 0 0)
-  pub written-short : writtenNumbers (writeAnswer links 4 1) ≡ refused (refusal OutputTooShort 0 0)
+  pub short : readNumbers (readAnswer CN 7) ≡ refused (refuse OutputTooShort 0 0)
+  pub written-short : writtenNumbers (writeAnswer links 4 1) ≡ refused (refuse OutputTooShort 0 0)
   -- of three vertices: (0, 1) is the first bit, (0, 2) the second, (1, 2) the third
   pub columns : (writeText (0 ∷ 1 ∷ []) 3 ≡ 66 ∷ 95 ∷ []) × (writeText (0 ∷ 2 ∷ []) 3 ≡ 66 ∷ 79 ∷ []) × (writeText (1 ∷ 2 ∷ []) 3 ≡ 66 ∷ 71 ∷ [])
   -- "?" is the graph of no vertices, "@" that of one, both without a body
@@ -58,8 +58,8 @@ pub record Graph6Cases : Type 0 where
       × (reading (65 ∷ 96 ∷ []) ≡ malformed) × (reading (65 ∷ []) ≡ malformed) × (reading (65 ∷ 95 ∷ 63 ∷ []) ≡ malformed)
       × (reading (65 ∷ 95 ∷ 10 ∷ []) ≡ malformed) × (reading (62 ∷ 62 ∷ 103 ∷ 114 ∷ 97 ∷ 112 ∷ 104 ∷ 54 ∷ 60 ∷ 60 ∷ 67 ∷ 78 ∷ []) ≡ malformed)
   -- 19 before 18, with a survey's places; and a degree of 41 is written, although a survey answers 20
-  pub lists : (writtenNumbers (writeAnswer links 201 0) ≡ refused (refusal BadEdgeList 0 0))
-      × (writtenNumbers (writeAnswer (0 ∷ 1 ∷ 2 ∷ []) 4 0) ≡ refused (refusal BadEdgeList 1 0))
-      × (writtenNumbers (writeAnswer links 3 0) ≡ refused (refusal BadEdgeList 0 0))
-  pub degree-41 : (writtenNumbers (surveyAnswer (star 41) 42 1000) ≡ refused (refusal DegreeTooHigh 0 0))
+  pub lists : (writtenNumbers (writeAnswer links 201 0) ≡ refused (refuse BadEdgeList 0 0))
+      × (writtenNumbers (writeAnswer (0 ∷ 1 ∷ 2 ∷ []) 4 0) ≡ refused (refuse BadEdgeList 1 0))
+      × (writtenNumbers (writeAnswer links 3 0) ≡ refused (refuse BadEdgeList 0 0))
+  pub degree-41 : (writtenNumbers (surveyAnswer (star 41) 42 1000) ≡ refused (refuse DegreeTooHigh 0 0))
       × (writtenNumbers (writeAnswer (star 41) 42 1000) ≡ done 145 0) × (readList (writeText (star 41) 42) ≡ star 41)
