@@ -1,29 +1,33 @@
--- What the code of adding has in its arrays is what the definitions speak of: the cell of two classes, the classes, the join.
+-- What the code of adding has in its arrays is what the definitions speak of: the classes of the two ends, their cell, the join.
 -- Assumes nothing.
 use mathlib.Core.Path.{_≡_, refl, sym, ap, ap₂, _∙_}
-use mathlib.Core.Bool.{Bool}
+use mathlib.Core.Bool.{Bool, true}
 use mathlib.Core.List.{List}
 use Prim.Native.Nat.{ℕ, _+_, _≤_, _<_}
 use native.Mathlib.Omega.{arith}
 use lib.Dec.{ltb}
-use lib.ListN.{getD}
+use lib.ListN.{length, getD}
+use borrow.Author.Tests.{ltb-true}
 use Rattle.answer.specs.declared.AddAnswer.{AddAnswer}
 use Rattle.answer.specs.declared.AddAnswer.the-variants.{Added, Refused}
 use Rattle.graph.specs.Graph.{jdm, DegreeTable}
+use Rattle.graph.specs.Target.{isShort}
 use Rattle.graph.specs.Numbering.{total}
 use Rattle.graph.specs.Tests.{mostClasses, vertices, vertexClass}
 use Rattle.layout.specs.Layout.{mostVertices}
 use Rattle.layout.specs.Inner.Arrays.{countIn, tableIn, Counts}
 use Rattle.layout.proofs.Counted.{counted-total}
 use Rattle.journal.specs.Journal.{tableOf}
-use Rattle.adjacency.specs.Adjacency.{edge}
+use Rattle.adjacency.specs.Adjacency.{adjacencySize, edge}
+use Rattle.adjacency.specs.Inner.Degrees.{degreesOf}
 use Rattle.state.specs.State.{State}
 use Rattle.classes.specs.Inner.Block.{startsOf, Numbered, classFrom, blockSum, BlockOf}
 use Rattle.joining.specs.Join.{joinBytes, joinSwitches}
 use Rattle.joining.specs.Inner.Work.{Joinable, Placed}
-use Rattle.classes.proofs.Blocks.{start-rises, start-most, class-only, block-cell, table-numbered, table-classes}
+use Rattle.joining.specs.declared.End.{End}
+use Rattle.classes.proofs.Blocks.{start-rises, start-most, class-below, class-only, block-cell, table-numbered, table-classes}
 use Rattle.add_edge.specs.Add.{afterAdd}
-use Rattle.add_edge.specs.Inner.Work.{Unlinked, addedAdjacency}
+use Rattle.add_edge.specs.Inner.Work.{Unlinked, endIn, addedAdjacency}
 
 pub starts-few : (c : List ℕ) {counts : List ℕ} → Counts c counts → vertices (tableIn c (countIn counts 0)) ≤ mostVertices
     → total mostClasses (countIn counts) ≤ mostVertices
@@ -38,71 +42,104 @@ module _ (c : List ℕ) {counts s g degrees : List ℕ} {v w : ℕ} (u : Unlinke
   abbrev T : ℕ → ℕ → ℕ
   T = t .cells
 
+  -- the cell of v and w is short
+  abbrev short : Bool
+  short = isShort (vertices t) (vertexClass t) T (edge g) (vertexClass t v) (vertexClass t w)
+
   numbered : Numbered (vertices t) s
   numbered = table-numbered c ed es
 
-  -- a class found among the starts
-  module _ {k : ℕ} (x : ℕ) (is : k ≡ classFrom s x) where
-    pub class-read : k ≡ vertexClass t x
-    class-read = is ∙ ap (λ (cls : ℕ → ℕ). cls x) (table-classes c ed es)
+  -- the class of vertex i, by the starts
+  module _ (i : ℕ) where
+    class-read : classFrom s i ≡ vertexClass t i
+    class-read = ap (λ (cls : ℕ → ℕ). cls i) (table-classes c ed es)
 
-    module _ (xn : x < vertices t) where
-      pub class-few : k < mostClasses
-      class-few = rw class-read (u .target .classed x xn)
+    module _ (low : i < vertices t) where
+      class-few : classFrom s i < mostClasses
+      class-few = class-below numbered i low
 
       -- the whole class is searched
-      pub placed : (o : ℕ) → Placed (vertices t) s g (record { at = x; class = k; low = getD s k 0 }) o
+      placed : (o : ℕ) → Placed (vertices t) s g (endIn s i) o
       placed o =
+          let k = classFrom s i in
           record {
             numbered = numbered;
-            class = is;
+            class = refl;
             after = omega arith;
             before = start-rises numbered k (k + 1) (omega arith) (omega (arith, class-few));
-            saturated = λ i l e d.
-                absurd (omega (arith, class-only numbered k i class-few (omega (arith, start-most numbered k (omega (arith, class-few)))) e));
+            saturated = λ j l e d.
+                absurd (omega (arith, class-only numbered k j class-few (omega (arith, start-most numbered k (omega (arith, class-few)))) e));
           }
 
-  -- the block of the two classes
-  module _ {k l : ℕ} (kd : k < mostClasses) (ld : l < mostClasses) where
-    pub block-of : BlockOf g (getD s k 0) (getD s (k + 1) 0) (getD s l 0) (getD s (l + 1) 0)
-    block-of =
-        record {
-          n = vertices t;
-          few = u .few;
-          simple = u .partial .simple;
-          rows = (start-rises numbered k (k + 1) (omega arith) (omega arith), start-most numbered (k + 1) (omega arith));
-          columns = (start-rises numbered l (l + 1) (omega arith) (omega arith), start-most numbered (l + 1) (omega arith));
-        }
+  -- the block of two classes
+  block-of : (k l : ℕ) → k < mostClasses → l < mostClasses → BlockOf g (getD s k 0) (getD s (k + 1) 0) (getD s l 0) (getD s (l + 1) 0)
+  block-of k l kd ld =
+      record {
+        n = vertices t;
+        few = u .few;
+        simple = u .partial .simple;
+        rows = (start-rises numbered k (k + 1) (omega arith) (omega arith), start-most numbered (k + 1) (omega arith));
+        columns = (start-rises numbered l (l + 1) (omega arith) (omega arith), start-most numbered (l + 1) (omega arith));
+      }
 
-    pub short-read : (b : Bool) → k ≡ vertexClass t v → l ≡ vertexClass t w
-        → b ≡ ltb (blockSum (edge g) (getD s k 0) (getD s (k + 1) 0) (getD s l 0) (getD s (l + 1) 0)) (T k l)
-        → ltb (jdm (vertices t) (vertexClass t) (edge g) (vertexClass t v) (vertexClass t w)) (T (vertexClass t v) (vertexClass t w)) ≡ b
-    short-read b ke le e =
+  -- the two ends, as the code has them
+  module _ {x y : End} (ex : x ≡ endIn s v) (ey : y ≡ endIn s w) where
+    pub first-class : x .class ≡ vertexClass t v
+    first-class = ap (λ (e : End). e .class) ex ∙ class-read v
+
+    pub second-class : y .class ≡ vertexClass t w
+    second-class = ap (λ (e : End). e .class) ey ∙ class-read w
+
+    pub cell-block : (length g ≡ adjacencySize) × (x .class < mostClasses) × (y .class < mostClasses)
+        × BlockOf g (getD s (x .class) 0) (getD s (x .class + 1) 0) (getD s (y .class) 0) (getD s (y .class + 1) 0)
+    cell-block =
+        let kd = class-few v (u .first) in
+        let ld = class-few w (u .second) in
+        rw (ex, ey) (u .sized, kd, ld, block-of (classFrom s v) (classFrom s w) kd ld)
+
+    pub short-read : {b : Bool}
+        → b ≡ ltb (blockSum (edge g) (getD s (x .class) 0) (getD s (x .class + 1) 0) (getD s (y .class) 0) (getD s (y .class + 1) 0)) (T (x .class) (y .class))
+        → short ≡ b
+    short-read e =
+        let k = x .class in
+        let l = y .class in
+        let few = cell-block in
         sym (e
         ∙ ap (λ (i : ℕ). ltb i (T k l))
-        (block-cell numbered (edge g) k l kd ld ∙ ap (λ (cls : ℕ → ℕ). jdm (vertices t) cls (edge g) k l) (table-classes c ed es))
-        ∙ ap₂ (λ (i j : ℕ). ltb (jdm (vertices t) (vertexClass t) (edge g) i j) (T i j)) ke le)
+        (block-cell numbered (edge g) k l (few .1) (few .2) ∙ ap (λ (cls : ℕ → ℕ). jdm (vertices t) cls (edge g) k l) (table-classes c ed es))
+        ∙ ap₂ (isShort (vertices t) (vertexClass t) T (edge g)) first-class second-class)
 
-  pub joinable : jdm (vertices t) (vertexClass t) (edge g) (vertexClass t v) (vertexClass t w) < T (vertexClass t v) (vertexClass t w)
-      → Joinable (vertices t) (classFrom s) g v w
-  joinable short =
-      rw (table-classes c ed es)
-      (record {
-        table = T;
-        sized = u .sized;
-        few = u .few;
-        target = u .target;
-        partial = u .partial;
-        pair = record { first = u .first; second = u .second; distinct = u .distinct; unlinked = u .unlinked; short = short };
-      })
+    -- joining by the starts is joining by the layout
+    module _ {n : ℕ} (en : n ≡ vertices t) where
+      pub join-ready : short ≡ true → Joinable n (classFrom s) g (x .at) (y .at) × (degrees ≡ degreesOf n g) × Placed n s g x (y .at)
+          × Placed n s g y (x .at)
+      join-ready h =
+          rw (ex, ey, en) (joinable, u .degrees-right, placed v (u .first) w, placed w (u .second) v)
+        where
+          joinable : Joinable (vertices t) (classFrom s) g v w
+          joinable =
+              rw (table-classes c ed es)
+              (record {
+                table = T;
+                sized = u .sized;
+                few = u .few;
+                target = u .target;
+                partial = u .partial;
+                pair =
+                    record {
+                      first = u .first;
+                      second = u .second;
+                      distinct = u .distinct;
+                      unlinked = u .unlinked;
+                      short = ltb-true (jdm (vertices t) (vertexClass t) (edge g) (vertexClass t v) (vertexClass t w)) (T (vertexClass t v) (vertexClass t w)) h;
+                    };
+              })
 
-  -- joining by the starts is joining by the layout
-  module _ {n : ℕ} (en : n ≡ vertices t) where
-    pub join-read : joinBytes n (classFrom s) g v w ≡ joinBytes (vertices t) (vertexClass t) g v w
-    join-read = ap₂ (λ (m : ℕ) (cls : ℕ → ℕ). joinBytes m cls g v w) en (table-classes c ed es)
+      pub join-read : joinBytes n (classFrom s) g (x .at) (y .at) ≡ joinBytes (vertices t) (vertexClass t) g v w
+      join-read = rw (ex, ey, en) (ap (λ (cls : ℕ → ℕ). joinBytes (vertices t) cls g v w) (table-classes c ed es))
 
-    pub switches-read : joinSwitches n (classFrom s) g v w ≡ joinSwitches (vertices t) (vertexClass t) g v w
-    switches-read = ap₂ (λ (m : ℕ) (cls : ℕ → ℕ). joinSwitches m cls g v w) en (table-classes c ed es)
+      pub switches-read : joinSwitches n (classFrom s) g (x .at) (y .at) ≡ joinSwitches (vertices t) (vertexClass t) g v w
+      switches-read = rw (ex, ey, en) (ap (λ (cls : ℕ → ℕ). joinSwitches (vertices t) cls g v w) (table-classes c ed es))
 
 -- on the table of a state's journal
 pub adjacency-of : (a : AddAnswer) (s : State) (v w : ℕ) → addedAdjacency a (tableOf (s .journal)) (s .adjacency) v w ≡ afterAdd a s v w .adjacency

@@ -16,7 +16,7 @@ ghost use Rattle.state.specs.Checks.{phaseVerdict};
 ghost use Rattle.state.specs.Inner.Opened.{laidFront, Opened};
 ghost use Rattle.classes.specs.Inner.Block.{blockSum, BlockOf};
 ghost use Rattle.add_edge.specs.Add.{addUnlinked, addAnswer, addAfter};
-ghost use Rattle.add_edge.specs.Inner.Work.{Unlinked, addedAdjacency};
+ghost use Rattle.add_edge.specs.Inner.Work.{Unlinked, endIn, addedAdjacency};
 use adjacency::edge_at;
 use answer::AddAnswer;
 use answer::Cause;
@@ -56,7 +56,7 @@ fn is_short(
     block_sum(adjacency, from_k, to_k, from_l, to_l) < cell(cells, k, l)
 }
 
-// Cell (k, l) is not short: its degrees, lower first.
+// Cell (k, l) is not short: its classes, the lower first.
 fn full_cell(k: usize, l: usize) -> Refusal
     ensures { λ r. ⌜ r ≡ refuse CellNotShort (min k l) (max k l) ⌝ }
 {
@@ -64,6 +64,18 @@ fn full_cell(k: usize, l: usize) -> Refusal
         return refuse(Cause::CellNotShort, k, l);
     }
     refuse(Cause::CellNotShort, l, k)
+}
+
+// Vertex v as an end of the join.
+fn end_at(starts: &[usize; STARTS], v: usize) -> End
+    ensures { λ r. ⌜ r ≡ endIn (now (starts .entry)) v ⌝ }
+{
+    let class = class_at(starts, v);
+    End {
+        at: v,
+        class,
+        low: starts[class],
+    }
 }
 
 // On two unlinked vertices, among n: the check 16, then the switches and the edge.
@@ -81,21 +93,11 @@ fn add_unlinked(
     ensures { λ _. ⌜ now (adjacency .exit) ≡ (let t = tableIn (now (cells .entry)) (countIn (now (counts .entry)) 0) in addedAdjacency (addUnlinked t (now (adjacency .entry)) v w) t (now (adjacency .entry)) v w) ⌝ }
 {
     let s = starts(counts);
-    let k = class_at(&s, v);
-    let l = class_at(&s, w);
-    if !is_short(adjacency, cells, &s, k, l) {
-        return AddAnswer::Refused(full_cell(k, l));
+    let x = end_at(&s, v);
+    let y = end_at(&s, w);
+    if !is_short(adjacency, cells, &s, x.class, y.class) {
+        return AddAnswer::Refused(full_cell(x.class, y.class));
     }
-    let x = End {
-        at: v,
-        class: k,
-        low: s[k],
-    };
-    let y = End {
-        at: w,
-        class: l,
-        low: s[l],
-    };
     let done = join(adjacency, degrees, &s, n, x, y);
     let switches = done.switches;
     AddAnswer::Added(switches)

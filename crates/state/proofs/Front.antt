@@ -5,6 +5,7 @@ use mathlib.Core.Bool.{Bool, true, false, _&&_, cond}
 use Prim.Native.Nat.{ℕ, _≤_}
 use native.Mathlib.Omega.{arith}
 use lib.Dec.{eqb, leb}
+use lib.ListN.{replicate}
 use borrow.Author.Tests.{eqb-true, eqb-false, eq-eqb, ne-eqb, leb-true}
 use Rattle.finite.proofs.All.{and-left}
 use Rattle.answer.specs.Refusals.{refuse, stopped, unless, unlessStopped}
@@ -13,13 +14,17 @@ use Rattle.answer.specs.declared.Refusal.{Refusal}
 use Rattle.answer.specs.declared.Verdict.{Verdict}
 use Rattle.answer.specs.declared.Verdict.the-variants.{Go, Stop}
 use Rattle.answer.proofs.Checks.{unless-go, unless-stopped-go}
+use Rattle.graph.specs.Tests.{mostClasses}
 use Rattle.slices.specs.Slices.{allZero}
 use Rattle.table.specs.Block.{mostBlocks}
+use Rattle.table.specs.Inner.Cells.{cellsSize}
+use Rattle.layout.specs.Layout.{mostVertices}
 use Rattle.journal.specs.Journal.{phaseTaking, phaseLaid, phase, blocks, journalOk, tableOf}
 use Rattle.state.specs.State.{State}
 use Rattle.state.specs.Valid.{lengthsOk, laidOk}
 use Rattle.state.specs.Checks.{stateVerdict, phaseVerdict}
-use Rattle.state.specs.Inner.Opened.{frontVerdict, laidFront}
+use Rattle.state.specs.Inner.Opened.{frontVerdict, laidFront, Openable}
+use Rattle.state.proofs.Facts.{lengths-journal, lengths-adjacency}
 
 -- lengths, journal, phase 0, an empty matrix, a laid one: the checks over what these tests say
 abbrev checks : Bool → Bool → Bool → Bool → Bool → Verdict
@@ -54,7 +59,20 @@ module _ (s : State) where
       let v = unless-go (journalOk (s .journal) && cond empty (allZero (s .adjacency)) true) _ _ (l .1) in
       (l .0, and-left (journalOk (s .journal)) (cond empty (allZero (s .adjacency)) true) (v .0))
 
-  -- a journal that passes is in phase 0 or 1
+  -- what the front has seen is what a laid matrix is looked at with
+  pub openable : frontVerdict s ≡ Go → Openable s (replicate cellsSize 0) (replicate mostClasses 0) (replicate mostVertices 0)
+  openable e =
+      let f = front-passed e in
+      record {
+        journal-length = lengths-journal s (f .0);
+        adjacency-length = lengths-adjacency s (f .0);
+        journal-ok = f .1;
+        no-cells = refl;
+        no-counts = refl;
+        no-degrees = refl;
+      }
+
+  -- a journal that passes is taking or laid
   two-phases : journalOk (s .journal) ≡ true → phase (s .journal) ≤ phaseLaid
   two-phases ok =
       leb-true (phase (s .journal)) phaseLaid
@@ -78,6 +96,9 @@ module _ (s : State) where
   laid-front-passed e =
       let f = unless-stopped-go (frontVerdict s) _ e in
       (f .0, eqb-true (phase (s .journal)) phaseLaid (unless-go (eqb (phase (s .journal)) phaseLaid) _ _ (f .1) .0))
+
+  pub laid-openable : laidFront s ≡ Go → Openable s (replicate cellsSize 0) (replicate mostClasses 0) (replicate mostVertices 0)
+  laid-openable e = openable (laid-front-passed e .0)
 
   pub laid-front-stop : (r : Refusal) → laidFront s ≡ Stop r → phaseVerdict phaseLaid s ≡ Stop r
   laid-front-stop r e = go (frontVerdict s) refl (eqb (phase (s .journal)) phaseLaid) refl

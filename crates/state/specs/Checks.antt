@@ -11,7 +11,7 @@ use Rattle.journal.specs.Journal.{phase}
 use Rattle.state.specs.State.{State}
 use Rattle.state.specs.Valid.{lengthsOk, valid}
 
--- the checks 1 and 2 of document 01's table, with which every entry but clear and survey begins
+-- the checks 1 and 2 of document 01's table, with which every entry that reads a state begins
 abbrev pub stateVerdict : State → Verdict
 stateVerdict s = unless (lengthsOk s) (stopped WrongLength) (unless (valid s) (stopped InvalidState) Go)
 

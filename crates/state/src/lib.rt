@@ -1,18 +1,17 @@
-// The state: journal and adjacency together, and the checks of both with which every entry but clear and survey begins. A laid state is checked
+// The state: journal and adjacency together, and the checks of both, with which every entry that reads a state begins. A laid state is checked
 // once: the arrays that its check counts in are lent by the entry, which goes on with them.
 ghost use mathlib.Core.Path.{_≡_};
 ghost use mathlib.Core.Bool.{true};
 ghost use lib.ListN.{length, replicate};
 ghost use Rattle.graph.specs.Tests.{mostClasses};
 ghost use Rattle.table.specs.Inner.Cells.{cellsSize, AtMost, cellSumMost};
-ghost use Rattle.layout.specs.Layout.{mostVertices};
 ghost use Rattle.layout.specs.Inner.Arrays.{countIn, tableIn, Counts};
 ghost use Rattle.journal.specs.Journal.{journalSize, journalOk, tableOf};
 ghost use Rattle.adjacency.specs.Adjacency.{adjacencySize};
 ghost use Rattle.state.specs.State.{stateOf};
 ghost use Rattle.state.specs.Valid.{lengthsOk, laidOk, valid};
 ghost use Rattle.state.specs.Checks.{stateVerdict, phaseVerdict, pairVerdict};
-ghost use Rattle.state.specs.Inner.Opened.{frontVerdict, laidFront, Opened};
+ghost use Rattle.state.specs.Inner.Opened.{frontVerdict, laidFront, Openable, Opened};
 use adjacency::ADJACENCY_BYTES;
 use adjacency::adjacency_ok;
 use answer::Cause;
@@ -57,7 +56,7 @@ pub fn open(
     counts: &mut [usize; MAX_CLASSES],
     degrees: &mut [usize; MAX_VERTICES],
 ) -> bool
-    requires { ⌜ (length (now journal) ≡ journalSize) × (length (now adjacency) ≡ adjacencySize) × (journalOk (now journal) ≡ true) × (now cells ≡ replicate cellsSize 0) × (now counts ≡ replicate mostClasses 0) × (now degrees ≡ replicate mostVertices 0) ⌝ }
+    requires { ⌜ Openable (stateOf (now journal) (now adjacency)) (now cells) (now counts) (now degrees) ⌝ }
     ensures { λ r. ⌜ r ≡ laidOk (tableOf (now (journal .entry))) (now (adjacency .entry)) ⌝ }
     ensures { λ r. ⌜ (r ≡ true → Opened (stateOf (now (journal .entry)) (now (adjacency .entry))) (now (cells .exit)) (now (counts .exit)) (now (degrees .exit))) ⌝ }
 {

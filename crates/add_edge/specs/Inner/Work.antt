@@ -3,7 +3,7 @@
 use mathlib.Core.Path.{_≡_}
 use mathlib.Core.List.{List}
 use Prim.Native.Nat.{ℕ, _≤_, _<_}
-use lib.ListN.{length}
+use lib.ListN.{length, getD}
 use Rattle.answer.specs.declared.AddAnswer.{AddAnswer}
 use Rattle.answer.specs.declared.AddAnswer.the-variants.{Added, Refused}
 use Rattle.graph.specs.Graph.{DegreeTable}
@@ -12,7 +12,9 @@ use Rattle.graph.specs.Tests.{mostClasses, vertices, vertexClass, classDegree}
 use Rattle.layout.specs.Layout.{mostVertices}
 use Rattle.adjacency.specs.Adjacency.{adjacencySize, edge}
 use Rattle.adjacency.specs.Inner.Degrees.{degreesOf}
+use Rattle.classes.specs.Inner.Block.{classFrom}
 use Rattle.joining.specs.Join.{joinBytes}
+use Rattle.joining.specs.declared.End.{End}
 
 -- g is a partial graph of the table t, with these degrees, and v and w are two vertices that it does not link
 pub record Unlinked (t : DegreeTable) (g degrees : List ℕ) (v w : ℕ) : Type 0 where
@@ -25,6 +27,10 @@ pub record Unlinked (t : DegreeTable) (g degrees : List ℕ) (v w : ℕ) : Type 
   pub second : w < vertices t
   pub distinct : v ≡ w → ⊥
   pub unlinked : edge g v w ≡ 0
+
+-- vertex v as an end of the join: its class by the starts, all of which is searched for a substitute
+abbrev pub endIn : List ℕ → ℕ → End
+endIn starts v = record { at = v; class = classFrom starts v; low = getD starts (classFrom starts v) 0 }
 
 -- the matrix afterwards
 abbrev pub addedAdjacency : AddAnswer → DegreeTable → List ℕ → ℕ → ℕ → List ℕ

@@ -5,8 +5,7 @@ use borrow.Author.Needs.{needs}
 use borrow.Author.Tests.{not-true, not-false}
 use Rattle.answer.specs.declared.ShuffleAnswer.the-variants.{Refused}
 use Rattle.state.specs.State.{stateOf}
-use Rattle.state.proofs.Facts.{lengths-journal, lengths-adjacency}
-use Rattle.state.proofs.Front.{laid-front-passed, front-passed, opened, not-opened}
+use Rattle.state.proofs.Front.{laid-openable, opened, not-opened}
 use Rattle.complete_shuffled.proofs.shuffle_checked.Statement.{statement}
 use Rattle.complete_shuffled.proofs.shuffle_checked.Tie as tie
 
@@ -15,9 +14,7 @@ shuffle-checked-spec =
     tie.close (tie.spec
     (λ c κs.
     let b = c .before .before .before .before .before .before .before in
-    let s = stateOf (b .args .journal .now) (b .args .adjacency .now) in
-    let f = front-passed s (laid-front-passed s (b .pre) .0) in
-    (lengths-journal s (f .0), lengths-adjacency s (f .0), f .1, refl, refl, refl))  -- open-requires
+    laid-openable (stateOf (b .args .journal .now) (b .args .adjacency .now)) (b .pre))  -- open-requires
     (λ c κs. tt)  -- refuse-requires
     (λ c. search needs)  -- same-length
     (λ c.

@@ -5,8 +5,7 @@ use native.Mathlib.Omega.{arith}
 use borrow.Author.Tests.{not-true, not-false}
 use Rattle.answer.specs.declared.FiguresAnswer.the-variants.{Reported, Refused}
 use Rattle.state.specs.State.{stateOf}
-use Rattle.state.proofs.Facts.{lengths-journal, lengths-adjacency}
-use Rattle.state.proofs.Front.{front-passed, front-laid}
+use Rattle.state.proofs.Front.{openable, front-laid}
 use Rattle.figures.proofs.figures_checked.Statement.{statement}
 use Rattle.figures.proofs.figures_checked.Tie as tie
 
@@ -15,9 +14,7 @@ figures-checked-spec =
     tie.close (tie.spec
     (λ c κs.
     let b = c .before .before .before .before .before in
-    let s = stateOf (b .args .journal .now) (b .args .adjacency .now) in
-    let f = front-passed s (b .pre .0) in
-    (lengths-journal s (f .0), lengths-adjacency s (f .0), f .1, refl, refl, refl))  -- open-requires
+    openable (stateOf (b .args .journal .now) (b .args .adjacency .now)) (b .pre .0))  -- open-requires
     (λ c κs. tt)  -- refuse-requires
     (λ c.
     let i = c .before in

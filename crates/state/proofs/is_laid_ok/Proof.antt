@@ -7,5 +7,14 @@ use Rattle.state.proofs.is_laid_ok.Tie as tie
 pub is-laid-ok-spec : {M : Type 1} → statement M
 is-laid-ok-spec =
     tie.close (tie.spec
-    (λ c κs. let p = c .before .before .before .before .before .pre in (p .0, p .1, p .2, refl, refl, refl))  -- open-requires
+    (λ c κs.
+    let p = c .before .before .before .before .before .pre in
+    record {
+      journal-length = p .0;
+      adjacency-length = p .1;
+      journal-ok = p .2;
+      no-cells = refl;
+      no-counts = refl;
+      no-degrees = refl;
+    })  -- open-requires
     (λ c. c .open .ensures .0))  -- returns

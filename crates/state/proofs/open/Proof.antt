@@ -20,7 +20,7 @@ use Rattle.state.proofs.open.Tie as tie
 pub open-spec : {M : Type 1} → statement M
 open-spec =
     tie.close (tie.spec
-    (λ c κs. let p = c .before .before .before .before .pre in (p .0, p .2, p .3, p .4))  -- sum-table-requires
+    (λ c κs. let p = c .before .before .before .before .pre in (p .journal-length, p .journal-ok, p .no-cells, p .no-counts))  -- sum-table-requires
     (λ c κs. let t = c .before .before .sum-table .ensures in (t .1, t .2))  -- layout-check-requires
     (λ c. search needs)  -- enum-told
     (λ c. search needs)  -- enum-told-2
@@ -47,7 +47,7 @@ open-spec =
     let go = layout-go (tableOf j) (ap layoutVerdict (sym said) ∙ sym (l .layout-check .ensures) ∙ m .enum-told2 .given .1) in
     let en = v .vertex-count .ensures ∙ ap vertices said in
     let ec = k .classes .ensures ∙ ap classesOf said in
-    (s .pre .1, rw en (go .1), class-below (tableOf j) (go .1) en ec, class-rises (tableOf j) (go .1) en ec, s .pre .5))  -- adjacency-ok-requires
+    (s .pre .adjacency-length, rw en (go .1), class-below (tableOf j) (go .1) en ec, class-rises (tableOf j) (go .1) en ec, s .pre .no-degrees))  -- adjacency-ok-requires
     (λ c.
     let l = c .before .before in
     let t = l .before .before .before in
