@@ -10,8 +10,8 @@ ghost use Rattle.state.specs.Inner.Opened.{laidFront, Opened};
 ghost use Rattle.complete.specs.Complete.{completeAnswer, completeAfter, completeOutput};
 
 pub mod cell;
-pub mod fill;
-mod pair;
+mod fill;
+pub mod pair;
 pub mod start;
 
 use crate::cell::Totals;

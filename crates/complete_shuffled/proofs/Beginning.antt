@@ -15,7 +15,7 @@ use Rattle.open_pairs.specs.Inner.Refresh.{refreshRange, Classed}
 use Rattle.open_pairs.proofs.Refreshed.{range-else, range-right}
 use Rattle.complete.specs.Complete.{fresh}
 use Rattle.complete.specs.Inner.Work.{Arranged, Working}
-use Rattle.complete_shuffled.specs.Inner.Track.{Countable, Counted, ClassArray, Lows, Shuffling}
+use Rattle.complete_shuffled.specs.Inner.Track.{CellsCountable, Counted, ClassArray, Lows, Shuffling}
 
 -- no row has an open pair yet
 pub begin-summed : Summed (replicate side 0) (replicate sumCount 0)
@@ -44,7 +44,7 @@ begin-lows g a =
     }
 
 module _ {n : ℕ} {cells starts g degrees : List ℕ} {room : ℕ} (classes : List ℕ) (p : Working n cells starts degrees room (fresh g)) (c : ClassArray n starts classes) where
-  pub begin-countable : Countable n cells starts g
+  pub begin-countable : CellsCountable n cells starts g
   begin-countable =
       record {
         sized = p .is-valid .filling .sized;

@@ -22,7 +22,7 @@ use Rattle.open_pairs.specs.Inner.Rows.{flagsSize, Scannable}
 use Rattle.open_pairs.specs.Inner.Refresh.{markFull}
 use Rattle.open_pairs.proofs.Marked.{marked-length, marked-inside, marked-outside, marked-binary}
 use Rattle.complete.specs.Inner.Work.{Arranged}
-use Rattle.complete_shuffled.specs.Inner.Track.{cellPlace, cellHas, Countable, Counted}
+use Rattle.complete_shuffled.specs.Inner.Track.{cellPlace, cellHas, CellsCountable, Counted}
 
 -- a cell on or above the diagonal stands at its place
 pub cell-at : (x : List ℕ) (k l : ℕ) → k ≤ l → l < mostClasses → matrixOf x k l ≡ getD x (cellPlace k l) 0
@@ -70,7 +70,7 @@ module _ {n : ℕ} {starts : List ℕ} (a : Arranged n starts) (l : ℕ) (ld : l
         marked-outside k (getD starts l 0) (getD starts (l + 1) 0) full (s .flags) kd few j w (omega (arith, a .few))
         (λ e f t. o e (class-inside (a .numbered) l w ld f t))
 
-module _ {n : ℕ} {cells starts g : List ℕ} (c : Countable n cells starts g) where
+module _ {n : ℕ} {cells starts g : List ℕ} (c : CellsCountable n cells starts g) where
   -- none is counted
   pub counted-none : (have full : List ℕ) → have ≡ replicate cellsSize 0 → full ≡ replicate flagsSize 0 → Counted 0 n cells starts g have full
   counted-none have full eh ef =

@@ -19,7 +19,7 @@ use Rattle.joining.specs.Inner.Work.{Joinable, Placed}
 use Rattle.complete.specs.Inner.Work.{Arranged, Saturated}
 use Rattle.complete.proofs.Arranged.{ranged}
 use Rattle.complete.proofs.Step.{low-saturated, saturated-stays}
-use Rattle.complete_shuffled.specs.Inner.Track.{Lows, lowFrom}
+use Rattle.complete_shuffled.specs.Inner.Track.{Lows, lowAfter}
 
 module _ {n : ℕ} {starts g low : List ℕ} (arranged : Arranged n starts) (u : Lows n starts g low) where
   -- over a join saturated vertices stay so
@@ -39,19 +39,19 @@ module _ {n : ℕ} {starts g low : List ℕ} (arranged : Arranged n starts) (u :
 
   -- the search in class k, by the degrees in `degrees`
   module _ {degrees : List ℕ} (eh : degrees ≡ degreesOf n g) (k : ℕ) (kd : k < mostClasses) where
-    not-before : getD low k 0 ≤ lowFrom degrees starts low k
+    not-before : getD low k 0 ≤ lowAfter degrees starts low k
     not-before = lowest-ge (getD low k 0) (getD starts (k + 1) 0) (λ i. ltb (getD degrees i 0) (classDegree k)) (u .to k kd)
 
-    not-behind : lowFrom degrees starts low k ≤ getD starts (k + 1) 0
+    not-behind : lowAfter degrees starts low k ≤ getD starts (k + 1) 0
     not-behind = lowest-le (getD low k 0) (getD starts (k + 1) 0) (λ i. ltb (getD degrees i 0) (classDegree k)) (u .to k kd)
 
-    passed : Saturated n (classFrom starts) g k (lowFrom degrees starts low k)
+    passed : Saturated n (classFrom starts) g k (lowAfter degrees starts low k)
     passed =
-        low-saturated n (classFrom starts) g degrees k (getD starts k 0) (getD starts (k + 1) 0) (getD low k 0) (lowFrom degrees starts low k) (arranged .few)
+        low-saturated n (classFrom starts) g degrees k (getD starts k 0) (getD starts (k + 1) 0) (getD low k 0) (lowAfter degrees starts low k) (arranged .few)
         (ranged n starts (arranged .numbered) k k kd kd .rows) eh (u .to k kd) (u .saturated k kd) refl
 
     -- an end of an edge to be, of class k
-    pub end-placed : (v other low′ class : ℕ) → class ≡ k → k ≡ classFrom starts v → low′ ≡ lowFrom degrees starts low k
+    pub end-placed : (v other low′ class : ℕ) → class ≡ k → k ≡ classFrom starts v → low′ ≡ lowAfter degrees starts low k
         → Placed n starts g (record { at = v; class = class; low = low′ }) other
     end-placed v other low′ class ec ek el =
         rw (el, ec)
@@ -64,33 +64,33 @@ module _ {n : ℕ} {starts g low : List ℕ} (arranged : Arranged n starts) (u :
         })
 
     -- the next search goes on from what was found
-    pub lows-set : Lows n starts g (set low k (lowFrom degrees starts low k))
+    pub lows-set : Lows n starts g (set low k (lowAfter degrees starts low k))
     lows-set =
         record {
-          sized = length-set low k (lowFrom degrees starts low k) ∙ u .sized;
+          sized = length-set low k (lowAfter degrees starts low k) ∙ u .sized;
           from = λ i id. from i id (ℕ-discrete i k);
           to = λ i id. to i id (ℕ-discrete i k);
           saturated = λ i id. saturated i id (ℕ-discrete i k);
         }
       where
-        here : k < length low → getD (set low k (lowFrom degrees starts low k)) k 0 ≡ lowFrom degrees starts low k
-        here l = getD-set-same low k (lowFrom degrees starts low k) 0 l
+        here : k < length low → getD (set low k (lowAfter degrees starts low k)) k 0 ≡ lowAfter degrees starts low k
+        here l = getD-set-same low k (lowAfter degrees starts low k) 0 l
 
-        else : (i : ℕ) → (i ≡ k → ⊥) → getD (set low k (lowFrom degrees starts low k)) i 0 ≡ getD low i 0
-        else i d = getD-set-other low k i (lowFrom degrees starts low k) 0 d
+        else : (i : ℕ) → (i ≡ k → ⊥) → getD (set low k (lowAfter degrees starts low k)) i 0 ≡ getD low i 0
+        else i d = getD-set-other low k i (lowAfter degrees starts low k) 0 d
 
         long : k < length low
         long = omega (arith, u .sized, starts-length (arranged .numbered))
 
-        from : (i : ℕ) → i < mostClasses → Dec (i ≡ k) → getD starts i 0 ≤ getD (set low k (lowFrom degrees starts low k)) i 0
+        from : (i : ℕ) → i < mostClasses → Dec (i ≡ k) → getD starts i 0 ≤ getD (set low k (lowAfter degrees starts low k)) i 0
         from i id (yes e) = rw (e, here long) (omega (arith, u .from k kd, not-before))
         from i id (no d) = rw (else i d) (u .from i id)
 
-        to : (i : ℕ) → i < mostClasses → Dec (i ≡ k) → getD (set low k (lowFrom degrees starts low k)) i 0 ≤ getD starts (i + 1) 0
+        to : (i : ℕ) → i < mostClasses → Dec (i ≡ k) → getD (set low k (lowAfter degrees starts low k)) i 0 ≤ getD starts (i + 1) 0
         to i id (yes e) = rw (e, here long) not-behind
         to i id (no d) = rw (else i d) (u .to i id)
 
-        saturated : (i : ℕ) → i < mostClasses → Dec (i ≡ k) → Saturated n (classFrom starts) g i (getD (set low k (lowFrom degrees starts low k)) i 0)
+        saturated : (i : ℕ) → i < mostClasses → Dec (i ≡ k) → Saturated n (classFrom starts) g i (getD (set low k (lowAfter degrees starts low k)) i 0)
         saturated i id (yes e) = rw (e, here long) passed
         saturated i id (no d) = rw (else i d) (u .saturated i id)
 

@@ -7,6 +7,7 @@ ghost use Rattle.complete.specs.Inner.Cellwise.{Filling};
 ghost use Rattle.complete_shuffled.specs.Choice.{openCount, pairV, pairW, position};
 ghost use Rattle.complete_shuffled.specs.Inner.Track.{Tracked};
 use classes::STARTS;
+use complete::pair::Pair;
 use layout::MAX_VERTICES;
 use open_pairs::column::column_at;
 use open_pairs::row::SUMS;
@@ -19,12 +20,7 @@ use table::cells::wide32;
 // x divided by this picks: its low 16 bits take no part.
 const LOW_PART: usize = 65536;
 
-// Two vertices, the lower one first.
-pub struct Pair {
-    pub v: usize,
-    pub w: usize,
-}
-
+// The pair, the lower vertex first.
 pub fn pick(
     adjacency: &[u8],
     cells: &[u32; CELLS],

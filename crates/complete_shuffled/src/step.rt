@@ -12,8 +12,7 @@ ghost use Rattle.adjacency.specs.Inner.Degrees.{degreesOf};
 ghost use Rattle.joining.specs.Inner.Work.{Joinable};
 ghost use Rattle.complete.specs.Inner.Work.{ran, WroteRecords, Arranged};
 ghost use Rattle.complete_shuffled.specs.Shuffle.{nextShuffled, incompleteShuffled};
-ghost use Rattle.complete_shuffled.specs.Inner.Track.{Lows, lowFrom, Shuffling, shuffledAt};
-use crate::pick::Pair;
+ghost use Rattle.complete_shuffled.specs.Inner.Track.{Lows, lowAfter, Shuffling, shuffledAt};
 use crate::pick::pick;
 use crate::picker::next_x;
 use crate::track::update;
@@ -22,6 +21,7 @@ use classes::STARTS;
 use complete::cell::Totals;
 use complete::cell::advance;
 use complete::cell::record_join;
+use complete::pair::Pair;
 use joining::End;
 use layout::MAX_VERTICES;
 use open_pairs::row::SUMS;
@@ -43,8 +43,8 @@ fn low_of(
     k: usize,
 ) -> usize
     requires { ⌜ (k < mostClasses) × (getD (now starts) (k + 1) 0 ≤ side) ⌝ }
-    ensures { λ r. ⌜ r ≡ lowFrom (now (degrees .entry)) (now (starts .entry)) (now (low .entry)) k ⌝ }
-    ensures { λ _. ⌜ now (low .exit) ≡ set (now (low .entry)) k (lowFrom (now (degrees .entry)) (now (starts .entry)) (now (low .entry)) k) ⌝ }
+    ensures { λ r. ⌜ r ≡ lowAfter (now (degrees .entry)) (now (starts .entry)) (now (low .entry)) k ⌝ }
+    ensures { λ _. ⌜ now (low .exit) ≡ set (now (low .entry)) k (lowAfter (now (degrees .entry)) (now (starts .entry)) (now (low .entry)) k) ⌝ }
 {
     let v = advance(degrees, low[k], starts[k + 1], class_degree(k));
     low[k] = v;

@@ -8,7 +8,7 @@ ghost use Rattle.table.specs.Inner.Cells.{cellsSize, matrixOf};
 ghost use Rattle.open_pairs.specs.Inner.Rows.{flagsSize, Scannable, Summed};
 ghost use Rattle.open_pairs.specs.Inner.Refresh.{Classed, Within};
 ghost use Rattle.complete.specs.Inner.Work.{Arranged};
-ghost use Rattle.complete_shuffled.specs.Inner.Track.{cellPlace, Countable, Counted, hasNow, haveAfter, isFullNow, flagsAfter, pairsAfter};
+ghost use Rattle.complete_shuffled.specs.Inner.Track.{cellPlace, CellsCountable, Counted, hasNow, haveAfter, isFullNow, flagsAfter, pairsAfter};
 use answer::switches::Switches;
 use classes::STARTS;
 use classes::block_sum;
@@ -34,7 +34,7 @@ fn count_cell(
     k: usize,
     l: usize,
 )
-    requires { ⌜ Countable n (now cells) (now starts) (now adjacency) × Counted (cellPlace k l) n (now cells) (now starts) (now adjacency) (now have) (now full) × (k ≤ l) × (l < mostClasses) ⌝ }
+    requires { ⌜ CellsCountable n (now cells) (now starts) (now adjacency) × Counted (cellPlace k l) n (now cells) (now starts) (now adjacency) (now have) (now full) × (k ≤ l) × (l < mostClasses) ⌝ }
     ensures { λ _. ⌜ Counted (cellPlace k l + 1) n (now (cells .entry)) (now (starts .entry)) (now (adjacency .entry)) (now (have .exit)) (now (full .exit)) ⌝ }
 {
     let want = upper_cell(cells, k, l);
@@ -64,7 +64,7 @@ fn count_row(
     n: usize,
     k: usize,
 )
-    requires { ⌜ Countable n (now cells) (now starts) (now adjacency) × Counted (cellPlace k 0) n (now cells) (now starts) (now adjacency) (now have) (now full) × (k < mostClasses) ⌝ }
+    requires { ⌜ CellsCountable n (now cells) (now starts) (now adjacency) × Counted (cellPlace k 0) n (now cells) (now starts) (now adjacency) (now have) (now full) × (k < mostClasses) ⌝ }
     ensures { λ _. ⌜ Counted (cellPlace (k + 1) 0) n (now (cells .entry)) (now (starts .entry)) (now (adjacency .entry)) (now (have .exit)) (now (full .exit)) ⌝ }
 {
     for l in k..MAX_CLASSES {
@@ -81,7 +81,7 @@ pub fn count_cells(
     full: &mut [u8],
     n: usize,
 )
-    requires { ⌜ Countable n (now cells) (now starts) (now adjacency) × (now have ≡ replicate cellsSize 0) × (now full ≡ replicate flagsSize 0) ⌝ }
+    requires { ⌜ CellsCountable n (now cells) (now starts) (now adjacency) × (now have ≡ replicate cellsSize 0) × (now full ≡ replicate flagsSize 0) ⌝ }
     ensures { λ _. ⌜ Counted cellsSize n (now (cells .entry)) (now (starts .entry)) (now (adjacency .entry)) (now (have .exit)) (now (full .exit)) ⌝ }
 {
     for k in 0..MAX_CLASSES {

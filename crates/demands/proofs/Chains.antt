@@ -43,57 +43,57 @@ use Rattle.state.specs.Checks.{stateVerdict, phaseVerdict, pairVerdict}
 use Rattle.state.specs.Valid.{lengthsOk, valid}
 use Rattle.edge_lists.specs.EdgeList.{listed, firstBadEdge, listVerdict}
 use Rattle.take_block.specs.Take.{takeNumbered}
-use Rattle.demands.specs.Demand1.{Numbered}
+use Rattle.demands.specs.Demand1.{CarriesOneOf}
 
 -- What is claimed of an answer: a refusal's number is one of these; of a written length, that it is n and fits m bytes.
 abbrev pub OfVerdict : List ℕ → Verdict → Type 0
 OfVerdict ns Go = Unit {0}
-OfVerdict ns (Stop r) = Numbered r ns
+OfVerdict ns (Stop r) = CarriesOneOf r ns
 
 abbrev pub OfClear : List ℕ → ClearAnswer → Type 0
 OfClear ns Clear.Cleared = Unit {0}
-OfClear ns (Clear.Refused r) = Numbered r ns
+OfClear ns (Clear.Refused r) = CarriesOneOf r ns
 
 abbrev pub OfTake : List ℕ → TakeAnswer → Type 0
 OfTake ns (Take.Taken next) = Unit {0}
 OfTake ns Take.Held = Unit {0}
-OfTake ns (Take.Refused r) = Numbered r ns
+OfTake ns (Take.Refused r) = CarriesOneOf r ns
 
 abbrev pub OfLength : List ℕ → LengthAnswer → Type 0
 OfLength ns (Len.Length n) = Unit {0}
-OfLength ns (Len.Refused r) = Numbered r ns
+OfLength ns (Len.Refused r) = CarriesOneOf r ns
 
 abbrev pub OfLayOut : List ℕ → LayOutAnswer → Type 0
 OfLayOut ns (LayOut.LaidOut n) = Unit {0}
-OfLayOut ns (LayOut.Refused r) = Numbered r ns
+OfLayOut ns (LayOut.Refused r) = CarriesOneOf r ns
 
 abbrev pub OfFigures : List ℕ → FiguresAnswer → Type 0
 OfFigures ns (Figs.Reported f) = Unit {0}
-OfFigures ns (Figs.Refused r) = Numbered r ns
+OfFigures ns (Figs.Refused r) = CarriesOneOf r ns
 
 abbrev pub OfAdd : List ℕ → AddAnswer → Type 0
 OfAdd ns (Add.Added s) = Unit {0}
-OfAdd ns (Add.Refused r) = Numbered r ns
+OfAdd ns (Add.Refused r) = CarriesOneOf r ns
 
 abbrev pub OfRemove : List ℕ → RemoveAnswer → Type 0
 OfRemove ns Remove.Removed = Unit {0}
-OfRemove ns (Remove.Refused r) = Numbered r ns
+OfRemove ns (Remove.Refused r) = CarriesOneOf r ns
 
 abbrev pub OfComplete : List ℕ → CompleteAnswer → Type 0
 OfComplete ns (Complete.Completed i s n) = Unit {0}
-OfComplete ns (Complete.Refused r) = Numbered r ns
+OfComplete ns (Complete.Refused r) = CarriesOneOf r ns
 
 abbrev pub OfWritten : List ℕ → ℕ → ℕ → WrittenAnswer → Type 0
 OfWritten ns n m (Write.Written k) = (k ≡ n) × (n ≤ m)
-OfWritten ns n m (Write.Refused r) = Numbered r ns
+OfWritten ns n m (Write.Refused r) = CarriesOneOf r ns
 
 abbrev pub OfRead : List ℕ → ℕ → ℕ → ReadAnswer → Type 0
 OfRead ns n m (Read.Read k total) = (k ≡ n) × (n ≤ m)
-OfRead ns n m (Read.Refused r) = Numbered r ns
+OfRead ns n m (Read.Refused r) = CarriesOneOf r ns
 
 -- behind a verdict: its refusal, or what is claimed of the rest
 pub behind : {A : Type 0} (Of : List ℕ → A → Type 0) (ns : List ℕ) (v : Verdict) (refused : Refusal → A) (rest : A)
-    → ((r : Refusal) → Numbered r ns → Of ns (refused r)) → OfVerdict ns v → Of ns rest → Of ns (unlessStopped v refused rest)
+    → ((r : Refusal) → CarriesOneOf r ns → Of ns (refused r)) → OfVerdict ns v → Of ns rest → Of ns (unlessStopped v refused rest)
 behind Of ns Go refused rest f h x = x
 behind Of ns (Stop r) refused rest f h x = f r h
 

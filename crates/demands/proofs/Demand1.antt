@@ -50,7 +50,7 @@ use Rattle.remove_edge.specs.Remove.{afterRemove}
 use Rattle.edge_list.specs.List.{listBytes, listLaid, listAnswer, outputListed}
 use Rattle.edge_lists.specs.EdgeList.{listVerdict}
 use Rattle.jdm_of_edges.specs.Survey.{firstAbove, surveyRecords, surveyListed, surveyAnswer, surveyOutput}
-use Rattle.graph6.specs.Format.{sizeOf, tooLarge, wellFormed}
+use Rattle.graph6.specs.Format.{sizeOf, tooLarge, wellFormedText}
 use Rattle.graph6_write.specs.Write.{writeText, writeListed, writeAnswer, writeOutput}
 use Rattle.graph6_read.specs.Read.{readList, readAnswer, readOutput}
 use Rattle.join_records.specs.Record.{joinRecordSize}
@@ -60,7 +60,7 @@ use Rattle.complete_shuffled.specs.Shuffle.{shuffled}
 use Rattle.complete_shuffled.proofs.Answers.{with-x-refused, with-x-completed}
 use Rattle.complete_shuffled.specs.Outcome.{outcome, choiceAnswer, choiceOutput}
 use Rattle.complete_shuffled.proofs.Works.{outcome-works}
-use Rattle.demands.specs.Demand1.{Numbered, SamePast, Demand1}
+use Rattle.demands.specs.Demand1.{CarriesOneOf, SamePast, Demand1}
 use Rattle.demands.proofs.Chains.{OfClear, OfTake, OfLength, OfLayOut, OfFigures, OfAdd, OfRemove, OfComplete, OfWritten, OfRead, behind, state-numbers, phase-numbers, layout-numbers, clear-chain, takeLater, later-numbers, take-chain, length-chain, pair-numbers, add-chain, remove-chain, complete-chain, fits-chain, list-numbers, survey-chain, read-chain}
 
 -- what was written stands at the start, and nothing behind it changes
@@ -102,11 +102,11 @@ write-numbers e total m =
 read-numbers : (t : List ℕ) (m : ℕ) → OfRead (22 ∷ 21 ∷ 18 ∷ []) (length (readList t)) m (readAnswer t m)
 read-numbers t m =
     let n = length (readList t) in
-    read-chain (not (tooLarge t)) (wellFormed t) (leb n m) n (sizeOf t) m (leb-true n m)
+    read-chain (not (tooLarge t)) (wellFormedText t) (leb n m) n (sizeOf t) m (leb-true n m)
 
 -- completing, whichever pairs it joins
 complete-refused : (s : State) (r : Ran) (out : List ℕ) (q : Refusal) → ranAnswer r s (length out) ≡ Complete.Refused q
-    → Numbered q (1 ∷ 2 ∷ 3 ∷ 18 ∷ []) × (ranAfter r s (length out) ≡ s) × (ranOutput r s out ≡ out)
+    → CarriesOneOf q (1 ∷ 2 ∷ 3 ∷ 18 ∷ []) × (ranAfter r s (length out) ≡ s) × (ranOutput r s out ≡ out)
 complete-refused s r out q e = (
   subst (OfComplete (1 ∷ 2 ∷ 3 ∷ 18 ∷ [])) e
       (behind OfComplete _ (phaseVerdict phaseLaid s) Complete.Refused (ranLaid r s (length out)) (λ r h. h) (phase-numbers phaseLaid s _)

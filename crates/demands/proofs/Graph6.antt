@@ -32,13 +32,13 @@ use Rattle.edge_lists.proofs.Listed.{list-passed, list-graph}
 use Rattle.edge_lists.proofs.Unique.{list-back}
 use Rattle.edge_list.specs.List.{listBytes}
 use Rattle.jdm_of_edges.specs.Survey.{surveyRecords, surveyListed}
-use Rattle.graph6.specs.Format.{graph6Text, sizeOf, tooLarge, framed, zeroPadded, wellFormed, textGraph}
+use Rattle.graph6.specs.Format.{graph6Text, sizeOf, tooLarge, framed, zeroPadded, wellFormedText, textGraph}
 use Rattle.graph6.proofs.Text.{framed-facts, framed-small, text-bit, text-size, text-well-formed, graph-up, graph-down, graph-loop, graph-simple, text-back, text-cong}
 use Rattle.graph6_write.specs.Write.{writeText, writeListed, writeAnswer}
 use Rattle.graph6_read.specs.Read.{readList, readAnswer}
 use Rattle.finite.proofs.All.{and-left}
 use Rattle.answer.specs.Numbers.{oneOf}
-use Rattle.demands.specs.Demand1.{Numbered}
+use Rattle.demands.specs.Demand1.{CarriesOneOf}
 use Rattle.demands.proofs.Chains.{OfWritten}
 use Rattle.demands.proofs.Demand1.{write-rest, survey-rest}
 use Rattle.demands.specs.Graph6.{textIn, listIn, Wrote, WasRead, Graph6}
@@ -79,12 +79,12 @@ text-in e total out n h =
     rw (h, w .size) (take-sets out (writeText e total) (w .fits))
 
 -- Reading.
-read-done : (t : List ℕ) (m : ℕ) → wellFormed t ≡ true → length (readList t) ≤ m → readAnswer t m ≡ Read (length (readList t)) (sizeOf t)
+read-done : (t : List ℕ) (m : ℕ) → wellFormedText t ≡ true → length (readList t) ≤ m → readAnswer t m ≡ Read (length (readList t)) (sizeOf t)
 read-done t m well h =
     let f = framed-facts t (and-left (framed t) (zeroPadded t) well) in
     rw (framed-small t f, well, le-leb (length (readList t)) m h)
 
-list-in : (t out : List ℕ) → wellFormed t ≡ true → length (readList t) ≤ length out → listIn t out (length (readList t)) ≡ readList t
+list-in : (t out : List ℕ) → wellFormedText t ≡ true → length (readList t) ≤ length out → listIn t out (length (readList t)) ≡ readList t
 list-in t out well h = rw (read-done t (length out) well h) (take-sets out (readList t) h)
 
 abbrev IsRead : ReadAnswer → Type 0
@@ -98,7 +98,7 @@ read-parts : (a b n total : ℕ) → Read a b ≡ Read n total → (n ≡ a) × 
 read-parts a b n total e = (cc, cc)
 
 pub record Reads (t : List ℕ) (m n total : ℕ) : Type 0 where
-  pub well : wellFormed t ≡ true
+  pub well : wellFormedText t ≡ true
   pub size : n ≡ length (readList t)
   pub total-is : total ≡ sizeOf t
   pub fits : length (readList t) ≤ m
@@ -106,7 +106,7 @@ pub record Reads (t : List ℕ) (m n total : ℕ) : Type 0 where
 reads : (t : List ℕ) (m n total : ℕ) → readAnswer t m ≡ Read n total → Reads t m n total
 reads t m n total h =
     let a = unless-passed (not (tooLarge t)) _ _ (Read n total) (refused-not-read _ n total) h in
-    let b = unless-passed (wellFormed t) _ _ (Read n total) (refused-not-read _ n total) (a .1) in
+    let b = unless-passed (wellFormedText t) _ _ (Read n total) (refused-not-read _ n total) (a .1) in
     let c = unless-passed (leb (length (readList t)) m) _ _ (Read n total) (refused-not-read _ n total) (b .1) in
     let p = read-parts (length (readList t)) (sizeOf t) n total (c .1) in
     record { well = b .0; size = p .0; total-is = p .1; fits = leb-true (length (readList t)) m (c .0) }
@@ -130,7 +130,7 @@ wrote-text e total p =
     size : sizeOf (writeText e total) ≡ total
     size = text-size total (graphOf e) (p .few) simple
 
-    well : wellFormed (writeText e total) ≡ true
+    well : wellFormedText (writeText e total) ≡ true
     well = text-well-formed total (graphOf e) (p .few) simple
 
     -- the list read is that of the graph written, which is the list itself
@@ -142,7 +142,7 @@ wrote-text e total p =
         ∙ list-back e total p
 
 -- what was read, written
-was-read-list : (t : List ℕ) → wellFormed t ≡ true → WasRead t (readList t) (sizeOf t)
+was-read-list : (t : List ℕ) → wellFormedText t ≡ true → WasRead t (readList t) (sizeOf t)
 was-read-list t well =
     record {
       passes = passes;
@@ -167,7 +167,7 @@ was-read-list t well =
     back = text-cong (sizeOf t) (textGraph t) (graphOf (readList t)) graph ∙ text-back t well
 
 -- the numbers behind the checks 19
-other-than-19 : (ns : List ℕ) → oneOf 19 ns ≡ false → (r : Refusal) → Numbered r ns → numberOf (r .cause) ≡ 19 → ⊥
+other-than-19 : (ns : List ℕ) → oneOf 19 ns ≡ false → (r : Refusal) → CarriesOneOf r ns → numberOf (r .cause) ≡ 19 → ⊥
 other-than-19 ns off r h e = true≢false (sym (rw e at h) ∙ off)
 
 same-refusal : (v : Verdict) (a b : WrittenAnswer) (r : Refusal) → (a ≡ Refused r → ⊥) → unlessStopped v Refused a ≡ Refused r → unlessStopped v Refused b ≡ Refused r

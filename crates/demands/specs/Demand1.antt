@@ -53,46 +53,46 @@ allowed (reads (writeGraph6 e total out)) = 19 ∷ 18 ∷ []
 allowed (reads (readGraph6 text out)) = 22 ∷ 21 ∷ 18 ∷ []
 
 -- the refusal's number is one of these
-abbrev pub Numbered : Refusal → List ℕ → Type 0
-Numbered r numbers = oneOf (numberOf (r .cause)) numbers ≡ true
+abbrev pub CarriesOneOf : Refusal → List ℕ → Type 0
+CarriesOneOf r numbers = oneOf (numberOf (r .cause)) numbers ≡ true
 
 -- nothing past the first n bytes changed
 abbrev pub SamePast : ℕ → List ℕ → List ℕ → Type 0
 SamePast n before after = (length after ≡ length before) × (drop n after ≡ drop n before)
 
 pub record Demand1 : Type 0 where
-  pub clear : (s : State) (r : Refusal) → clearAnswer s ≡ Clear.Refused r → Numbered r (1 ∷ []) × (clearAfter s ≡ s)
+  pub clear : (s : State) (r : Refusal) → clearAnswer s ≡ Clear.Refused r → CarriesOneOf r (1 ∷ []) × (clearAfter s ≡ s)
   pub take : (s : State) (number : ℕ) (b : List ℕ) (r : Refusal) → takeAnswer s number b ≡ Take.Refused r →
-      Numbered r (allowed (changes (take number b))) × (takeAfter s number b ≡ s)
+      CarriesOneOf r (allowed (changes (take number b))) × (takeAfter s number b ≡ s)
   pub held : (s : State) (number : ℕ) (r : Refusal) → lengthAnswer s number ≡ Len.Refused r →
-      Numbered r (allowed (reads (readBack number))) × (heldPart s number ≡ [])
-  pub lay-out : (s : State) (r : Refusal) → layOutAnswer s ≡ LayOut.Refused r → Numbered r (allowed (changes layOut)) × (layOutAfter s ≡ s)
+      CarriesOneOf r (allowed (reads (readBack number))) × (heldPart s number ≡ [])
+  pub lay-out : (s : State) (r : Refusal) → layOutAnswer s ≡ LayOut.Refused r → CarriesOneOf r (allowed (changes layOut)) × (layOutAfter s ≡ s)
   pub add : (s : State) (v w : ℕ) (r : Refusal) → addAnswer s v w ≡ Add.Refused r →
-      Numbered r (allowed (changes (add v w))) × (addAfter s v w ≡ s)
+      CarriesOneOf r (allowed (changes (add v w))) × (addAfter s v w ≡ s)
   pub remove : (s : State) (v w : ℕ) (r : Refusal) → removeAnswer s v w ≡ Remove.Refused r →
-      Numbered r (allowed (changes (remove v w))) × (removeAfter s v w ≡ s)
+      CarriesOneOf r (allowed (changes (remove v w))) × (removeAfter s v w ≡ s)
   pub complete : (s : State) (out : List ℕ) (r : Refusal) → completeAnswer s (length out) ≡ Complete.Refused r →
-      Numbered r (allowed (changes (complete Lowest out))) × (completeAfter s (length out) ≡ s) × (completeOutput s out ≡ out)
+      CarriesOneOf r (allowed (changes (complete Lowest out))) × (completeAfter s (length out) ≡ s) × (completeOutput s out ≡ out)
   pub complete-written : (s : State) (out : List ℕ) (joins switches n : ℕ) → completeAnswer s (length out) ≡ Complete.Completed joins switches n →
       (n ≡ joinRecordSize * joins) × SamePast n out (completeOutput s out)
   pub shuffle : (s : State) (x : ℕ) (out : List ℕ) (r : Refusal) → shuffleAnswer s x (length out) ≡ Shuffle.Refused r →
-      Numbered r (allowed (changes (Calls.complete (Picked x) out))) × (shuffleAfter s x (length out) ≡ s) × (shuffleOutput s x out ≡ out)
+      CarriesOneOf r (allowed (changes (Calls.complete (Picked x) out))) × (shuffleAfter s x (length out) ≡ s) × (shuffleOutput s x out ≡ out)
   pub shuffle-written : (s : State) (x : ℕ) (out : List ℕ) (joins switches n y : ℕ) →
       shuffleAnswer s x (length out) ≡ Shuffle.Completed joins switches n y →
       (n ≡ joinRecordSize * joins) × SamePast n out (shuffleOutput s x out)
   pub list : (s : State) (out : List ℕ) (r : Refusal) → listAnswer s (length out) ≡ Write.Refused r →
-      Numbered r (allowed (reads (list out))) × (listOutput s out ≡ out)
+      CarriesOneOf r (allowed (reads (list out))) × (listOutput s out ≡ out)
   pub list-written : (s : State) (out : List ℕ) (n : ℕ) → listAnswer s (length out) ≡ Write.Written n → SamePast n out (listOutput s out)
   pub survey : (e : List ℕ) (total : ℕ) (out : List ℕ) (r : Refusal) → surveyAnswer e total (length out) ≡ Write.Refused r →
-      Numbered r (allowed (reads (survey e total out))) × (surveyOutput (surveyAnswer e total (length out)) e total out ≡ out)
+      CarriesOneOf r (allowed (reads (survey e total out))) × (surveyOutput (surveyAnswer e total (length out)) e total out ≡ out)
   pub survey-written : (e : List ℕ) (total : ℕ) (out : List ℕ) (n : ℕ) → surveyAnswer e total (length out) ≡ Write.Written n →
       SamePast n out (surveyOutput (surveyAnswer e total (length out)) e total out)
   pub graph6-write : (e : List ℕ) (total : ℕ) (out : List ℕ) (r : Refusal) → writeAnswer e total (length out) ≡ Write.Refused r →
-      Numbered r (allowed (reads (writeGraph6 e total out))) × (writeOutput (writeAnswer e total (length out)) e total out ≡ out)
+      CarriesOneOf r (allowed (reads (writeGraph6 e total out))) × (writeOutput (writeAnswer e total (length out)) e total out ≡ out)
   pub graph6-written : (e : List ℕ) (total : ℕ) (out : List ℕ) (n : ℕ) → writeAnswer e total (length out) ≡ Write.Written n →
       SamePast n out (writeOutput (writeAnswer e total (length out)) e total out)
   pub graph6-read : (t out : List ℕ) (r : Refusal) → readAnswer t (length out) ≡ Read.Refused r →
-      Numbered r (allowed (reads (readGraph6 t out))) × (readOutput (readAnswer t (length out)) t out ≡ out)
+      CarriesOneOf r (allowed (reads (readGraph6 t out))) × (readOutput (readAnswer t (length out)) t out ≡ out)
   pub graph6-read-out : (t out : List ℕ) (n total : ℕ) → readAnswer t (length out) ≡ Read.Read n total →
       SamePast n out (readOutput (readAnswer t (length out)) t out)
-  pub figures : (s : State) (r : Refusal) → figuresAnswer s ≡ Figs.Refused r → Numbered r (allowed (reads figures))
+  pub figures : (s : State) (r : Refusal) → figuresAnswer s ≡ Figs.Refused r → CarriesOneOf r (allowed (reads figures))

@@ -20,7 +20,7 @@ use Rattle.state.specs.Laid.{vertexCount}
 use Rattle.edge_lists.specs.EdgeList.{listVerdict, graphOf}
 use Rattle.edge_list.specs.List.{listBytes}
 use Rattle.jdm_of_edges.specs.Survey.{surveyAnswer}
-use Rattle.graph6.specs.Format.{graph6Text, sizeOf, wellFormed, bitOf, textGraph}
+use Rattle.graph6.specs.Format.{graph6Text, sizeOf, wellFormedText, bitOf, textGraph}
 use Rattle.graph6_write.specs.Write.{writeText, writeAnswer, writeOutput}
 use Rattle.graph6_read.specs.Read.{readAnswer, readOutput}
 
@@ -51,8 +51,8 @@ pub record WasRead (t e : List ℕ) (total : ℕ) : Type 0 where
 
 pub record Graph6 : Type 0 where
   -- the well-formed texts are those of the simple graphs on up to 200 vertices, each the text of its own graph
-  pub text-of-graph : (n : ℕ) (E : Graph) → n ≤ mostVertices → Simple n E → wellFormed (graph6Text n E) ≡ true
-  pub graph-of-text : (t : List ℕ) → wellFormed t ≡ true →
+  pub text-of-graph : (n : ℕ) (E : Graph) → n ≤ mostVertices → Simple n E → wellFormedText (graph6Text n E) ≡ true
+  pub graph-of-text : (t : List ℕ) → wellFormedText t ≡ true →
       (sizeOf t ≤ mostVertices) × Simple (sizeOf t) (textGraph t) × (graph6Text (sizeOf t) (textGraph t) ≡ t)
   pub wrote : (e : List ℕ) (total : ℕ) (out : List ℕ) (n : ℕ) → writeAnswer e total (length out) ≡ Written n → Wrote e total (textIn e total out n)
   pub was-read : (t out : List ℕ) (n total : ℕ) → readAnswer t (length out) ≡ Read n total → WasRead t (listIn t out n) total

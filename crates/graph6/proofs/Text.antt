@@ -15,7 +15,7 @@ use Rattle.finite.proofs.All.{and-left, and-right, and-both, and-false, allTo-a
 use Rattle.graph.specs.Graph.{Graph, Simple, SameOn}
 use Rattle.slices.proofs.Zero.{all-zero-at, zeros-all-zero}
 use Rattle.layout.specs.Layout.{mostVertices}
-use Rattle.graph6.specs.Format.{offset, mostByte, shortMost, sizeBytes, triangle, packed, graph6Text, columnStart, bodyLength, bodyMost, isLong, sizeLength, longSize, sizeOf, upTo, tooLarge, unpacked, bodyBits, framed, zeroPadded, wellFormed, bitOf, textGraph}
+use Rattle.graph6.specs.Format.{offset, mostByte, shortMost, sizeBytes, triangle, packed, graph6Text, columnStart, bodyLength, bodyMost, isLong, sizeLength, longSize, sizeOf, upTo, tooLarge, unpacked, bodyBits, framed, zeroPadded, wellFormedText, bitOf, textGraph}
 use Rattle.graph6.proofs.Columns.{columns-most, place-of}
 use Rattle.graph6.proofs.Bits.{triangle-length, triangle-at, triangle-past, triangle-binary, triangle-cong, packed-length, packed-at, packed-bytes, packed-unpacked, unpacked-binary, unpacked-six}
 
@@ -198,7 +198,7 @@ module _ (t : List ℕ) where
       turned v w (no p) (no q) = rw (same v w p q)
 
   -- a well-formed text is that of its graph
-  module _ (well : wellFormed t ≡ true) where
+  module _ (well : wellFormedText t ≡ true) where
     frame : Framed t
     frame = framed-facts t (and-left (framed t) (zeroPadded t) well)
 
@@ -268,7 +268,7 @@ module _ (n : ℕ) (E : Graph) (few : n ≤ mostVertices) (simple : Simple n E) 
       size-most true = omega arith
       size-most false = omega arith
 
-  pub text-well-formed : wellFormed (graph6Text n E) ≡ true
+  pub text-well-formed : wellFormedText (graph6Text n E) ≡ true
   text-well-formed =
       and-both (framed (graph6Text n E)) (zeroPadded (graph6Text n E)) (framed-holds (graph6Text n E) frame)
       (zeros-all-zero (drop (columnStart (sizeOf (graph6Text n E))) (bodyBits (graph6Text n E)))

@@ -110,8 +110,8 @@ abbrev pub zeroPadded : List ℕ → Bool
 zeroPadded t = allZero (drop (columnStart (sizeOf t)) (bodyBits t))
 
 -- the texts of graphs on up to 200 vertices; the others are malformed (answer 21) or too large (22)
-abbrev pub wellFormed : List ℕ → Bool
-wellFormed t = framed t && zeroPadded t
+abbrev pub wellFormedText : List ℕ → Bool
+wellFormedText t = framed t && zeroPadded t
 
 -- the bit of the pair v < w
 abbrev pub bitOf : List ℕ → ℕ → ℕ → ℕ

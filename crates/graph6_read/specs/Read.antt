@@ -10,7 +10,7 @@ use Rattle.answer.specs.declared.Cause.the-variants.{Graph6Text, Graph6Size}
 use Rattle.answer.specs.declared.ReadAnswer.{ReadAnswer}
 use Rattle.answer.specs.declared.ReadAnswer.the-variants.{Read, Refused}
 use Rattle.edge_lists.specs.EdgeList.{listOf}
-use Rattle.graph6.specs.Format.{sizeOf, tooLarge, wellFormed, textGraph}
+use Rattle.graph6.specs.Format.{sizeOf, tooLarge, wellFormedText, textGraph}
 
 -- the list of the edges of the text's graph, ascending by v then w, although the text goes by w then v
 abbrev pub readList : List ℕ → List ℕ
@@ -25,7 +25,7 @@ readFits t n =
 abbrev pub readAnswer : List ℕ → ℕ → ReadAnswer
 readAnswer t n =
     unless (not (tooLarge t)) (Refused (refuse Graph6Size 0 0))
-    (unless (wellFormed t) (Refused (refuse Graph6Text 0 0)) (readFits t n))
+    (unless (wellFormedText t) (Refused (refuse Graph6Text 0 0)) (readFits t n))
 
 -- the output afterwards: the list, and behind it what was there
 abbrev pub readOutput : ReadAnswer → List ℕ → List ℕ → List ℕ

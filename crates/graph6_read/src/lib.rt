@@ -13,7 +13,7 @@ use crate::frame::framed;
 use crate::frame::size_length;
 use crate::frame::size_of;
 use crate::frame::too_large;
-use crate::rows::put_edges;
+use crate::rows::put_rows;
 use answer::Cause;
 use answer::ReadAnswer;
 use answer::refuse;
@@ -48,7 +48,7 @@ fn read_framed(text: &[u8], output: &mut [u8]) -> ReadAnswer
     if output.len() < length {
         return ReadAnswer::Refused(refuse(Cause::OutputTooShort, 0, 0));
     }
-    put_edges(&bits, n, output);
+    put_rows(&bits, n, output);
     ReadAnswer::Read(length, n)
 }
 

@@ -26,7 +26,7 @@ fn gather_row(bits: &[u8; MAX_BODY_BITS], n: usize, v: usize, row: &mut [u8; MAX
 }
 
 // All edges.
-pub fn put_edges(bits: &[u8; MAX_BODY_BITS], n: usize, output: &mut [u8])
+pub fn put_rows(bits: &[u8; MAX_BODY_BITS], n: usize, output: &mut [u8])
     requires { ⌜ (n ≤ mostVertices) × (length (listOf n (rowsOf (now bits))) ≤ length (now output)) ⌝ }
     ensures { λ _. ⌜ now (output .exit) ≡ sets (now (output .entry)) 0 (listOf n (rowsOf (now (bits .entry)))) ⌝ }
 {

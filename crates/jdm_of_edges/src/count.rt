@@ -9,7 +9,7 @@ ghost use Rattle.table.specs.Inner.Cells.{place};
 ghost use Rattle.layout.specs.Layout.{mostVertices};
 ghost use Rattle.edge_lists.specs.EdgeList.{listed, endV, endW, firstBadEdge, graphOf};
 ghost use Rattle.jdm_of_edges.specs.Survey.{firstAbove};
-ghost use Rattle.jdm_of_edges.specs.Inner.Counting.{countEdge, countCell, degreeIn, firstAboveIn, isolatedIn, HasRoom, HasDegrees, HasCells, cellMostOwn, CellsSmall};
+ghost use Rattle.jdm_of_edges.specs.Inner.Counting.{countEdge, countCell, degreeIn, firstAboveIn, isolatedIn, EndsFew, HasDegrees, HasCells, cellMostOwn, CellsSmall};
 use layout::MAX_VERTICES;
 use slices::wide;
 use table::cells::CELLS;
@@ -20,7 +20,7 @@ use table::degree::MAX_DEGREE;
 
 // Edge i is one more for both its ends.
 fn count_edge(degrees: &mut [usize; MAX_VERTICES], edges: &[u8], i: usize)
-    requires { ⌜ (2 * i + 2 ≤ length (now edges)) × (endV (now edges) i < endW (now edges) i) × (endW (now edges) i < mostVertices) × HasRoom (now edges) i (now degrees) ⌝ }
+    requires { ⌜ (2 * i + 2 ≤ length (now edges)) × (endV (now edges) i < endW (now edges) i) × (endW (now edges) i < mostVertices) × EndsFew (now edges) i (now degrees) ⌝ }
     ensures { λ _. ⌜ now (degrees .exit) ≡ countEdge (endV (now (edges .entry)) i) (endW (now (edges .entry)) i) (now (degrees .entry)) ⌝ }
 {
     let v = wide(edges[2 * i]);

@@ -53,7 +53,7 @@ use Rattle.text.specs.Text.{newline, refusedLine, headLine, edgeLines}
 use Rattle.text.proofs.Lines.{lines-cat, lines-one}
 use Rattle.options.specs.declared.Form.{Form}
 use Rattle.options.specs.declared.Form.the-variants.{Lines, Graph6}
-use Rattle.runner.specs.Program.{blocksIn, blockIn, Taking, takeVerdict, takeNext, takeAll, stateText, recordsMost, completedText, laidText, takenText, textFrom}
+use Rattle.runner.specs.Program.{blocksIn, blockIn, Taking, takeVerdict, takeNext, takeAll, stateText, joinRecordsMost, completedText, laidText, takenText, textFrom}
 use Rattle.runner.specs.Theorems.{CompletesAlways, inputTable, edgeText, shown, Built, ProgramSays}
 use Rattle.runner.proofs.Taking.{IsGo}
 use Rattle.runner.proofs.Room.{laid-count}
@@ -160,10 +160,10 @@ state-shown Graph6 n switches s count simple =
 
 -- a completed state's text
 module _ (choice : Choice) (s : State) (n joins switches written : ℕ) (count : n ≡ vertexCount s)
-    (e : choiceAnswer choice s recordsMost ≡ Completed joins switches written) where
+    (e : choiceAnswer choice s joinRecordsMost ≡ Completed joins switches written) where
   built : (form : Form) → Built form (tableOf (s .journal)) (stateText form n switches (withMatrix s (outcome choice s .adjacency)))
   built form =
-      let w = outcome-works choice s (completed-facts s (outcome choice s) recordsMost joins switches written e .facts) in
+      let w = outcome-works choice s (completed-facts s (outcome choice s) joinRecordsMost joins switches written e .facts) in
       let x = withMatrix s (outcome choice s .adjacency) in
       record {
         state = x;
@@ -181,9 +181,9 @@ Told form t text = ((r : Refusal) × (text ≡ refusedLine r)) ⊎ Built form t 
 
 told-completed : (form : Form) (choice : Choice) (s : State) (n : ℕ) → n ≡ vertexCount s
     → Told form (tableOf (s .journal)) (laidText form choice (LaidOut n) s)
-told-completed form choice s n count = go (choiceAnswer choice s recordsMost) refl
+told-completed form choice s n count = go (choiceAnswer choice s joinRecordsMost) refl
   where
-    go : (a : CompleteAnswer) → choiceAnswer choice s recordsMost ≡ a
+    go : (a : CompleteAnswer) → choiceAnswer choice s joinRecordsMost ≡ a
         → Told form (tableOf (s .journal)) (completedText form a n (afterRan a (outcome choice s) s))
     go (Completed joins switches written) e = inr (built choice s n joins switches written count e form)
     go (CompleteRefused r) e = inl (r, refl)
@@ -211,9 +211,9 @@ program-says form choice input = told form choice cleared input cleared-state
 
 -- completing a laid state is not refused: no layout has more edges than there is room for
 laid-completes : (choice : Choice) (s : State) (n : ℕ) → layOutAnswer s ≡ LaidOut n
-    → (joins switches written : ℕ) × (choiceAnswer choice (layOutAfter s) recordsMost ≡ Completed joins switches written)
+    → (joins switches written : ℕ) × (choiceAnswer choice (layOutAfter s) joinRecordsMost ≡ Completed joins switches written)
 laid-completes choice s n e =
-    (r .joins, r .switches, length (r .records), facts-completed (layOutAfter s) r recordsMost f (omega (arith, missing-most (layOutAfter s) f)))
+    (r .joins, r .switches, length (r .records), facts-completed (layOutAfter s) r joinRecordsMost f (omega (arith, missing-most (layOutAfter s) f)))
   where
     r : Ran
     r = outcome choice (layOutAfter s)

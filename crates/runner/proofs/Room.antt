@@ -47,7 +47,7 @@ use Rattle.text.specs.Text.{newline, edgeLines, headLine, headMost, edgeMost}
 use Rattle.text.proofs.Decimal.{refused-length, head-length, edges-length}
 use Rattle.options.specs.declared.Form.{Form}
 use Rattle.options.specs.declared.Form.the-variants.{Lines, Graph6}
-use Rattle.runner.specs.Program.{stateText, recordsMost, completedText, laidText, takenText, textMost}
+use Rattle.runner.specs.Program.{stateText, joinRecordsMost, completedText, laidText, takenText, textMost}
 
 abbrev IsWritten : WrittenAnswer → Type 0
 IsWritten (Written n) = Unit {0}
@@ -137,11 +137,11 @@ refused-fits : (r : Refusal) → length (Rattle.text.specs.Text.refusedLine r) 
 refused-fits r = omega (arith, refused-length r)
 
 completed-fits : (form : Form) (choice : Choice) (s : State) (n : ℕ) → n ≡ vertexCount s → length (laidText form choice (LaidOut n) s) ≤ textMost
-completed-fits form choice s n count = go (choiceAnswer choice s recordsMost) refl
+completed-fits form choice s n count = go (choiceAnswer choice s joinRecordsMost) refl
   where
-    go : (a : CompleteAnswer) → choiceAnswer choice s recordsMost ≡ a → length (completedText form a n (afterRan a (outcome choice s) s)) ≤ textMost
+    go : (a : CompleteAnswer) → choiceAnswer choice s joinRecordsMost ≡ a → length (completedText form a n (afterRan a (outcome choice s) s)) ≤ textMost
     go (Completed joins switches written) e =
-        let f = completed-facts s (outcome choice s) recordsMost joins switches written e .facts in
+        let f = completed-facts s (outcome choice s) joinRecordsMost joins switches written e .facts in
         state-fits (withMatrix s (outcome choice s .adjacency)) (outcome-works choice s f .state) form n switches count
     go (CompleteRefused r) e = refused-fits r
 

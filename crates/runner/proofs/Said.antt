@@ -27,7 +27,7 @@ use Rattle.complete_shuffled.proofs.Works.{outcome-works}
 use Rattle.text.specs.Text.{refusedLine}
 use Rattle.text.proofs.Written.{Written}
 use Rattle.options.specs.declared.Form.{Form}
-use Rattle.runner.specs.Program.{takeAll, stateText, recordsMost, completedText, laidText, takenText, textFrom, textMost}
+use Rattle.runner.specs.Program.{takeAll, stateText, joinRecordsMost, completedText, laidText, takenText, textFrom, textMost}
 use Rattle.runner.proofs.Taking.{taken-matrix}
 use Rattle.runner.proofs.Room.{laid-count, text-fits}
 
@@ -43,9 +43,9 @@ pub says-line : (t u l : List ℕ) (p : ℕ) (m : List ℕ) → t ≡ u → Writ
 says-line t u l p m e w = says t u l p m e (w .0 ∙ zero-add (length u), w .1)
 
 -- after completing, with m bytes for the records
-module _ (form : Form) (choice : Choice) (s : State) (n m : ℕ) (room : m ≡ recordsMost) (a : CompleteAnswer) (g : List ℕ)
+module _ (form : Form) (choice : Choice) (s : State) (n m : ℕ) (room : m ≡ joinRecordsMost) (a : CompleteAnswer) (g : List ℕ)
     (answered : a ≡ choiceAnswer choice s m) (left : g ≡ choiceAfter choice s m .adjacency) where
-  answer : a ≡ choiceAnswer choice s recordsMost
+  answer : a ≡ choiceAnswer choice s joinRecordsMost
   answer = answered ∙ ap (choiceAnswer choice s) room
 
   pub said-refused : (r : Refusal) → a ≡ CompleteRefused r → laidText form choice (LaidOut n) s ≡ refusedLine r

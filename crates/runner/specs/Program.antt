@@ -70,8 +70,8 @@ abbrev pub stateText : Form → ℕ → ℕ → State → List ℕ
 stateText form n switches s = listText form n switches (listBytes (vertexCount s) (s .adjacency))
 
 -- the room that completing is lent: a record for each edge that a layout can have
-abbrev pub recordsMost : ℕ
-recordsMost = joinRecordSize * mostEdges
+abbrev pub joinRecordsMost : ℕ
+joinRecordsMost = joinRecordSize * mostEdges
 
 -- after completing
 abbrev pub completedText : Form → CompleteAnswer → ℕ → State → List ℕ
@@ -82,7 +82,7 @@ completedText form (CompleteRefused r) n s = refusedLine r
 abbrev pub laidText : Form → Choice → LayOutAnswer → State → List ℕ
 laidText form choice (LaidOut n) s =
     let r = outcome choice s in
-    let a = ranAnswer r s recordsMost in
+    let a = ranAnswer r s joinRecordsMost in
     completedText form a n (afterRan a r s)
 laidText form choice (LayOutRefused r) s = refusedLine r
 

@@ -25,7 +25,7 @@ use Rattle.complete_shuffled.specs.Outcome.{choiceAnswer}
 use Rattle.text.specs.Text.{newline, refusedLine, headLine, edgeLine}
 use Rattle.options.specs.declared.Form.{Form}
 use Rattle.options.specs.declared.Form.the-variants.{Lines, Graph6}
-use Rattle.runner.specs.Program.{blocksIn, blockIn, takeAll, recordsMost, programText, inputMost}
+use Rattle.runner.specs.Program.{blocksIn, blockIn, takeAll, joinRecordsMost, programText, inputMost}
 
 -- "cuts them into blocks of 64 bytes (the last may be shorter)": an empty input is no block at all, one of m full blocks is m blocks; no block is
 -- empty, although an empty one would be taken; and the blocks, one behind the other, are the input
@@ -46,7 +46,7 @@ CompletesAlways =
     let t = takeAll cleared input in
     let s = layOutAfter (t .state) in
     t .verdict ≡ Go → layOutAnswer (t .state) ≡ LaidOut n →
-    (joins switches written : ℕ) × (choiceAnswer choice s recordsMost ≡ Completed joins switches written)
+    (joins switches written : ℕ) × (choiceAnswer choice s joinRecordsMost ≡ Completed joins switches written)
 
 -- the sum of the input's blocks: in each cell, and of the isolated vertices
 abbrev pub inputTable : List ℕ → DegreeTable

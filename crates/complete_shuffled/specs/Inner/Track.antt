@@ -32,7 +32,7 @@ abbrev pub cellHas : ℕ → List ℕ → List ℕ → ℕ → ℕ → ℕ
 cellHas n starts g k l = jdm n (classFrom starts) (edge g) k l
 
 -- the cells can be counted: their blocks are blocks of a simple graph of n vertices, and none has more than the table
-pub record Countable (n : ℕ) (cells starts g : List ℕ) : Type 0 where
+pub record CellsCountable (n : ℕ) (cells starts g : List ℕ) : Type 0 where
   pub sized : length g ≡ adjacencySize
   pub arranged : Arranged n starts
   pub simple : Simple n (edge g)
@@ -102,8 +102,8 @@ pub record Shuffling (n : ℕ) (cells starts classes g have full pairs sums low 
   pub degrees-right : degrees ≡ degreesOf n g
 
 -- the search for an unsaturated vertex of class k goes on from where it was
-abbrev pub lowFrom : List ℕ → List ℕ → List ℕ → ℕ → ℕ
-lowFrom degrees starts low k = lowest (getD low k 0) (getD starts (k + 1) 0) (λ i. ltb (getD degrees i 0) (classDegree k))
+abbrev pub lowAfter : List ℕ → List ℕ → List ℕ → ℕ → ℕ
+lowAfter degrees starts low k = lowest (getD low k 0) (getD starts (k + 1) 0) (λ i. ltb (getD degrees i 0) (classDegree k))
 
 -- m edges are missing, no more than a layout can have
 abbrev pub Lacks : ℕ → List ℕ → List ℕ → ℕ → Type 0

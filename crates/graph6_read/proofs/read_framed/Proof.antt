@@ -64,7 +64,7 @@ read-framed-spec =
     let t = s .args .text .now in
     let f = framed-facts t (s .pre) in
     let size = rw (n .size-of .ensures .0, b .bits-of .ensures, bits-list t f) at (l .list-length .ensures) in
-    rw (n .size-of .ensures .0, b .bits-of .ensures, rows-list t f) (f .few, rw size at (o .if2 .left)))  -- put-edges-requires
+    rw (n .size-of .ensures .0, b .bits-of .ensures, rows-list t f) (f .few, rw size at (o .if2 .left)))  -- put-rows-requires
     (λ c. search needs)  -- same-length
     (λ c.
     let w = c .before .before in
@@ -80,4 +80,4 @@ read-framed-spec =
     let padded = rw (n .size-of .ensures .0, b .bits-of .ensures, padding-same t f) at (z .zero-behind .ensures) in
     let size = rw (n .size-of .ensures .0, b .bits-of .ensures, bits-list t f) at (l .list-length .ensures) in
     rw (not-false (zeroPadded t) (rw padded at (i .if1 .left)), le-leb _ _ (rw size at (o .if2 .left)), n .size-of .ensures .0, size)
-    (refl, rw (n .size-of .ensures .0, b .bits-of .ensures, rows-list t f) at (w .put-edges .ensures))))  -- returns-3
+    (refl, rw (n .size-of .ensures .0, b .bits-of .ensures, rows-list t f) at (w .put-rows .ensures))))  -- returns-3

@@ -26,8 +26,8 @@ abbrev pub degreeIn : List ℕ → ℕ → ℕ
 degreeIn d v = getD d v 0
 
 -- the ends of edge i have at most 2 for each edge before it
-abbrev pub HasRoom : List ℕ → ℕ → List ℕ → Type 0
-HasRoom e i d = (degreeIn d (endV e i) ≤ 2 * i) × (degreeIn d (endW e i) ≤ 2 * i)
+abbrev pub EndsFew : List ℕ → ℕ → List ℕ → Type 0
+EndsFew e i d = (degreeIn d (endV e i) ≤ 2 * i) × (degreeIn d (endW e i) ≤ 2 * i)
 
 -- the cells after one edge more, between vertices of degrees a and b
 abbrev pub countCell : ℕ → ℕ → List ℕ → List ℕ

@@ -1,4 +1,4 @@
--- `graph6_read::rows::put_edges` meets its contract: the rows up to v are written.
+-- `graph6_read::rows::put_rows` meets its contract: the rows up to v are written.
 -- Assumes nothing.
 use mathlib.Core.Path.{_≡_, refl, sym}
 use Prim.Native.Nat.{_≤_, _-_}
@@ -12,8 +12,8 @@ use Rattle.layout.specs.Layout.{mostVertices}
 use Rattle.edge_lists.specs.EdgeList.{rowBytes}
 use Rattle.graph6_read.specs.Inner.Bits.{rowsOf}
 use Rattle.graph6_read.proofs.Gathering.{row-length, row-bytes}
-use Rattle.graph6_read.proofs.rows.put_edges.Statement.{statement}
-use Rattle.graph6_read.proofs.rows.put_edges.Tie as tie
+use Rattle.graph6_read.proofs.rows.put_rows.Statement.{statement}
+use Rattle.graph6_read.proofs.rows.put_rows.Tie as tie
 
 abbrev Inv-loop : tie.InvT-loop
 Inv-loop bits n output₀ row₀ a₀ v₀ output row a v =
@@ -23,8 +23,8 @@ Inv-loop bits n output₀ row₀ a₀ v₀ output row a v =
 abbrev μ-loop : tie.MeasureT-loop
 μ-loop bits n output₀ row₀ a₀ v₀ output row a v = n - v
 
-pub put-edges-spec : {M : Type 1} → statement M
-put-edges-spec =
+pub put-rows-spec : {M : Type 1} → statement M
+put-rows-spec =
     tie.close (tie.spec Inv-loop μ-loop
     (λ c. rw catTo-none (omega arith, refl, refl, refl))  -- loop-holds
     (λ c κs.
