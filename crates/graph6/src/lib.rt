@@ -3,7 +3,6 @@ ghost use mathlib.Core.Path.{_≡_};
 ghost use Prim.Native.Nat.{_≤_, _<_};
 ghost use Rattle.layout.specs.Layout.{mostVertices};
 ghost use Rattle.graph6.specs.Format.{columnStart, bodyLength, mostBits, bodyMost};
-use crate::column_starts::COLUMN_STARTS;
 use layout::MAX_VERTICES;
 
 pub mod column_starts;
@@ -37,8 +36,7 @@ pub fn bit_count(n: usize) -> usize
     if n == 0 {
         return 0;
     }
-    let last = n - 1;
-    wide16(COLUMN_STARTS[last]) + last
+    n * (n - 1) / 2
 }
 
 // And how many bytes they take.
