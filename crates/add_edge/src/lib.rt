@@ -28,6 +28,7 @@ use classes::block_sum;
 use classes::class_at;
 use classes::starts;
 use joining::End;
+use joining::both_reliefs;
 use joining::join;
 use layout::MAX_VERTICES;
 use layout::vertex_count;
@@ -98,9 +99,8 @@ fn add_unlinked(
     if !is_short(adjacency, cells, &s, x.class, y.class) {
         return AddAnswer::Refused(full_cell(x.class, y.class));
     }
-    let done = join(adjacency, degrees, &s, n, x, y);
-    let switches = done.switches;
-    AddAnswer::Added(switches)
+    let made = join(adjacency, degrees, &s, n, x, y);
+    AddAnswer::Added(both_reliefs(made))
 }
 
 // On a valid laid state: the checks 13 to 15, then the pair.

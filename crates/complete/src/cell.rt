@@ -20,6 +20,9 @@ use classes::STARTS;
 use join_records::JOIN_RECORD_BYTES;
 use join_records::put_record;
 use joining::End;
+use joining::both_reliefs;
+use joining::cut_off;
+use joining::join;
 use layout::MAX_VERTICES;
 use slices::least;
 use table::class::class_degree;
@@ -98,10 +101,10 @@ fn cell_step(
         class: cell.l,
         low: w,
     };
-    let done = joining::join(adjacency, degrees, starts, n, row, column);
-    let made = done.switches;
+    let done = join(adjacency, degrees, starts, n, row, column);
+    let next = least(cut_off(n, done), pair.w + 1);
+    let made = both_reliefs(done);
     let sum = record_join(output, totals, pair.v, pair.w, made);
-    let next = least(done.freed, pair.w + 1);
     Step {
         cursor: Cursor {
             at: Pair { v: pair.v, w: next },

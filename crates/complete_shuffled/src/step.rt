@@ -23,6 +23,8 @@ use complete::cell::advance;
 use complete::cell::record_join;
 use complete::pair::Pair;
 use joining::End;
+use joining::both_reliefs;
+use joining::join;
 use layout::MAX_VERTICES;
 use open_pairs::row::SUMS;
 use slices::wide;
@@ -80,8 +82,8 @@ fn join_pair(
         class: l,
         low: column,
     };
-    let joined = joining::join(adjacency, degrees, starts, n, v, w);
-    joined.switches
+    let joined = join(adjacency, degrees, starts, n, v, w);
+    both_reliefs(joined)
 }
 
 // One join.

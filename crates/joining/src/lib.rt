@@ -29,10 +29,10 @@ pub enum Relief {
     Switched(Switch),
 }
 
-// What joining did: the switches, and the vertex that the switch of v cut off from v (n where there was none).
-pub struct JoinDone {
-    pub switches: Switches,
-    pub freed: usize,
+// What making room took at both ends of a join.
+pub struct Reliefs {
+    pub v: Relief,
+    pub w: Relief,
 }
 
 // Makes room at a: a neighbour switch if it is saturated.
@@ -57,9 +57,11 @@ fn relieve(
 }
 
 // The switches of both ends, in the order made.
-fn both_reliefs(x: Relief, y: Relief) -> Switches
-    ensures { λ r. ⌜ r ≡ bothReliefs x y ⌝ }
+pub fn both_reliefs(made: Reliefs) -> Switches
+    ensures { λ r. ⌜ r ≡ bothReliefs (made .v) (made .w) ⌝ }
 {
+    let x = made.v;
+    let y = made.w;
     match x {
         Relief::Room => match y {
             Relief::Room => Switches::None,
@@ -72,17 +74,19 @@ fn both_reliefs(x: Relief, y: Relief) -> Switches
     }
 }
 
-// The vertex that a relief cut off from its end; n where there was no switch.
-fn cut_off(n: usize, x: Relief) -> usize
-    ensures { λ r. ⌜ r ≡ cutOff n x ⌝ }
+// The vertex that the switch of v cut off from v; n where there was none.
+pub fn cut_off(n: usize, made: Reliefs) -> usize
+    ensures { λ r. ⌜ r ≡ cutOff n (made .v) ⌝ }
 {
+    let x = made.v;
     match x {
         Relief::Room => n,
         Relief::Switched(s) => s.t,
     }
 }
 
-// Joins v and w: room at v, then at w, then the edge.
+// Joins v and w: room at v, then at w, then the edge. Callers make of the reliefs what they need, so that this stays small enough to be
+// inlined: as a call of its own it read its ends back from memory, and shuffled completing took up to a quarter longer.
 pub fn join(
     adjacency: &mut [u8],
     degrees: &mut [usize; MAX_VERTICES],
@@ -90,17 +94,14 @@ pub fn join(
     n: usize,
     v: End,
     w: End,
-) -> JoinDone
+) -> Reliefs
     requires { ⌜ Joinable n (classFrom (now starts)) (now adjacency) (v .at) (w .at) × (now degrees ≡ degreesOf n (now adjacency)) × Placed n (now starts) (now adjacency) v (w .at) × Placed n (now starts) (now adjacency) w (v .at) ⌝ }
-    ensures { λ r. ⌜ (r .switches ≡ joinSwitches n (classFrom (now (starts .entry))) (now (adjacency .entry)) (v .at) (w .at)) × (r .freed ≡ freed n (classFrom (now (starts .entry))) (now (adjacency .entry)) (v .at) (w .at)) ⌝ }
+    ensures { λ r. ⌜ (bothReliefs (r .v) (r .w) ≡ joinSwitches n (classFrom (now (starts .entry))) (now (adjacency .entry)) (v .at) (w .at)) × (cutOff n (r .v) ≡ freed n (classFrom (now (starts .entry))) (now (adjacency .entry)) (v .at) (w .at)) ⌝ }
     ensures { λ _. ⌜ now (adjacency .exit) ≡ joinBytes n (classFrom (now (starts .entry))) (now (adjacency .entry)) (v .at) (w .at) ⌝ }
     ensures { λ _. ⌜ now (degrees .exit) ≡ degreesOf n (joinBytes n (classFrom (now (starts .entry))) (now (adjacency .entry)) (v .at) (w .at)) ⌝ }
 {
     let x = relieve(adjacency, degrees, starts, n, v, w.at);
     let y = relieve(adjacency, degrees, starts, n, w, v.at);
     link(adjacency, degrees, v.at, w.at);
-    JoinDone {
-        switches: both_reliefs(x, y),
-        freed: cut_off(n, x),
-    }
+    Reliefs { v: x, w: y }
 }

@@ -58,9 +58,10 @@ add-unlinked-spec =
     let ex = x .end-at .ensures in
     let ey = y .end-at2 .ensures in
     join-ready cells u ed es ex ey (s .pre .3) (short-read cells u ed es ex ey (h .is-short .ensures) ∙ not-false _ (i .if1 .left)))  -- join-requires
+    (λ c κs. tt)  -- both-reliefs-requires
     (λ c. search needs)  -- same-length-2
     (λ c.
-    let j = c .before .before in
+    let j = c .before .before .before in
     let i = j .before .before .before .before in
     let h = i .before in
     let y = h .before .before .before in
@@ -74,6 +75,6 @@ add-unlinked-spec =
     let ex = x .end-at .ensures in
     let ey = y .end-at2 .ensures in
     rw (short-read cells u ed es ex ey (h .is-short .ensures) ∙ not-false _ (i .if1 .left)) (
-      ap Added (j .join .ensures .0 .0 ∙ switches-read cells u ed es ex ey (s .pre .3)),
+      ap Added (c .both-reliefs .ensures ∙ j .join .ensures .0 .0 ∙ switches-read cells u ed es ex ey (s .pre .3)),
       j .join .ensures .1 .0 ∙ join-read cells u ed es ex ey (s .pre .3),
     )))  -- returns-2

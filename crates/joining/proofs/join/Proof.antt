@@ -1,6 +1,5 @@
 -- `joining::join` meets its contract: room is made at v, then at w, and then both have room for the edge.
 -- Assumes nothing.
-use mathlib.Core.Path.{_∙_}
 use borrow.Author.Needs.{needs}
 use Rattle.joining.proofs.Relieving.{reliefs-switches, relief-freed, joinable-next, placed-next, linkable, link-kept, joinable-last, room-v, room-w}
 use Rattle.joining.proofs.join.Statement.{statement}
@@ -24,19 +23,14 @@ join-spec =
     let j = r .before .before .before .before .pre .0 in
     let q = rw (r .relieve .ensures .1 .0) at (r2 .relieve2 .ensures .1) in
     rw (q .0) (linkable (joinable-last j) (q .1) (room-v j) (room-w j)))  -- link-requires
-    (λ c κs. tt)  -- both-reliefs-requires
-    (λ c κs. tt)  -- cut-off-requires
     (λ c. search needs)  -- same-length
     (λ c.
-    let k = c .before .before .before .before in
+    let k = c .before .before in
     let r2 = k .before .before .before .before .before in
     let r = r2 .before .before .before .before .before in
     let j = r .before .before .before .before .pre .0 in
     let q = rw (r .relieve .ensures .1 .0) at (r2 .relieve2 .ensures) in
     let l = rw (q .1 .0) at (k .link .ensures) in (
-      (
-        c .before .both-reliefs .ensures ∙ reliefs-switches j (r .relieve .ensures .0) (q .0),
-        c .cut-off .ensures ∙ relief-freed j (r .relieve .ensures .0),
-      ),
+      (reliefs-switches j (r .relieve .ensures .0) (q .0), relief-freed j (r .relieve .ensures .0)),
       (l .0, rw (l .1) (link-kept (joinable-last j) (q .1 .1))),
     )))  -- returns

@@ -1,6 +1,6 @@
 -- `complete::cell::cell_step` meets its contract.
 -- Assumes nothing.
-use mathlib.Core.Path.{refl}
+use mathlib.Core.Path.{refl, _∙_}
 use native.Mathlib.Omega.{arith}
 use borrow.Author.Needs.{needs}
 use Rattle.complete.proofs.ValidRuns.{join-recordable}
@@ -35,23 +35,29 @@ cell-step-spec =
       row-placed (f .pre .0) (f .pre .1) _ _ (e .0) (e .1) _ _ ex ey,
       column-placed (f .pre .0) (f .pre .1) _ _ (e .0) (e .1) _ _ ex ey,
     ))  -- join-requires
-    (λ c κs.
-    let j = c .before .before .before in
-    let o = j .before .before .before .before .before .before .before .before .before in
-    let f = o .before .before .before .before in
-    let joinable = step-joinable (f .pre .0) _ _ (o .open-pair .ensures .0) (o .open-pair .ensures .1) in
-    join-recordable (f .args .output .now) (f .pre .0 .is-valid) (step-room (f .pre .0)) joinable (j .join .ensures .0 .0))  -- record-join-requires
+    (λ c κs. tt)  -- cut-off-requires
     (λ c.
-    let o = c .before .before .before .before .before .before .before .before .before .before .before .before .before .before .before .before in
+    let o = c .before .before .before .before .before .before .before .before .before .before .before .before .before in
     let f = o .before .before .before .before in
     let joinable = step-joinable (f .pre .0) _ _ (o .open-pair .ensures .0) (o .open-pair .ensures .1) in
     omega (arith, joinable .pair .second, f .pre .0 .is-valid .filling .few))  -- add-least
     (λ c κs. tt)  -- least-requires
+    (λ c κs. tt)  -- both-reliefs-requires
+    (λ c κs.
+    let b = c .before in
+    let j = b .before .before .before .before .before .before in
+    let o = j .before .before .before .before .before .before .before .before .before in
+    let f = o .before .before .before .before in
+    let joinable = step-joinable (f .pre .0) _ _ (o .open-pair .ensures .0) (o .open-pair .ensures .1) in
+    let made = b .both-reliefs .ensures ∙ j .join .ensures .0 .0 in
+    join-recordable (f .args .output .now) (f .pre .0 .is-valid) (step-room (f .pre .0)) joinable made)  -- record-join-requires
     (λ c. search needs)  -- same-length
     (λ c. search needs)  -- same-length-2
     (λ c.
-    let w = c .before .before .before .before in
-    let j = w .before .before .before .before in
+    let w = c .before .before in
+    let b = w .before .before in
+    let l = b .before in
+    let j = l .before .before .before .before .before in
     let y = j .before .before .before in
     let x = y .before .before .before in
     let o = x .before .before .before in
@@ -60,10 +66,12 @@ cell-step-spec =
     let ex = rw (x .before .class-degree .ensures) at (x .advance .ensures) in
     let ey = rw (y .before .class-degree2 .ensures) at (y .advance2 .ensures) in
     let wrote = w .record-join .ensures in
+    let made = b .both-reliefs .ensures ∙ j .join .ensures .0 .0 in
+    let freed = l .before .before .cut-off .ensures ∙ j .join .ensures .0 .1 in
     rw (wrote .0 .0) (
       (
-        step-ran (f .pre .0) _ _ (e .0) (e .1) (j .join .ensures .0 .0) _ _ _ refl refl (wrote .1) (j .join .ensures .1 .0),
-        step-resumes (f .pre .0) _ _ (e .0) (e .1) _ _ ex ey _ _ _ (j .join .ensures .1 .0) (j .join .ensures .0 .1) (c .least .ensures),
+        step-ran (f .pre .0) _ _ (e .0) (e .1) made _ _ _ refl refl (wrote .1) (j .join .ensures .1 .0),
+        step-resumes (f .pre .0) _ _ (e .0) (e .1) _ _ ex ey _ _ _ (j .join .ensures .1 .0) freed (l .least .ensures),
       ),
       (rw (wrote .0 .0) at (wrote .0 .1), rw (j .join .ensures .1 .0) (j .join .ensures .1 .1)),
     )))  -- returns

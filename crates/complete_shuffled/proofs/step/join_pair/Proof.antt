@@ -1,6 +1,6 @@
 -- `complete_shuffled::step::join_pair` meets its contract.
 -- Assumes nothing.
-use mathlib.Core.Path.{refl}
+use mathlib.Core.Path.{refl, _∙_}
 use borrow.Author.Needs.{needs}
 use Rattle.complete_shuffled.proofs.Unsaturated.{class-end, end-placed, lows-set, lows-stay}
 use Rattle.complete_shuffled.proofs.step.join_pair.Statement.{statement}
@@ -29,9 +29,10 @@ join-pair-spec =
       end-placed (f .pre .3) (f .pre .2) (f .pre .1) _ kd _ _ _ _ refl (f .pre .4) (x .low-of .ensures .0),
       end-placed (f .pre .3) once (f .pre .1) _ ld _ _ _ _ refl (f .pre .5) (y .low-of2 .ensures .0),
     ))  -- join-requires
+    (λ c κs. tt)  -- both-reliefs-requires
     (λ c. search needs)  -- same-length
     (λ c.
-    let j = c .before .before in
+    let j = c .before .before .before in
     let y = j .before .before .before in
     let x = y .before .before .before in
     let f = x .before .before .before .before in
@@ -39,4 +40,4 @@ join-pair-spec =
     let ld = rw (← (f .pre .5)) at (f .pre .0 .target .classed _ (f .pre .0 .pair .second)) in
     let once = rw (← (x .low-of .ensures .1)) at (lows-set (f .pre .3) (f .pre .2) (f .pre .1) _ kd) in
     let twice = rw (← (y .low-of2 .ensures .1)) at (lows-set (f .pre .3) once (f .pre .1) _ ld) in
-    (j .join .ensures .0 .0, (j .join .ensures .1 .0, (j .join .ensures .1 .1, lows-stay (f .pre .3) twice (f .pre .0))))))  -- returns
+    (c .both-reliefs .ensures ∙ j .join .ensures .0 .0, (j .join .ensures .1 .0, (j .join .ensures .1 .1, lows-stay (f .pre .3) twice (f .pre .0))))))  -- returns
