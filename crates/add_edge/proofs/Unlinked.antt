@@ -33,9 +33,19 @@ pub starts-few : (c : List ℕ) {counts : List ℕ} → Counts c counts → vert
     → total mostClasses (countIn counts) ≤ mostVertices
 starts-few c {counts} ed few = rw (counted-total c counts ed) few
 
--- c: the table's cells; s: the starts of its classes
-module _ (c : List ℕ) {counts s g degrees : List ℕ} {v w : ℕ} (u : Unlinked (tableIn c (countIn counts 0)) g degrees v w) (ed : Counts c counts)
-    (es : s ≡ startsOf counts) where
+-- What adding has at hand: c, the table's cells; counts, the vertices of each class; s, where the classes start; x and y, the ends of the edge.
+pub record Ends (c counts s g degrees : List ℕ) (v w : ℕ) (x y : End) : Type 0 where
+  pub unlinked : Unlinked (tableIn c (countIn counts 0)) g degrees v w
+  pub counted : Counts c counts
+  pub started : s ≡ startsOf counts
+  pub first : x ≡ endIn s v
+  pub second : y ≡ endIn s w
+
+pub ends : (c : List ℕ) {counts s g degrees : List ℕ} {v w : ℕ} {x y : End} → Unlinked (tableIn c (countIn counts 0)) g degrees v w → Counts c counts
+    → s ≡ startsOf counts → x ≡ endIn s v → y ≡ endIn s w → Ends c counts s g degrees v w x y
+ends c u ed es ex ey = record { unlinked = u; counted = ed; started = es; first = ex; second = ey }
+
+module _ {c counts s g degrees : List ℕ} {v w : ℕ} {x y : End} (e : Ends c counts s g degrees v w x y) where
   abbrev t : DegreeTable
   t = tableIn c (countIn counts 0)
 
@@ -47,99 +57,94 @@ module _ (c : List ℕ) {counts s g degrees : List ℕ} {v w : ℕ} (u : Unlinke
   short = isShort (vertices t) (vertexClass t) T (edge g) (vertexClass t v) (vertexClass t w)
 
   numbered : Numbered (vertices t) s
-  numbered = table-numbered c ed es
+  numbered = table-numbered c (e .counted) (e .started)
 
-  -- the class of vertex i, by the starts
-  module _ (i : ℕ) where
-    class-read : classFrom s i ≡ vertexClass t i
-    class-read = ap (λ (cls : ℕ → ℕ). cls i) (table-classes c ed es)
+  -- the classes by the starts are those of the table
+  same-classes : classFrom s ≡ vertexClass t
+  same-classes = table-classes c (e .counted) (e .started)
 
-    module _ (low : i < vertices t) where
-      class-few : classFrom s i < mostClasses
-      class-few = class-below numbered i low
-
-      -- the whole class is searched
-      placed : (o : ℕ) → Placed (vertices t) s g (endIn s i) o
-      placed o =
-          let k = classFrom s i in
-          record {
-            numbered = numbered;
-            class = refl;
-            after = omega arith;
-            before = start-rises numbered k (k + 1) (omega arith) (omega (arith, class-few));
-            saturated = λ j l e d.
-                absurd (omega (arith, class-only numbered k j class-few (omega (arith, start-most numbered k (omega (arith, class-few)))) e));
-          }
+  -- an end's whole class is searched
+  placed : (i : ℕ) → i < vertices t → (o : ℕ) → Placed (vertices t) s g (endIn s i) o
+  placed i low o =
+      let k = classFrom s i in
+      let few = class-below numbered i low in
+      record {
+        numbered = numbered;
+        class = refl;
+        after = omega arith;
+        before = start-rises numbered k (k + 1) (omega arith) (omega (arith, few));
+        saturated = λ j l h d. absurd (omega (arith, class-only numbered k j few (omega (arith, start-most numbered k (omega (arith, few)))) h));
+      }
 
   -- the block of two classes
   block-of : (k l : ℕ) → k < mostClasses → l < mostClasses → BlockOf g (getD s k 0) (getD s (k + 1) 0) (getD s l 0) (getD s (l + 1) 0)
   block-of k l kd ld =
       record {
         n = vertices t;
-        few = u .few;
-        simple = u .partial .simple;
+        few = e .unlinked .few;
+        simple = e .unlinked .partial .simple;
         rows = (start-rises numbered k (k + 1) (omega arith) (omega arith), start-most numbered (k + 1) (omega arith));
         columns = (start-rises numbered l (l + 1) (omega arith) (omega arith), start-most numbered (l + 1) (omega arith));
       }
 
-  -- the two ends, as the code has them
-  module _ {x y : End} (ex : x ≡ endIn s v) (ey : y ≡ endIn s w) where
-    pub first-class : x .class ≡ vertexClass t v
-    first-class = ap (λ (e : End). e .class) ex ∙ class-read v
+  pub first-class : x .class ≡ vertexClass t v
+  first-class = ap (λ (a : End). a .class) (e .first) ∙ ap (λ (cls : ℕ → ℕ). cls v) same-classes
 
-    pub second-class : y .class ≡ vertexClass t w
-    second-class = ap (λ (e : End). e .class) ey ∙ class-read w
+  pub second-class : y .class ≡ vertexClass t w
+  second-class = ap (λ (a : End). a .class) (e .second) ∙ ap (λ (cls : ℕ → ℕ). cls w) same-classes
 
-    pub cell-block : (length g ≡ adjacencySize) × (x .class < mostClasses) × (y .class < mostClasses)
-        × BlockOf g (getD s (x .class) 0) (getD s (x .class + 1) 0) (getD s (y .class) 0) (getD s (y .class + 1) 0)
-    cell-block =
-        let kd = class-few v (u .first) in
-        let ld = class-few w (u .second) in
-        rw (ex, ey) (u .sized, kd, ld, block-of (classFrom s v) (classFrom s w) kd ld)
+  pub cell-block : (length g ≡ adjacencySize) × (x .class < mostClasses) × (y .class < mostClasses)
+      × BlockOf g (getD s (x .class) 0) (getD s (x .class + 1) 0) (getD s (y .class) 0) (getD s (y .class + 1) 0)
+  cell-block =
+      let kd = class-below numbered v (e .unlinked .first) in
+      let ld = class-below numbered w (e .unlinked .second) in
+      rw (e .first, e .second) (e .unlinked .sized, kd, ld, block-of (classFrom s v) (classFrom s w) kd ld)
 
-    pub short-read : {b : Bool}
-        → b ≡ ltb (blockSum (edge g) (getD s (x .class) 0) (getD s (x .class + 1) 0) (getD s (y .class) 0) (getD s (y .class + 1) 0)) (T (x .class) (y .class))
-        → short ≡ b
-    short-read e =
-        let k = x .class in
-        let l = y .class in
-        let few = cell-block in
-        sym (e
-        ∙ ap (λ (i : ℕ). ltb i (T k l))
-        (block-cell numbered (edge g) k l (few .1) (few .2) ∙ ap (λ (cls : ℕ → ℕ). jdm (vertices t) cls (edge g) k l) (table-classes c ed es))
-        ∙ ap₂ (isShort (vertices t) (vertexClass t) T (edge g)) first-class second-class)
+  pub short-read : {b : Bool}
+      → b ≡ ltb (blockSum (edge g) (getD s (x .class) 0) (getD s (x .class + 1) 0) (getD s (y .class) 0) (getD s (y .class + 1) 0)) (T (x .class) (y .class))
+      → short ≡ b
+  short-read h =
+      let k = x .class in
+      let l = y .class in
+      let few = cell-block in
+      sym (h
+      ∙ ap (λ (i : ℕ). ltb i (T k l))
+      (block-cell numbered (edge g) k l (few .1) (few .2) ∙ ap (λ (cls : ℕ → ℕ). jdm (vertices t) cls (edge g) k l) same-classes)
+      ∙ ap₂ (isShort (vertices t) (vertexClass t) T (edge g)) first-class second-class)
 
-    -- joining by the starts is joining by the layout
-    module _ {n : ℕ} (en : n ≡ vertices t) where
-      pub join-ready : short ≡ true → Joinable n (classFrom s) g (x .at) (y .at) × (degrees ≡ degreesOf n g) × Placed n s g x (y .at)
-          × Placed n s g y (x .at)
-      join-ready h =
-          rw (ex, ey, en) (joinable, u .degrees-right, placed v (u .first) w, placed w (u .second) v)
-        where
-          joinable : Joinable (vertices t) (classFrom s) g v w
-          joinable =
-              rw (table-classes c ed es)
-              (record {
-                table = T;
-                sized = u .sized;
-                few = u .few;
-                target = u .target;
-                partial = u .partial;
-                pair =
-                    record {
-                      first = u .first;
-                      second = u .second;
-                      distinct = u .distinct;
-                      unlinked = u .unlinked;
-                      short = ltb-true (jdm (vertices t) (vertexClass t) (edge g) (vertexClass t v) (vertexClass t w)) (T (vertexClass t v) (vertexClass t w)) h;
-                    };
-              })
+  -- joining by the starts is joining by the layout
+  module _ {n : ℕ} (en : n ≡ vertices t) where
+    pub join-ready : short ≡ true → Joinable n (classFrom s) g (x .at) (y .at) × (degrees ≡ degreesOf n g) × Placed n s g x (y .at)
+        × Placed n s g y (x .at)
+    join-ready h = rw (e .first, e .second, en) (joinable, u .degrees-right, placed v (u .first) w, placed w (u .second) v)
+      where
+        u : Unlinked t g degrees v w
+        u = e .unlinked
 
-      pub join-read : joinBytes n (classFrom s) g (x .at) (y .at) ≡ joinBytes (vertices t) (vertexClass t) g v w
-      join-read = rw (ex, ey, en) (ap (λ (cls : ℕ → ℕ). joinBytes (vertices t) cls g v w) (table-classes c ed es))
+        joinable : Joinable (vertices t) (classFrom s) g v w
+        joinable =
+            rw same-classes
+            (record {
+              table = T;
+              sized = u .sized;
+              few = u .few;
+              target = u .target;
+              partial = u .partial;
+              pair =
+                  record {
+                    first = u .first;
+                    second = u .second;
+                    distinct = u .distinct;
+                    unlinked = u .unlinked;
+                    short = ltb-true (jdm (vertices t) (vertexClass t) (edge g) (vertexClass t v) (vertexClass t w)) (T (vertexClass t v) (vertexClass t w)) h;
+                  };
+            })
 
-      pub switches-read : joinSwitches n (classFrom s) g (x .at) (y .at) ≡ joinSwitches (vertices t) (vertexClass t) g v w
-      switches-read = rw (ex, ey, en) (ap (λ (cls : ℕ → ℕ). joinSwitches (vertices t) cls g v w) (table-classes c ed es))
+    pub join-read : joinBytes n (classFrom s) g (x .at) (y .at) ≡ joinBytes (vertices t) (vertexClass t) g v w
+    join-read = rw (e .first, e .second, en) (ap (λ (cls : ℕ → ℕ). joinBytes (vertices t) cls g v w) same-classes)
+
+    pub switches-read : joinSwitches n (classFrom s) g (x .at) (y .at) ≡ joinSwitches (vertices t) (vertexClass t) g v w
+    switches-read = rw (e .first, e .second, en) (ap (λ (cls : ℕ → ℕ). joinSwitches (vertices t) cls g v w) same-classes)
 
 -- on the table of a state's journal
 pub adjacency-of : (a : AddAnswer) (s : State) (v w : ℕ) → addedAdjacency a (tableOf (s .journal)) (s .adjacency) v w ≡ afterAdd a s v w .adjacency

@@ -1,4 +1,4 @@
--- Figures (document 01): phase, blocks, N, edges wanted, edges laid; the last three are 0 in phase 0.
+-- Figures (document 01): phase, blocks, N, edges wanted, edges laid; the last three are 0 while blocks are taken.
 -- Assumes nothing.
 use mathlib.Core.Bool.{Bool, true, false}
 use mathlib.Core.List.{List}
@@ -16,7 +16,7 @@ use Rattle.state.specs.State.{State}
 use Rattle.state.specs.Checks.{stateVerdict}
 use Rattle.state.specs.Laid.{vertexCount}
 
--- the figures of a state: the Bool tells whether its phase is 0
+-- the figures of a state: the Bool tells whether blocks are still taken
 abbrev pub figuresOf : Bool → State → Figures
 figuresOf true s = record { phase = phaseTaking; blocks = blocks (s .journal); vertices = 0; wanted = 0; laid = 0 }
 figuresOf false s =

@@ -1,4 +1,4 @@
--- Laying out (document 01): D(k), N, the tests 9 to 12 in their order, and the degree of each vertex.
+-- Laying out (document 01): D(k), N, the tests 9 to 12 in their order, and the class of each vertex.
 -- Assumes nothing.
 use Prim.Native.Nat.{ℕ, _/_}
 use lib.Dec.{eqb, leb}

@@ -18,16 +18,16 @@ use Rattle.state.specs.State.{State}
 abbrev pub lengthsOk : State → Bool
 lengthsOk s = eqb (length (s .journal)) journalSize && eqb (length (s .adjacency)) adjacencySize
 
--- in phase 1: the summed table passes the tests 9 to 12, and the matrix is one of its partial graphs
+-- laid out: the summed table passes the tests 9 to 12, and the matrix is one of its partial graphs
 abbrev pub laidOk : DegreeTable → List ℕ → Bool
 laidOk t g = passes (t .cells) && leb (vertices t) mostVertices && adjacencyOk (vertices t) (vertexClass t) (t .cells) g
 
--- The journal is as laid down; in phase 0 the matrix is all zero, in phase 1 it is as above.
+-- The journal is as laid down; while blocks are taken the matrix is all zero, laid out it is as above.
 abbrev pub valid : State → Bool
 valid s =
     journalOk (s .journal) && cond (eqb (phase (s .journal)) phaseTaking) (allZero (s .adjacency)) (laidOk (tableOf (s .journal)) (s .adjacency))
 
--- a "laid bench": valid, in phase 1
+-- a "laid bench": valid, and laid out
 pub record ValidLaid (s : State) : Type 0 where
   pub lengths : lengthsOk s ≡ true
   pub is-valid : valid s ≡ true

@@ -1,4 +1,4 @@
-// The joint degree matrix as an array: one number for each pair of degrees, in either order. While blocks are added, the isolated vertices stand in
+// The joint degree matrix as an array: one number for each pair of classes, in either order. While blocks are added, the isolated vertices stand in
 // the place of (0, 0).
 ghost use mathlib.Core.Path.{_≡_};
 ghost use mathlib.Core.Bool.{true};

@@ -7,7 +7,7 @@ use borrow.Author.Tests.{not-true, not-false}
 use Rattle.answer.specs.Refusals.{refuse}
 use Rattle.answer.specs.declared.Cause.the-variants.{CellNotShort}
 use Rattle.answer.specs.declared.AddAnswer.the-variants.{Added, Refused}
-use Rattle.add_edge.proofs.Unlinked.{starts-few, first-class, second-class, cell-block, short-read, join-ready, join-read, switches-read}
+use Rattle.add_edge.proofs.Unlinked.{starts-few, ends, first-class, second-class, cell-block, short-read, join-ready, join-read, switches-read}
 use Rattle.add_edge.proofs.add_unlinked.Statement.{statement}
 use Rattle.add_edge.proofs.add_unlinked.Tie as tie
 
@@ -22,7 +22,7 @@ add-unlinked-spec =
     let x = y .before .before in
     let t = x .before .before in
     let s = t .before .before in
-    cell-block (s .args .cells .now) (s .pre .0) (s .pre .2) (t .starts .ensures) (x .end-at .ensures) (y .end-at2 .ensures))  -- is-short-requires
+    cell-block (ends (s .args .cells .now) (s .pre .0) (s .pre .2) (t .starts .ensures) (x .end-at .ensures) (y .end-at2 .ensures)))  -- is-short-requires
     (λ c κs. tt)  -- full-cell-requires
     (λ c. search needs)  -- same-length
     (λ c.
@@ -32,16 +32,9 @@ add-unlinked-spec =
     let x = y .before .before in
     let t = x .before .before in
     let s = t .before .before in
-    let cells = s .args .cells .now in
-    let u = s .pre .0 in
-    let ed = s .pre .2 in
-    let es = t .starts .ensures in
-    let ex = x .end-at .ensures in
-    let ey = y .end-at2 .ensures in
-    rw (short-read cells u ed es ex ey (h .is-short .ensures) ∙ not-true _ (i .if1 .taken)) (
-      ap Refused
-          (c .full-cell .ensures
-          ∙ ap₂ (λ (k l : ℕ). refuse CellNotShort (min k l) (max k l)) (first-class cells u ed es ex ey) (second-class cells u ed es ex ey)),
+    let e = ends (s .args .cells .now) (s .pre .0) (s .pre .2) (t .starts .ensures) (x .end-at .ensures) (y .end-at2 .ensures) in
+    rw (short-read e (h .is-short .ensures) ∙ not-true _ (i .if1 .taken)) (
+      ap Refused (c .full-cell .ensures ∙ ap₂ (λ (k l : ℕ). refuse CellNotShort (min k l) (max k l)) (first-class e) (second-class e)),
       refl,
     ))  -- returns
     (λ c κs.
@@ -51,13 +44,8 @@ add-unlinked-spec =
     let x = y .before .before in
     let t = x .before .before in
     let s = t .before .before in
-    let cells = s .args .cells .now in
-    let u = s .pre .0 in
-    let ed = s .pre .2 in
-    let es = t .starts .ensures in
-    let ex = x .end-at .ensures in
-    let ey = y .end-at2 .ensures in
-    join-ready cells u ed es ex ey (s .pre .3) (short-read cells u ed es ex ey (h .is-short .ensures) ∙ not-false _ (i .if1 .left)))  -- join-requires
+    let e = ends (s .args .cells .now) (s .pre .0) (s .pre .2) (t .starts .ensures) (x .end-at .ensures) (y .end-at2 .ensures) in
+    join-ready e (s .pre .3) (short-read e (h .is-short .ensures) ∙ not-false _ (i .if1 .left)))  -- join-requires
     (λ c κs. tt)  -- both-reliefs-requires
     (λ c. search needs)  -- same-length-2
     (λ c.
@@ -68,13 +56,8 @@ add-unlinked-spec =
     let x = y .before .before in
     let t = x .before .before in
     let s = t .before .before in
-    let cells = s .args .cells .now in
-    let u = s .pre .0 in
-    let ed = s .pre .2 in
-    let es = t .starts .ensures in
-    let ex = x .end-at .ensures in
-    let ey = y .end-at2 .ensures in
-    rw (short-read cells u ed es ex ey (h .is-short .ensures) ∙ not-false _ (i .if1 .left)) (
-      ap Added (c .both-reliefs .ensures ∙ j .join .ensures .0 .0 ∙ switches-read cells u ed es ex ey (s .pre .3)),
-      j .join .ensures .1 .0 ∙ join-read cells u ed es ex ey (s .pre .3),
+    let e = ends (s .args .cells .now) (s .pre .0) (s .pre .2) (t .starts .ensures) (x .end-at .ensures) (y .end-at2 .ensures) in
+    rw (short-read e (h .is-short .ensures) ∙ not-false _ (i .if1 .left)) (
+      ap Added (c .both-reliefs .ensures ∙ j .join .ensures .0 .0 ∙ switches-read e (s .pre .3)),
+      j .join .ensures .1 .0 ∙ join-read e (s .pre .3),
     )))  -- returns-2

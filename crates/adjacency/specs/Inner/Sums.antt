@@ -9,7 +9,7 @@ use Rattle.graph.specs.Graph.{Graph}
 use Rattle.graph.specs.Tests.{mostClasses}
 use Rattle.adjacency.specs.Adjacency.{side}
 
--- one sum for each degree and each vertex
+-- one sum for each class and each vertex
 abbrev pub sumsSize : ℕ
 sumsSize = mostClasses * side
 

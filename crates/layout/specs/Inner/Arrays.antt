@@ -15,15 +15,15 @@ use Rattle.graph.specs.Tests.{mostClasses, count, classCount, vertices, vertexC
 use Rattle.table.specs.Inner.Cells.{matrixOf, cellSumMost}
 use Rattle.layout.specs.Layout.{mostVertices}
 
--- how many vertices each degree has
+-- how many vertices each class has
 abbrev pub countsOf : DegreeTable → List ℕ
 countsOf t = fillTo mostClasses (classCount t) (replicate mostClasses 0)
 
--- the degrees of the N vertices, in an array of 200 with zeros behind them
+-- the classes of the N vertices, in an array of 200 with zeros behind them
 abbrev pub classesOf : DegreeTable → List ℕ
 classesOf t = fillTo (vertices t) (vertexClass t) (replicate mostVertices 0)
 
--- how many vertices degree k has, as the array of counts says
+-- how many vertices class k has, as the array of counts says
 abbrev pub countIn : List ℕ → ℕ → ℕ
 countIn d k = getD d k 0
 

@@ -1,4 +1,4 @@
--- A joint degree matrix as the code keeps it: one number for each pair of degrees, in either order, in an array of 41 × 41.
+-- A joint degree matrix as the code keeps it: one number for each pair of classes, in either order, in one array.
 -- Assumes nothing.
 use mathlib.Core.Bool.{_&&_, cond}
 use mathlib.Core.List.{List}
@@ -17,7 +17,7 @@ cellsSize = mostClasses * mostClasses
 abbrev pub place : ℕ → ℕ → ℕ
 place k l = min k l * mostClasses + max k l
 
--- the matrix that an array holds; cells of degree 41 and above are 0
+-- the matrix that an array holds; cells past the classes are 0
 abbrev pub matrixOf : List ℕ → ℕ → ℕ → ℕ
 matrixOf c k l = cond (ltb k mostClasses && ltb l mostClasses) (getD c (place k l) 0) 0
 
