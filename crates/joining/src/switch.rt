@@ -1,4 +1,4 @@
-// The neighbour switch, its two searches, and the edges that it moves. Beside the matrix `degrees` has the degrees that the vertices
+// The neighbour switch, its two searches, and the edges that it moves. Beside the matrix stand the degrees that the vertices
 // have so far.
 ghost use mathlib.Core.Path.{_≡_};
 ghost use mathlib.Core.Bool.{false};
