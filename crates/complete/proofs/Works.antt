@@ -136,7 +136,8 @@ module _ (n : ℕ) (cls : ℕ → ℕ) (T : ℕ → ℕ → ℕ) where
       let l = shortL n cls T g k in
       let h = short-cell g e in
       let c = chosen n cls T g (good .0) k l (h .0) (h .1) (h .2) in
-      go (nextV s) (nextW s) k l (c .row) (c .column) (c .above) (lowest-ge k mostClasses (isShort n cls T (edge g) k) (omega (arith, h .0))) (decLt (nextV s) (nextW s))
+      go (nextV s) (nextW s) k l (c .row) (c .column) (c .above) (lowest-ge k mostClasses (isShort n cls T (edge g) k) (omega (arith, h .0)))
+      (decLt (nextV s) (nextW s))
     where
       go : (v w k l : ℕ) → cls v ≡ k → cls w ≡ l → (k ≡ l → v < w) → k ≤ l → Dec (v < w) → v < w
       go v w k l ev ew above kl (yes p) = p

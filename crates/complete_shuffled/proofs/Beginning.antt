@@ -43,7 +43,8 @@ begin-lows g a =
           ));
     }
 
-module _ {n : ℕ} {cells starts g degrees : List ℕ} {room : ℕ} (classes : List ℕ) (p : Working n cells starts degrees room (fresh g)) (c : ClassArray n starts classes) where
+module _ {n : ℕ} {cells starts g degrees : List ℕ} {room : ℕ} (classes : List ℕ) (p : Working n cells starts degrees room (fresh g))
+    (c : ClassArray n starts classes) where
   pub begin-countable : CellsCountable n cells starts g
   begin-countable =
       record {

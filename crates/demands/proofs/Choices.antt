@@ -1,4 +1,5 @@
--- What holds of completing by every choice (crates/complete_shuffled/specs/Outcome.antt), whichever pairs it joins: the laws of completing by any choice of open pairs, at the two that there are.
+-- What holds of completing by every choice (crates/complete_shuffled/specs/Outcome.antt), whichever pairs it joins:
+-- the laws of completing by any choice of open pairs, at the two that there are.
 -- Assumes nothing.
 use mathlib.Core.Path.{_≡_, refl, sym, ap, subst, _∙_}
 use mathlib.Core.Bool.{true}

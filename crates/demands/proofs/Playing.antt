@@ -118,7 +118,8 @@ pub play-none : (g : List ℕ) → play [] g ≡ fits g
 play-none g = foldTo-none (playRecord []) (fits g)
 
 -- one record more is played after the others
-pub play-more : (r : List ℕ) (m v w : ℕ) (s : Switches) (g : List ℕ) → length r ≡ joinRecordSize * m → play (r ++ joinRecord v w s) g ≡ playJoin v w s (play r g)
+pub play-more : (r : List ℕ) (m v w : ℕ) (s : Switches) (g : List ℕ) → length r ≡ joinRecordSize * m
+    → play (r ++ joinRecord v w s) g ≡ playJoin v w s (play r g)
 play-more r m v w s g e =
     ap (λ (k : ℕ). foldTo k (playRecord l) (fits g)) count
     ∙ foldTo-more (playRecord l) (fits g) m

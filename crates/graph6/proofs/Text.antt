@@ -277,7 +277,8 @@ module _ (n : ℕ) (E : Graph) (few : n ≤ mostVertices) (simple : Simple n E) 
       padding : (i : ℕ) → getD (triangle n E) (columnStart (sizeOf (graph6Text n E)) + i) 0 ≡ 0
       padding i = triangle-past E n _ (omega (arith, ap columnStart text-size))
 
-      body : (i : ℕ) → i < length (graph6Text n E) → Dec (i < sizeLength (graph6Text n E)) → (offset ≤ getD (graph6Text n E) i 0) × (getD (graph6Text n E) i 0 ≤ mostByte)
+      body : (i : ℕ) → i < length (graph6Text n E) → Dec (i < sizeLength (graph6Text n E))
+          → (offset ≤ getD (graph6Text n E) i 0) × (getD (graph6Text n E) i 0 ≤ mostByte)
       body i l (yes h) = (sized .low i h, sized .high i h)
       body i l (no h) =
           let k = i - sizeLength (graph6Text n E) in

@@ -115,7 +115,8 @@ module _ {n : ℕ} {cls : ℕ → ℕ} {g : List ℕ} {a o : ℕ} (j : Joinable 
         j .target .classed v l,
       )
 
-  pub linkable-b : Linkable (setEdge g a (transferAt n cls g a o) 0) (withoutEdge degrees a (transferAt n cls g a o)) (substituteAt n cls g a o) (transferAt n cls g a o)
+  pub linkable-b : Linkable (setEdge g a (transferAt n cls g a o) 0) (withoutEdge degrees a (transferAt n cls g a o)) (substituteAt n cls g a o)
+      (transferAt n cls g a o)
   linkable-b = (
     set-length g a (t j) 0 ∙ j .sized,
     omega (arith, j .few, chosen j full .b-vertex),

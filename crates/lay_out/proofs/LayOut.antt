@@ -106,7 +106,8 @@ module _ (s : State) where
   laid-out-lays : (n : ℕ) → layOutAnswer s ≡ LaidOut n → laysOut (s .journal) ≡ true
   laid-out-lays n e =
       let f = lay-out-facts n e in
-      and-both (eqb (phase (s .journal)) phaseTaking && passes (jdmOf (s .journal))) _ (and-both _ _ (eq-eqb (phase (s .journal)) phaseTaking (f .taking)) (f .passed))
+      and-both (eqb (phase (s .journal)) phaseTaking && passes (jdmOf (s .journal))) _
+      (and-both _ _ (eq-eqb (phase (s .journal)) phaseTaking (f .taking)) (f .passed))
       (le-leb (vertexCount s) mostVertices (f .small))
 
   -- On a valid state: laid out exactly where the table passes 9 to 12, and the journal then is in phase 1, else as it was.

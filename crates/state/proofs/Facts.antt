@@ -101,7 +101,8 @@ module _ (s : State) where
       }
 
   pub facts-valid-0 : phase (s .journal) ≡ phaseTaking → journalOk (s .journal) ≡ true → ((p : ℕ) → getD (s .adjacency) p 0 ≡ 0) → valid s ≡ true
-  facts-valid-0 e ok zeros = and-both (journalOk (s .journal)) _ ok (rw (eq-eqb (phase (s .journal)) phaseTaking e) (zeros-all-zero (s .adjacency) (λ p l. zeros p)))
+  facts-valid-0 e ok zeros =
+      and-both (journalOk (s .journal)) _ ok (rw (eq-eqb (phase (s .journal)) phaseTaking e) (zeros-all-zero (s .adjacency) (λ p l. zeros p)))
 
   pub facts-valid-1 : phase (s .journal) ≡ phaseLaid → journalOk (s .journal) ≡ true → passes (jdmOf (s .journal)) ≡ true → vertexCount s ≤ mostVertices
       → adjacencyOk (vertexCount s) (classAt s) (jdmOf (s .journal)) (s .adjacency) ≡ true → valid s ≡ true

@@ -200,7 +200,9 @@ module _ (s : State) (number : ℕ) (b : List ℕ) where
         is-valid = v;
         good = and-left (wellFormed b) (eqb number (blocks (s .journal))) y;
         next = eqb-true number (blocks (s .journal)) (and-right (wellFormed b) (eqb number (blocks (s .journal))) y);
-        taking = eqb-true (phase (s .journal)) phaseTaking (and-right (wellFormed b && eqb number (blocks (s .journal))) (eqb (phase (s .journal)) phaseTaking) x);
+        taking =
+            eqb-true (phase (s .journal)) phaseTaking
+            (and-right (wellFormed b && eqb number (blocks (s .journal))) (eqb (phase (s .journal)) phaseTaking) x);
         room =
             ltb-true (blocks (s .journal)) mostBlocks
             (and-right (wellFormed b && eqb number (blocks (s .journal)) && eqb (phase (s .journal)) phaseTaking) (ltb (blocks (s .journal)) mostBlocks) h);

@@ -42,7 +42,8 @@ adjacency-ok-spec =
     let s = m .before .before in (
       rw (
         z .is-zero-outside .ensures,
-        d .degrees-within .ensures ∙ degrees-bound (s .args .n) (s .pre .1) (s .args .adjacency .now) (h .count-degrees .ensures) (classIn (s .args .classes .now)),
+        d .degrees-within .ensures
+            ∙ degrees-bound (s .args .n) (s .pre .1) (s .args .adjacency .now) (h .count-degrees .ensures) (classIn (s .args .classes .now)),
         c .cells-within .ensures,
         sym (m .is-mirrored .ensures) ∙ not-false _ (i .if1 .left),
       ),

@@ -24,7 +24,8 @@ put-laid-text-spec =
     let s = l .before .before .before .before .before .before in
     let a = s .args in
     let e = l .complete-by .ensures in
-    let f = completed-laid (a .form) (a .choice) (stateOf (a .journal .now) (a .adjacency .now)) (a .n) _ (length-replicate {A = ℕ} joinRecordsMost 0) _ _ (e .0) (e .1)
+    let f = completed-laid (a .form) (a .choice) (stateOf (a .journal .now) (a .adjacency .now)) (a .n) _
+    (length-replicate {A = ℕ} joinRecordsMost 0) _ _ (e .0) (e .1)
     _ _ _ (k .answer2 .given .1) in
     (f, s .pre .0, s .pre .1))  -- put-state-text-requires
     (λ c. search needs)  -- same-length
@@ -36,7 +37,8 @@ put-laid-text-spec =
     let a = l .before .before .before .before .before .before .args in
     let e = l .complete-by .ensures in
     says-line _ _ (a .output .now) _ _
-    (said-refused (a .form) (a .choice) (stateOf (a .journal .now) (a .adjacency .now)) (a .n) _ (length-replicate {A = ℕ} joinRecordsMost 0) _ _ (e .0) (e .1) _ (k .answer .given .1))
+    (said-refused (a .form) (a .choice) (stateOf (a .journal .now) (a .adjacency .now)) (a .n) _
+    (length-replicate {A = ℕ} joinRecordsMost 0) _ _ (e .0) (e .1) _ (k .answer .given .1))
     (p .put-refused .ensures))  -- returns
     (λ c. search needs)  -- same-length-3
     (λ c. search needs)  -- same-length-4
@@ -47,6 +49,7 @@ put-laid-text-spec =
     let a = l .before .before .before .before .before .before .args in
     let e = l .complete-by .ensures in
     says _ _ (a .output .now) _ _
-    (said-completed (a .form) (a .choice) (stateOf (a .journal .now) (a .adjacency .now)) (a .n) _ (length-replicate {A = ℕ} joinRecordsMost 0) _ _ (e .0) (e .1)
+    (said-completed (a .form) (a .choice) (stateOf (a .journal .now) (a .adjacency .now)) (a .n) _
+    (length-replicate {A = ℕ} joinRecordsMost 0) _ _ (e .0) (e .1)
     _ _ _ (k .answer2 .given .1))
     (p .put-state-text .ensures)))  -- returns-2

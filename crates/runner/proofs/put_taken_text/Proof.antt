@@ -18,8 +18,11 @@ put-taken-text-spec =
     let k = c .before .before .before .before in
     let l = k .before .before .before .before in
     let s = l .before .before .before .before .before .before in
-    let a = s .args in
-    (laid-n (a .form) (a .choice) (stateOf (a .journal .now) (a .adjacency .now)) _ _ (l .lay-out .ensures) _ (k .answer2 .given .1), s .pre))  -- put-laid-text-requires
+    let a = s .args in (
+      laid-n (a .form) (a .choice) (stateOf (a .journal .now) (a .adjacency .now)) _ _ (l .lay-out .ensures) _
+          (k .answer2 .given .1),
+      s .pre,
+    ))  -- put-laid-text-requires
     (λ c. search needs)  -- same-length
     (λ c. search needs)  -- same-length-2
     (λ c. search needs)  -- same-length-3

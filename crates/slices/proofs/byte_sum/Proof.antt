@@ -26,7 +26,13 @@ byte-sum-spec =
     let l = t .before in
     let s = l .before .before in
     let f : ℕ → ℕ = λ i. getD (s .args .s .now) i 0 in
-    omega (arith, l .loop .inv .1, c .byte16 .ensures .0, sumTo-more f (l .loop .i), sumTo-le (l .loop .i + 1) (length (s .args .s .now)) f (omega arith)))  -- add-sum
+    omega (
+      arith,
+      l .loop .inv .1,
+      c .byte16 .ensures .0,
+      sumTo-more f (l .loop .i),
+      sumTo-le (l .loop .i + 1) (length (s .args .s .now)) f (omega arith),
+    ))  -- add-sum
     (λ c. omega arith)  -- add-i
     (λ c. omega arith)  -- loop-less
     (λ c. simp sumTo-more (omega arith))  -- loop-again

@@ -46,8 +46,13 @@ open-spec =
     let said = t .sum-table .ensures .0 in
     let go = layout-go (tableOf j) (ap layoutVerdict (sym said) ∙ sym (l .layout-check .ensures) ∙ m .enum-told2 .given .1) in
     let en = v .vertex-count .ensures ∙ ap vertices said in
-    let ec = k .classes .ensures ∙ ap classesOf said in
-    (s .pre .adjacency-length, rw en (go .1), class-below (tableOf j) (go .1) en ec, class-rises (tableOf j) (go .1) en ec, s .pre .no-degrees))  -- adjacency-ok-requires
+    let ec = k .classes .ensures ∙ ap classesOf said in (
+      s .pre .adjacency-length,
+      rw en (go .1),
+      class-below (tableOf j) (go .1) en ec,
+      class-rises (tableOf j) (go .1) en ec,
+      s .pre .no-degrees,
+    ))  -- adjacency-ok-requires
     (λ c.
     let l = c .before .before in
     let t = l .before .before .before in

@@ -40,7 +40,8 @@ degrees-of-spec =
     let i = l .loop .i in (
       omega arith,
       rw (c .count-edge .ensures, length-countEdge) (l .loop .inv .1),
-      rw (c .count-edge .ensures) (degrees-more e (s .args .total) i (l .loop .degrees) (s .pre .0) (good e (s .args .total) (s .pre .1) i (omega arith)) (l .loop .inv .1) (l .loop .inv .2)),
+      rw (c .count-edge .ensures) (degrees-more e (s .args .total) i (l .loop .degrees) (s .pre .0) (good e (s .args .total) (s .pre .1) i (omega arith))
+          (l .loop .inv .1) (l .loop .inv .2)),
     ))  -- loop-again
     (λ c.
     let l = c .before in
