@@ -24,8 +24,8 @@ use Rattle.adjacency.proofs.Facts.{ZeroOutside}
 use Rattle.state.specs.State.{State, withMatrix}
 use Rattle.state.specs.Checks.{phaseVerdict, pairVerdict}
 use Rattle.state.specs.Valid.{ValidLaid}
-use Rattle.state.specs.Laid.{vertexCount, classAt, cellAt, shortAt}
-use Rattle.state.proofs.Facts.{edgeTotal, StateFacts, Laid, valid-facts, lengths-both}
+use Rattle.state.specs.Laid.{vertexCount, classAt, shortAt}
+use Rattle.state.proofs.Facts.{edgeTotal, cellAt, StateFacts, Laid, valid-facts, lengths-both}
 use Rattle.state.proofs.Checks.{laid-passed, laid-goes, pair-passed, pair-goes}
 use Rattle.state.proofs.Graph.{laid-valid}
 use Rattle.joining.specs.Join.{joinBytes, joinSwitches}

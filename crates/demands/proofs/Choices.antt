@@ -17,7 +17,8 @@ use Rattle.graph.proofs.Numbering.{classOf-rises}
 use Rattle.journal.specs.Journal.{jdmOf, tableOf}
 use Rattle.state.specs.State.{State, withMatrix}
 use Rattle.state.specs.Valid.{ValidLaid}
-use Rattle.state.specs.Laid.{vertexCount, classAt, cellAt}
+use Rattle.state.specs.Laid.{vertexCount, classAt}
+use Rattle.state.proofs.Facts.{cellAt}
 use Rattle.join_records.specs.Record.{joinRecordSize}
 use Rattle.complete.specs.Complete.{Ran, fresh, mostEdges, missing, afterRan}
 use Rattle.complete.proofs.Works.{Good, Chooser, short, lowest-pair, next-rising}

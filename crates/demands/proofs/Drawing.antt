@@ -20,8 +20,7 @@ use Rattle.adjacency.specs.Adjacency.{edge, setEdge}
 use Rattle.adjacency.proofs.Set.{set-adds, set-removes}
 use Rattle.state.specs.State.{State, stateOf, emptyMatrix}
 use Rattle.state.specs.Valid.{ValidLaid}
-use Rattle.state.specs.Laid.{cellAt}
-use Rattle.state.proofs.Facts.{StateFacts, Laid, valid-facts}
+use Rattle.state.proofs.Facts.{cellAt, StateFacts, Laid, valid-facts}
 use Rattle.joining.specs.Join.{joinBytes, joinSwitches}
 use Rattle.joining.proofs.Alone.{room-none, none-alone}
 use Rattle.add_edge.specs.Add.{addAnswer, afterAdd, addAfter}

@@ -18,8 +18,8 @@ use Rattle.journal.specs.Journal.{jdmOf, isolatedOf, tableOf}
 use Rattle.journal.proofs.Table.{jdm-table}
 use Rattle.adjacency.specs.Adjacency.{edge}
 use Rattle.state.specs.State.{State}
-use Rattle.state.specs.Laid.{vertexCount, classAt, cellAt}
-use Rattle.state.proofs.Facts.{StateFacts, Laid, valid-facts}
+use Rattle.state.specs.Laid.{vertexCount, classAt}
+use Rattle.state.proofs.Facts.{cellAt, StateFacts, Laid, valid-facts}
 use Rattle.demands.specs.Isolated.{Alone, IsolatedAlone}
 
 -- class 0 comes first

@@ -15,7 +15,7 @@ use Rattle.graph.specs.Tests.{leastClass, mostClasses}
 use Rattle.journal.specs.Journal.{jdmOf, tableOf}
 use Rattle.state.specs.State.{State}
 use Rattle.state.specs.Valid.{ValidLaid}
-use Rattle.state.specs.Laid.{cellAt}
+use Rattle.state.proofs.Facts.{cellAt}
 use Rattle.join_records.specs.Record.{joinRecordSize}
 use Rattle.complete.specs.Complete.{Ran, fresh, missing, ranAnswer, afterRan, outputRan}
 use Rattle.complete_shuffled.specs.Choice.{nextX, stepsX}

@@ -8,7 +8,7 @@ use lib.Dec.{eqb, leb}
 use lib.ListN.{length, getD}
 use borrow.Author.Tests.{eqb-true, eq-eqb, leb-true, le-leb}
 use Rattle.finite.proofs.All.{and-left, and-right, and-both}
-use Rattle.graph.specs.Graph.{edges}
+use Rattle.graph.specs.Graph.{edges, jdm}
 use Rattle.graph.specs.Target.{Target, Partial}
 use Rattle.graph.specs.Tests.{mostClasses, passes, classDegree}
 use Rattle.graph.proofs.Passes.{passes-passed}
@@ -27,6 +27,10 @@ use Rattle.state.specs.Laid.{vertexCount, classAt}
 -- how many edges the matrix holds
 abbrev pub edgeTotal : State → ℕ
 edgeTotal s = edges (vertexCount s) (edge (s .adjacency))
+
+-- cell (k, l) of the edges so far, at the classes laid out
+abbrev pub cellAt : State → ℕ → ℕ → ℕ
+cellAt s = jdm (vertexCount s) (classAt s) (edge (s .adjacency))
 
 -- a state in phase 1
 pub record Laid (s : State) : Type 0 where
