@@ -20,7 +20,7 @@ use Rattle.graph.proofs.Ranges.{jdm-block}
 use Rattle.layout.specs.Inner.Arrays.{countIn, tableIn, Counts}
 use Rattle.layout.proofs.Counted.{counted, counted-total}
 use Rattle.adjacency.specs.Adjacency.{edge}
-use Rattle.classes.specs.Inner.Block.{startsOf, Numbered, classFrom, blockSum, triangleSum, BlockOf}
+use Rattle.classes.specs.Inner.Block.{startsOf, Numbered, classFrom, ClassRange, blockSum, triangleSum, BlockOf}
 
 module _ (counts : List ℕ) where
   pub start-at : (k : ℕ) → k ≤ mostClasses → getD (startsOf counts) k 0 ≡ sumTo k (countIn counts)
@@ -83,6 +83,16 @@ module _ {n : ℕ} {starts : List ℕ} (m : Numbered n starts) where
       rw (m .started, start-at (m .counts) k (omega arith), start-at (m .counts) (k + 1) (omega arith))
       (classOf-range mostClasses (countIn (m .counts)) v k (omega (arith, m .all)) .0
       (sym (ap (λ (cls : ℕ → ℕ). cls v) (class-counted (m .counts))) ∙ sym (ap (λ (s : List ℕ). classFrom s v) (m .started)) ∙ e))
+
+  -- the vertices of class k
+  pub class-range : (k : ℕ) → k < mostClasses → ClassRange n (classFrom starts) k (getD starts k 0) (getD starts (k + 1) 0)
+  class-range k h =
+      record {
+        ordered = start-rises k (k + 1) (omega arith) (omega arith);
+        within = start-most (k + 1) (omega arith);
+        inside = λ v f t. class-inside k v h f t;
+        only = λ v vn e. class-only k v h vn e;
+      }
 
   -- classes rise with the vertices
   pub class-rises : (v w : ℕ) → v ≤ w → w < n → classFrom starts v < mostClasses → classFrom starts w < mostClasses → classFrom starts v ≤ classFrom starts w

@@ -18,13 +18,14 @@ use Rattle.finite.proofs.Sum.{sumTo-zero, sumTo-term}
 use Rattle.adjacency.specs.Adjacency.{edge}
 use Rattle.adjacency.specs.Inner.Degrees.{degreesOf}
 use Rattle.classes.specs.Inner.Block.{Numbered, classFrom, blockSum}
-use Rattle.classes.proofs.Blocks.{start-rises, start-most, class-inside, class-only, block-cell}
-use Rattle.complete.specs.Complete.{Ran}
-use Rattle.complete.specs.Inner.Cellwise.{cellStep, cellMissing, fillCell, fillRow}
-use Rattle.complete.specs.Inner.Cursor.{ClassRange}
-use Rattle.complete.specs.Inner.Search.{Ranged}
-use Rattle.complete.specs.Inner.Work.{ValidRun, Fillable, Working, Countable, CellOf, cellIn}
-use Rattle.complete.proofs.ValidRuns.{row-valid, rows-valid}
+use Rattle.classes.proofs.Blocks.{class-only, class-range, block-cell}
+use Rattle.completion.specs.Complete.{Ran}
+use Rattle.completion.specs.Inner.Cellwise.{cellStep, cellMissing, fillCell, fillRow}
+use Rattle.cell_filling.specs.Inner.Search.{Ranged}
+use Rattle.progress.specs.Inner.Work.{ValidRun, Working}
+use Rattle.cell_filling.specs.Inner.Work.{Fillable, CellOf, cellIn}
+use Rattle.complete.specs.Inner.Work.{Countable}
+use Rattle.progress.proofs.ValidRuns.{row-valid, rows-valid}
 
 -- a cell that the table has nothing in misses nothing
 pub none-missing : (want have : ℕ) (t : Bool) → want ≡ 0 → 0 ≡ (want - have) / cond t 2 1
@@ -32,18 +33,8 @@ none-missing want have true e = omega arith
 none-missing want have false e = omega arith
 
 module _ (n : ℕ) (starts : List ℕ) (numbered : Numbered n starts) where
-  -- the vertices of class k
-  range : (k : ℕ) → k < mostClasses → ClassRange n (classFrom starts) k (getD starts k 0) (getD starts (k + 1) 0)
-  range k h =
-      record {
-        ordered = start-rises numbered k (k + 1) (omega arith) (omega arith);
-        within = start-most numbered (k + 1) (omega arith);
-        inside = λ v f t. class-inside numbered k v h f t;
-        only = λ v vn e. class-only numbered k v h vn e;
-      }
-
   pub ranged : (k l : ℕ) → k < mostClasses → l < mostClasses → Ranged n (classFrom starts) (cellIn starts k l)
-  ranged k l kC lC = record { first = kC; second = lC; rows = range k kC; columns = range l lC }
+  ranged k l kC lC = record { first = kC; second = lC; rows = class-range numbered k kC; columns = class-range numbered l lC }
 
 -- a state of the work, and a cell of it
 module _ {n : ℕ} {cells starts degrees : List ℕ} {room : ℕ} {s : Ran} (p : Working n cells starts degrees room s)

@@ -1,14 +1,1 @@
-pub mod Chosen
-pub mod Full
-pub mod Cellwise
-pub mod Works
-pub mod Records
-pub mod Entry
-pub mod Output
-pub mod Cursor
-pub mod Search
-pub mod ValidRuns
-pub mod Step
-pub mod Joins
 pub mod Arranged
-pub mod Whole

@@ -1,3 +1,1 @@
-pub mod Choice
-pub mod Complete
 pub mod Inner

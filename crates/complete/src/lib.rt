@@ -7,22 +7,19 @@ ghost use Rattle.journal.specs.Journal.{phaseLaid};
 ghost use Rattle.state.specs.State.{stateOf};
 ghost use Rattle.state.specs.Checks.{phaseVerdict};
 ghost use Rattle.state.specs.Inner.Opened.{laidFront, Opened};
-ghost use Rattle.complete.specs.Complete.{completeAnswer, completeAfter, completeOutput};
+ghost use Rattle.completion.specs.Complete.{completeAnswer, completeAfter, completeOutput};
 
-pub mod cell;
 mod fill;
-pub mod pair;
-pub mod start;
 
-use crate::cell::Totals;
 use crate::fill::fill_all;
-use crate::start::begin;
 use answer::Cause;
 use answer::CompleteAnswer;
 use answer::Verdict;
 use answer::refuse;
 use join_records::JOIN_RECORD_BYTES;
 use layout::MAX_VERTICES;
+use progress::Totals;
+use progress::begin;
 use state::laid_check;
 use state::open;
 use table::cells::CELLS;

@@ -13,8 +13,8 @@ use Rattle.classes.proofs.Blocks.{start-rises, start-most, class-only}
 use Rattle.open_pairs.specs.Inner.Rows.{rowsInSum, sumCount, Summed}
 use Rattle.open_pairs.specs.Inner.Refresh.{refreshRange, Classed}
 use Rattle.open_pairs.proofs.Refreshed.{range-else, range-right}
-use Rattle.complete.specs.Complete.{fresh}
-use Rattle.complete.specs.Inner.Work.{Arranged, Working}
+use Rattle.completion.specs.Complete.{fresh}
+use Rattle.progress.specs.Inner.Work.{Arranged, Working}
 use Rattle.complete_shuffled.specs.Inner.Track.{CellsCountable, Counted, ClassArray, Lows, Shuffling}
 
 -- no row has an open pair yet

@@ -21,7 +21,7 @@ use Rattle.classes.proofs.Blocks.{start-rises, start-most, class-below, class-i
 use Rattle.open_pairs.specs.Inner.Rows.{flagsSize, Scannable}
 use Rattle.open_pairs.specs.Inner.Refresh.{markFull}
 use Rattle.open_pairs.proofs.Marked.{marked-length, marked-inside, marked-outside, marked-binary}
-use Rattle.complete.specs.Inner.Work.{Arranged}
+use Rattle.progress.specs.Inner.Work.{Arranged}
 use Rattle.complete_shuffled.specs.Inner.Track.{cellPlace, cellHas, CellsCountable, Counted}
 
 -- a cell on or above the diagonal stands at its place

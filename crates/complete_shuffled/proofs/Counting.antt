@@ -12,12 +12,12 @@ use Rattle.graph.specs.Tests.{mostClasses}
 use Rattle.graph.proofs.Completion.{cells-twice}
 use Rattle.layout.specs.Layout.{wanted}
 use Rattle.adjacency.specs.Adjacency.{edge}
-use Rattle.complete.specs.Complete.{Ran, mostEdges, isIncomplete}
-use Rattle.complete.specs.Inner.Cellwise.{Filling}
-use Rattle.complete.specs.Inner.Work.{ran}
-use Rattle.complete.proofs.Cellwise.{edges-within}
-use Rattle.complete.proofs.Chosen.{Stepped, opened}
-use Rattle.complete.proofs.Works.{stops}
+use Rattle.completion.specs.Complete.{Ran, mostEdges, isIncomplete}
+use Rattle.completion.specs.Inner.Cellwise.{Filling}
+use Rattle.progress.specs.Inner.Work.{ran}
+use Rattle.completion.proofs.Cellwise.{edges-within}
+use Rattle.completion.proofs.Chosen.{Stepped, opened}
+use Rattle.completion.proofs.Works.{stops}
 use Rattle.complete_shuffled.specs.Choice.{nextX, pairV, pairW, position}
 use Rattle.complete_shuffled.specs.Shuffle.{Shuffled, nextShuffled, incompleteShuffled, runShuffled}
 use Rattle.complete_shuffled.proofs.Picked.{picked, position-below, passes-open}

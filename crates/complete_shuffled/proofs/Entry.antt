@@ -20,10 +20,10 @@ use Rattle.state.specs.Inner.Opened.{Opened}
 use Rattle.classes.specs.Inner.Block.{startsOf, classFrom}
 use Rattle.classes.proofs.Blocks.{table-classes}
 use Rattle.join_records.specs.Record.{joinRecordSize}
-use Rattle.complete.specs.Complete.{fresh, mostEdges, missing}
-use Rattle.complete.specs.Inner.Work.{Working, Started, WroteRecords}
-use Rattle.complete.specs.declared.start.Start.{Start}
-use Rattle.complete.proofs.Whole.{vertices-few, wanted-enough, missing-is, lacks-missing, lacks-few, working-start, joins-few, work-done}
+use Rattle.completion.specs.Complete.{fresh, mostEdges, missing}
+use Rattle.progress.specs.Inner.Work.{Working, Started, WroteRecords}
+use Rattle.progress.specs.declared.Start.{Start}
+use Rattle.progress.proofs.Whole.{vertices-few, wanted-enough, missing-is, lacks-missing, lacks-few, working-start, joins-few, work-done}
 use Rattle.complete_shuffled.specs.Shuffle.{Shuffled, runShuffled, shuffled, withX, shuffleAnswer, shuffleAfter, shuffleOutput}
 use Rattle.complete_shuffled.specs.Inner.Track.{ClassArray, Lacks, begins}
 use Rattle.complete_shuffled.proofs.Works.{shuffled-works}

@@ -31,8 +31,8 @@ use Rattle.open_pairs.specs.Inner.Rows.{isFree, freeTo, Scannable, Summed}
 use Rattle.open_pairs.specs.Inner.Refresh.{refreshRow, refreshRange, markFull}
 use Rattle.open_pairs.proofs.Marked.{marked-length, marked-inside, marked-outside, marked-binary}
 use Rattle.open_pairs.proofs.Refreshed.{Right, row-else, range-else, switches-else, range-length, row-right, range-right, switches-right}
-use Rattle.complete.specs.Inner.Cellwise.{Filling}
-use Rattle.complete.proofs.Chosen.{Stepped, opened}
+use Rattle.completion.specs.Inner.Cellwise.{Filling}
+use Rattle.completion.proofs.Chosen.{Stepped, opened}
 use Rattle.complete_shuffled.specs.Inner.Track.{cellPlace, cellHas, Counted, Tracked, hasNow, haveAfter, isFullNow, flagsAfter, pairsAfter}
 
 -- a row whose bytes and flags above v are the same has as many free columns

@@ -20,10 +20,10 @@ use Rattle.joining.specs.Inner.Work.{Joinable}
 use Rattle.joining.proofs.Untouched.{switches-below}
 use Rattle.open_pairs.specs.Inner.Rows.{Scannable, Summed}
 use Rattle.open_pairs.specs.Inner.Refresh.{Classed, Within}
-use Rattle.complete.specs.Complete.{Ran, joined}
-use Rattle.complete.specs.Inner.Work.{ran, withJoin, Recordable}
-use Rattle.complete.proofs.ValidRuns.{joined-valid, joined-room, join-recordable}
-use Rattle.complete.proofs.Output.{joined-ran}
+use Rattle.completion.specs.Complete.{Ran, joined}
+use Rattle.progress.specs.Inner.Work.{ran, withJoin, Recordable}
+use Rattle.progress.proofs.ValidRuns.{joined-valid, joined-room, join-recordable}
+use Rattle.progress.proofs.Output.{joined-ran}
 use Rattle.complete_shuffled.specs.Choice.{nextX, pairV, pairW, position, openCount}
 use Rattle.complete_shuffled.specs.Shuffle.{Shuffled, nextShuffled, incompleteShuffled}
 use Rattle.complete_shuffled.specs.Inner.Track.{Tracked, Lows, hasNow, haveAfter, isFullNow, flagsAfter, pairsAfter, Shuffling, shuffledAt}

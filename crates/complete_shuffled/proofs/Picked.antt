@@ -21,9 +21,9 @@ use Rattle.graph.specs.Tests.{mostClasses, classDegree}
 use Rattle.graph.proofs.Necessary.{necessary-always}
 use Rattle.graph.proofs.OpenPair.{short-has-open-pair}
 use Rattle.adjacency.specs.Adjacency.{edge}
-use Rattle.complete.specs.Choice.{shortK, shortL}
-use Rattle.complete.specs.Inner.Cellwise.{Filling}
-use Rattle.complete.proofs.Works.{short-cell}
+use Rattle.completion.specs.Choice.{shortK, shortL}
+use Rattle.completion.specs.Inner.Cellwise.{Filling}
+use Rattle.completion.proofs.Works.{short-cell}
 use Rattle.complete_shuffled.specs.Choice.{isOpen, openInRow, openBefore, openCount, standsAt, pairW, pairV, position}
 
 module _ (n : ℕ) (cls : ℕ → ℕ) (T : ℕ → ℕ → ℕ) (g : List ℕ) where

@@ -17,7 +17,7 @@ use Rattle.adjacency.specs.Adjacency.{side, edge}
 use Rattle.classes.specs.Inner.Block.{classFrom}
 use Rattle.classes.proofs.Blocks.{class-rises}
 use Rattle.open_pairs.specs.Inner.Rows.{isFree, freeTo, openTo}
-use Rattle.complete.specs.Inner.Cellwise.{Filling}
+use Rattle.completion.specs.Inner.Cellwise.{Filling}
 use Rattle.complete_shuffled.specs.Choice.{isOpen, openInRow, openBefore, openCount, pairV, pairW}
 use Rattle.complete_shuffled.specs.Inner.Track.{cellPlace, cellHas, Tracked}
 use Rattle.complete_shuffled.proofs.Picked.{pair-row, pair-column}

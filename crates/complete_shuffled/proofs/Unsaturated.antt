@@ -12,13 +12,12 @@ use Rattle.finite.proofs.Lowest.{lowest-le, lowest-ge}
 use Rattle.graph.specs.Tests.{mostClasses, classDegree}
 use Rattle.adjacency.specs.Adjacency.{side}
 use Rattle.classes.specs.Inner.Block.{classFrom}
-use Rattle.classes.proofs.Blocks.{starts-length, start-most}
+use Rattle.classes.proofs.Blocks.{starts-length, start-most, class-range}
 use Rattle.joining.specs.Join.{joinBytes}
 use Rattle.adjacency.specs.Inner.Degrees.{degreesOf}
 use Rattle.joining.specs.Inner.Work.{Joinable, Placed}
-use Rattle.complete.specs.Inner.Work.{Arranged, Saturated}
-use Rattle.complete.proofs.Arranged.{ranged}
-use Rattle.complete.proofs.Step.{low-saturated, saturated-stays}
+use Rattle.progress.specs.Inner.Work.{Arranged, Saturated}
+use Rattle.progress.proofs.Saturated.{low-saturated, saturated-stays}
 use Rattle.complete_shuffled.specs.Inner.Track.{Lows, lowAfter}
 
 module _ {n : ℕ} {starts g low : List ℕ} (arranged : Arranged n starts) (u : Lows n starts g low) where
@@ -48,7 +47,7 @@ module _ {n : ℕ} {starts g low : List ℕ} (arranged : Arranged n starts) (u :
     passed : Saturated n (classFrom starts) g k (lowAfter degrees starts low k)
     passed =
         low-saturated n (classFrom starts) g degrees k (getD starts k 0) (getD starts (k + 1) 0) (getD low k 0) (lowAfter degrees starts low k) (arranged .few)
-        (ranged n starts (arranged .numbered) k k kd kd .rows) eh (u .to k kd) (u .saturated k kd) refl
+        (class-range (arranged .numbered) k kd) eh (u .to k kd) (u .saturated k kd) refl
 
     -- an end of an edge to be, of class k
     pub end-placed : (v other low′ class : ℕ) → class ≡ k → k ≡ classFrom starts v → low′ ≡ lowAfter degrees starts low k

@@ -10,10 +10,10 @@ use Rattle.answer.specs.declared.Choice.the-variants.{Lowest, Picked as PickedF
 use Rattle.journal.specs.Journal.{jdmOf}
 use Rattle.state.specs.State.{State}
 use Rattle.state.specs.Laid.{vertexCount, classAt}
-use Rattle.complete.specs.Complete.{fresh, mostEdges}
-use Rattle.complete.proofs.Works.{Good, Chooser, completes-by}
-use Rattle.complete.proofs.Records.{records-length}
-use Rattle.complete.proofs.Entry.{CompleteWorks, good-start, completed-works, complete-works}
+use Rattle.completion.specs.Complete.{fresh, mostEdges}
+use Rattle.completion.proofs.Works.{Good, Chooser, completes-by}
+use Rattle.completion.proofs.Records.{records-length}
+use Rattle.completion.proofs.Entry.{CompleteWorks, good-start, completed-works, complete-works}
 use Rattle.complete_shuffled.specs.Choice.{nextX, stepsX, pairV, pairW, position}
 use Rattle.complete_shuffled.specs.Shuffle.{Shuffled, nextShuffled, incompleteShuffled, shuffled}
 use Rattle.complete_shuffled.specs.Outcome.{outcome}

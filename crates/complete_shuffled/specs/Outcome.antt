@@ -7,7 +7,7 @@ use Rattle.answer.specs.declared.CompleteAnswer.{CompleteAnswer}
 use Rattle.answer.specs.declared.Choice.{Choice}
 use Rattle.answer.specs.declared.Choice.the-variants.{Lowest, Picked}
 use Rattle.state.specs.State.{State}
-use Rattle.complete.specs.Complete.{Ran, completed, ranAnswer, ranAfter, ranOutput}
+use Rattle.completion.specs.Complete.{Ran, completed, ranAnswer, ranAfter, ranOutput}
 use Rattle.complete_shuffled.specs.Shuffle.{shuffled}
 
 abbrev pub outcome : Choice → State → Ran

@@ -13,7 +13,7 @@ use Rattle.answer.specs.declared.ShuffleAnswer.the-variants.{Completed, Refused
 use Rattle.journal.specs.Journal.{jdmOf}
 use Rattle.state.specs.State.{State}
 use Rattle.state.specs.Laid.{vertexCount, classAt}
-use Rattle.complete.specs.Complete.{Ran, fresh, joined, isIncomplete, mostEdges, ranAnswer, ranAfter, ranOutput}
+use Rattle.completion.specs.Complete.{Ran, fresh, joined, isIncomplete, mostEdges, ranAnswer, ranAfter, ranOutput}
 use Rattle.complete_shuffled.specs.Choice.{nextX, pairV, pairW, position}
 
 -- what is done so far, and x

@@ -7,7 +7,7 @@ ghost use Rattle.graph.specs.Tests.{mostClasses};
 ghost use Rattle.table.specs.Inner.Cells.{cellsSize, matrixOf};
 ghost use Rattle.open_pairs.specs.Inner.Rows.{flagsSize, Scannable, Summed};
 ghost use Rattle.open_pairs.specs.Inner.Refresh.{Classed, Within};
-ghost use Rattle.complete.specs.Inner.Work.{Arranged};
+ghost use Rattle.progress.specs.Inner.Work.{Arranged};
 ghost use Rattle.complete_shuffled.specs.Inner.Track.{cellPlace, CellsCountable, Counted, hasNow, haveAfter, isFullNow, flagsAfter, pairsAfter};
 use answer::switches::Switches;
 use classes::STARTS;

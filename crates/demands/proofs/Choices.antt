@@ -20,10 +20,10 @@ use Rattle.state.specs.Valid.{ValidLaid}
 use Rattle.state.specs.Laid.{vertexCount, classAt}
 use Rattle.state.proofs.Facts.{cellAt}
 use Rattle.join_records.specs.Record.{joinRecordSize}
-use Rattle.complete.specs.Complete.{Ran, fresh, mostEdges, missing, afterRan}
-use Rattle.complete.proofs.Works.{Good, Chooser, short, lowest-pair, next-rising}
-use Rattle.complete.proofs.Full.{full-run}
-use Rattle.complete.proofs.Entry.{facts-completed}
+use Rattle.completion.specs.Complete.{Ran, fresh, mostEdges, missing, afterRan}
+use Rattle.completion.proofs.Works.{Good, Chooser, short, lowest-pair, next-rising}
+use Rattle.completion.proofs.Full.{full-run}
+use Rattle.completion.proofs.Entry.{facts-completed}
 use Rattle.complete_shuffled.specs.Shuffle.{Shuffled}
 use Rattle.complete_shuffled.proofs.Works.{shuffled-pair, shuffled-rises, outcome-works}
 use Rattle.complete_shuffled.specs.Outcome.{outcome, choiceAnswer, choiceAfter}

@@ -54,8 +54,8 @@ use Rattle.graph6.specs.Format.{sizeOf, tooLarge, wellFormedText}
 use Rattle.graph6_write.specs.Write.{writeText, writeListed, writeAnswer, writeOutput}
 use Rattle.graph6_read.specs.Read.{readList, readAnswer, readOutput}
 use Rattle.join_records.specs.Record.{joinRecordSize}
-use Rattle.complete.specs.Complete.{Ran, completed, missing, ranLaid, ranAnswer, afterRan, ranAfter, outputRan, ranOutput}
-use Rattle.complete.proofs.Entry.{completed-facts}
+use Rattle.completion.specs.Complete.{Ran, completed, missing, ranLaid, ranAnswer, afterRan, ranAfter, outputRan, ranOutput}
+use Rattle.completion.proofs.Entry.{completed-facts}
 use Rattle.complete_shuffled.specs.Shuffle.{shuffled}
 use Rattle.complete_shuffled.proofs.Answers.{with-x-refused, with-x-completed}
 use Rattle.complete_shuffled.specs.Outcome.{outcome, choiceAnswer, choiceOutput}

@@ -41,8 +41,8 @@ use Rattle.lay_out.specs.LayOut.{layOutAfter}
 use Rattle.lay_out.proofs.LayOut.{lay-out-laid-out}
 use Rattle.add_edge.specs.Add.{addAnswer, afterAdd, addAfter}
 use Rattle.remove_edge.specs.Remove.{removeAnswer, afterRemove, removeAfter}
-use Rattle.complete.specs.Complete.{afterRan}
-use Rattle.complete.proofs.Entry.{completed-facts}
+use Rattle.completion.specs.Complete.{afterRan}
+use Rattle.completion.proofs.Entry.{completed-facts}
 use Rattle.complete_shuffled.specs.Outcome.{outcome, choiceAnswer, choiceAfter}
 use Rattle.complete_shuffled.proofs.Works.{outcome-works}
 use Rattle.demands.specs.Calls.{Change, take, layOut, add, remove, complete, Call, changes, reads, changed, afterAll}

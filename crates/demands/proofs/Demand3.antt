@@ -31,8 +31,8 @@ use Rattle.add_edge.specs.Add.{addAnswer, afterAdd, addAfter}
 use Rattle.add_edge.proofs.Add.{AddFacts, facts-added, AddWorks, add-works}
 use Rattle.joining.specs.Join.{joinBytes, joinSwitches}
 use Rattle.join_records.specs.Record.{joinRecordSize}
-use Rattle.complete.specs.Complete.{Ran, missing, afterRan}
-use Rattle.complete.proofs.Entry.{short-refused, CompleteWorks}
+use Rattle.completion.specs.Complete.{Ran, missing, afterRan}
+use Rattle.completion.proofs.Entry.{short-refused, CompleteWorks}
 use Rattle.complete_shuffled.specs.Outcome.{outcome, choiceAnswer}
 use Rattle.complete_shuffled.proofs.Works.{outcome-works}
 use Rattle.demands.specs.Calls.{Call, afterAll}

@@ -27,7 +27,7 @@ use Rattle.add_edge.specs.Add.{addAnswer, afterAdd, addAfter}
 use Rattle.add_edge.proofs.Add.{AddFacts, facts-added, add-works}
 use Rattle.remove_edge.specs.Remove.{removeAnswer, afterRemove, removeAfter}
 use Rattle.remove_edge.proofs.Remove.{RemoveFacts, facts-removed, remove-works}
-use Rattle.complete.specs.Complete.{Ran}
+use Rattle.completion.specs.Complete.{Ran}
 use Rattle.demands.specs.Calls.{afterAll}
 use Rattle.demands.specs.WithinReach.{Replica, Pair, named, Order, adds, removes, AddedAlone, AllAdded, AllRemoved, bytesOf, NothingToComplete, Drawn, Redrawn, Emptied}
 use Rattle.demands.proofs.Choices.{full-outcome, full-answer, after-choice}

@@ -26,10 +26,10 @@ use Rattle.joining.specs.Join.{joinSwitches}
 use Rattle.join_records.specs.Record.{joinRecordSize}
 use Rattle.add_edge.specs.Add.{addAnswer, afterAdd, addAfter}
 use Rattle.add_edge.proofs.Add.{AddFacts, added-facts}
-use Rattle.complete.specs.Complete.{Ran, fresh, mostEdges, missing, afterRan, outputRan}
-use Rattle.complete.proofs.Works.{Good, Chooser, short, next-good}
-use Rattle.complete.proofs.Records.{Recorded, next-recorded, Rising, records-rising}
-use Rattle.complete.proofs.Entry.{good-start, CompleteWorks}
+use Rattle.completion.specs.Complete.{Ran, fresh, mostEdges, missing, afterRan, outputRan}
+use Rattle.completion.proofs.Works.{Good, Chooser, short, next-good}
+use Rattle.completion.proofs.Records.{Recorded, next-recorded, Rising, records-rising}
+use Rattle.completion.proofs.Entry.{good-start, CompleteWorks}
 use Rattle.complete_shuffled.specs.Outcome.{outcome, choiceAnswer}
 use Rattle.complete_shuffled.proofs.Works.{outcome-works}
 use Rattle.demands.specs.Playback.{play, CompletingPlays, addedRecord, Playback}

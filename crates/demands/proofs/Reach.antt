@@ -39,8 +39,8 @@ use Rattle.add_edge.specs.Add.{addAnswer, afterAdd}
 use Rattle.remove_edge.specs.Remove.{removeAnswer, afterRemove}
 use Rattle.add_edge.proofs.Add.{added-facts, add-works}
 use Rattle.remove_edge.proofs.Remove.{removed-facts, remove-works}
-use Rattle.complete.specs.Complete.{Ran, ranAnswer, afterRan}
-use Rattle.complete.proofs.Entry.{completed-facts}
+use Rattle.completion.specs.Complete.{Ran, ranAnswer, afterRan}
+use Rattle.completion.proofs.Entry.{completed-facts}
 use Rattle.complete_shuffled.specs.Outcome.{outcome}
 use Rattle.complete_shuffled.proofs.Works.{outcome-works}
 use Rattle.demands.specs.Calls.{Change, take, layOut, add, remove, complete, Call, changes, reads, changed, after, afterAll}

@@ -17,7 +17,7 @@ use Rattle.state.specs.State.{State}
 use Rattle.state.specs.Valid.{ValidLaid}
 use Rattle.state.proofs.Facts.{cellAt}
 use Rattle.join_records.specs.Record.{joinRecordSize}
-use Rattle.complete.specs.Complete.{Ran, fresh, missing, ranAnswer, afterRan, outputRan}
+use Rattle.completion.specs.Complete.{Ran, fresh, missing, ranAnswer, afterRan, outputRan}
 use Rattle.complete_shuffled.specs.Choice.{nextX, stepsX}
 use Rattle.complete_shuffled.specs.Shuffle.{shuffled, withX, shuffleOutput}
 use Rattle.complete_shuffled.proofs.Answers.{with-x-refused}

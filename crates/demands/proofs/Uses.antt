@@ -28,7 +28,7 @@ use Rattle.joining.proofs.Alone.{none-alone}
 use Rattle.add_edge.specs.Add.{addAnswer, afterAdd, addAfter}
 use Rattle.add_edge.proofs.Add.{added-facts}
 use Rattle.join_records.specs.Record.{joinRecordSize}
-use Rattle.complete.proofs.Entry.{refused-not-completed}
+use Rattle.completion.proofs.Entry.{refused-not-completed}
 use Rattle.complete_shuffled.specs.Outcome.{choiceAnswer, choiceAfter}
 use Rattle.state.specs.State.{State, emptyMatrix, cleared}
 use Rattle.state.specs.Valid.{ValidLaid}

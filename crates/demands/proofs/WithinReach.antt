@@ -16,7 +16,7 @@ use Rattle.journal.specs.Journal.{phase, tableOf}
 use Rattle.adjacency.specs.Adjacency.{edge}
 use Rattle.state.specs.Laid.{vertexCount}
 use Rattle.join_records.specs.Record.{joinRecordSize}
-use Rattle.complete.proofs.Entry.{completed-facts}
+use Rattle.completion.proofs.Entry.{completed-facts}
 use Rattle.complete_shuffled.specs.Outcome.{outcome, choiceAnswer, choiceAfter}
 use Rattle.complete_shuffled.proofs.Works.{outcome-works}
 use Rattle.state.specs.State.{State, emptyMatrix, cleared}

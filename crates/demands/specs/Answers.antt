@@ -16,7 +16,7 @@ use Rattle.edge_list.specs.List.{listAnswer, listOutput}
 use Rattle.jdm_of_edges.specs.Survey.{surveyAnswer, surveyOutput}
 use Rattle.graph6_write.specs.Write.{writeAnswer, writeOutput}
 use Rattle.graph6_read.specs.Read.{readAnswer, readOutput}
-use Rattle.complete.specs.Complete.{completeAnswer, completeOutput}
+use Rattle.completion.specs.Complete.{completeAnswer, completeOutput}
 use Rattle.complete_shuffled.specs.Shuffle.{shuffleAnswer, shuffleOutput}
 use Rattle.demands.specs.Calls.{Change, take, layOut, add, remove, complete, Reading, readBack, list, figures, survey, writeGraph6, readGraph6, Call, changes, reads}
 

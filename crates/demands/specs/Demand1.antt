@@ -33,7 +33,7 @@ use Rattle.jdm_of_edges.specs.Survey.{surveyAnswer, surveyOutput}
 use Rattle.graph6_write.specs.Write.{writeAnswer, writeOutput}
 use Rattle.graph6_read.specs.Read.{readAnswer, readOutput}
 use Rattle.join_records.specs.Record.{joinRecordSize}
-use Rattle.complete.specs.Complete.{completeAnswer, completeAfter, completeOutput}
+use Rattle.completion.specs.Complete.{completeAnswer, completeAfter, completeOutput}
 use Rattle.demands.specs.Calls as Calls
 use Rattle.demands.specs.Calls.{Call, changes, reads, take, layOut, add, remove, complete, readBack, list, figures, survey, writeGraph6, readGraph6}
 use Rattle.complete_shuffled.specs.Shuffle.{shuffleAnswer, shuffleAfter, shuffleOutput}

@@ -14,7 +14,7 @@ use Rattle.journal.specs.Journal.{tableOf}
 use Rattle.state.specs.State.{State}
 use Rattle.state.specs.Valid.{ValidLaid}
 use Rattle.join_records.specs.Record.{joinRecordSize}
-use Rattle.complete.specs.Complete.{missing}
+use Rattle.completion.specs.Complete.{missing}
 use Rattle.complete_shuffled.specs.Choice.{stepsX}
 use Rattle.complete_shuffled.specs.Shuffle.{shuffleAnswer, shuffleAfter, shuffleOutput}
 use Rattle.complete_shuffled.specs.Outcome.{choiceAnswer}

@@ -45,8 +45,8 @@ use Rattle.edge_lists.proofs.Pairs.{cat-sized, one-sized}
 use Rattle.edge_list.specs.List.{listBytes}
 use Rattle.graph6.proofs.Text.{text-cong}
 use Rattle.graph6_write.specs.Write.{writeText}
-use Rattle.complete.specs.Complete.{Ran, afterRan}
-use Rattle.complete.proofs.Entry.{completed-facts, facts-completed, missing-most}
+use Rattle.completion.specs.Complete.{Ran, afterRan}
+use Rattle.completion.proofs.Entry.{completed-facts, facts-completed, missing-most}
 use Rattle.complete_shuffled.specs.Outcome.{outcome, choiceAnswer}
 use Rattle.complete_shuffled.proofs.Works.{outcome-works}
 use Rattle.text.specs.Text.{newline, refusedLine, headLine, edgeLines}

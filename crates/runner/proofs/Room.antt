@@ -37,10 +37,10 @@ use Rattle.edge_lists.proofs.Listed.{list-rising, list-passed}
 use Rattle.graph6.specs.Format.{bodyMost}
 use Rattle.graph6.proofs.Text.{text-most}
 use Rattle.graph6_write.specs.Write.{writeText}
-use Rattle.complete.specs.Complete.{mostEdges, afterRan}
-use Rattle.complete.proofs.Cellwise.{room}
-use Rattle.complete.proofs.Works.{few-edges}
-use Rattle.complete.proofs.Entry.{completed-facts}
+use Rattle.completion.specs.Complete.{mostEdges, afterRan}
+use Rattle.completion.proofs.Cellwise.{room}
+use Rattle.completion.proofs.Works.{few-edges}
+use Rattle.completion.proofs.Entry.{completed-facts}
 use Rattle.complete_shuffled.specs.Outcome.{outcome, choiceAnswer}
 use Rattle.complete_shuffled.proofs.Works.{outcome-works}
 use Rattle.text.specs.Text.{newline, edgeLines, headLine, headMost, edgeMost}

@@ -19,8 +19,8 @@ use Rattle.state.specs.State.{State, withJournal, withMatrix}
 use Rattle.state.specs.Valid.{ValidLaid}
 use Rattle.state.specs.Laid.{vertexCount}
 use Rattle.lay_out.specs.LayOut.{layOutAnswer, afterLayOut, layOutAfter}
-use Rattle.complete.specs.Complete.{afterRan}
-use Rattle.complete.proofs.Entry.{completed-facts}
+use Rattle.completion.specs.Complete.{afterRan}
+use Rattle.completion.proofs.Entry.{completed-facts}
 use Rattle.io.specs.Counts.{Counts}
 use Rattle.complete_shuffled.specs.Outcome.{outcome, choiceAnswer, choiceAfter}
 use Rattle.complete_shuffled.proofs.Works.{outcome-works}

@@ -22,7 +22,7 @@ use Rattle.state.specs.Laid.{vertexCount}
 use Rattle.take_block.specs.Take.{takeAnswer, afterTake}
 use Rattle.lay_out.specs.LayOut.{layOutAnswer, layOutAfter}
 use Rattle.join_records.specs.Record.{joinRecordSize}
-use Rattle.complete.specs.Complete.{mostEdges, ranAnswer, afterRan}
+use Rattle.completion.specs.Complete.{mostEdges, ranAnswer, afterRan}
 use Rattle.complete_shuffled.specs.Outcome.{outcome}
 use Rattle.edge_list.specs.List.{listBytes}
 use Rattle.graph6_write.specs.Write.{writeText}

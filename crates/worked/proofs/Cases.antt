@@ -48,7 +48,7 @@ use Rattle.edge_list.proofs.List.{zeros-none}
 use Rattle.jdm_of_edges.specs.Survey.{surveyAnswer, surveyOutput}
 use Rattle.graph6_write.specs.Write.{writeAnswer, writeOutput}
 use Rattle.graph6_read.specs.Read.{readAnswer, readOutput}
-use Rattle.complete.specs.Complete.{Ran, completed, ranLaid, afterRan, outputRan}
+use Rattle.completion.specs.Complete.{Ran, completed, ranLaid, afterRan, outputRan}
 use Rattle.complete_shuffled.specs.Shuffle.{shuffled, withX}
 use Rattle.complete_shuffled.specs.Outcome.{outcome}
 use Rattle.demands.specs.Calls.{Change, take, layOut, add, remove, complete, Reading, readBack, list, figures, survey, writeGraph6, readGraph6, Call, changes, reads, changed, after}

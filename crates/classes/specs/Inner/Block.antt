@@ -2,7 +2,7 @@
 -- Assumes nothing.
 use mathlib.Core.Path.{_≡_}
 use mathlib.Core.List.{List}
-use Prim.Native.Nat.{ℕ, _+_, _-_, _≤_}
+use Prim.Native.Nat.{ℕ, _+_, _-_, _≤_, _<_}
 use lib.Dec.{ltb}
 use lib.ListN.{getD, replicate}
 use Rattle.finite.specs.Range.{sumTo, lowest}
@@ -27,6 +27,13 @@ pub record Numbered (n : ℕ) (starts : List ℕ) : Type 0 where
 -- the class of vertex v: the first that starts no later and ends behind it
 abbrev pub classFrom : List ℕ → ℕ → ℕ
 classFrom starts v = lowest 0 mostClasses (λ k. ltb v (getD starts (k + 1) 0))
+
+-- the vertices of class k are from, .., to - 1, all below n
+pub record ClassRange (n : ℕ) (cls : ℕ → ℕ) (k from to : ℕ) : Type 0 where
+  pub ordered : from ≤ to
+  pub within : to ≤ n
+  pub inside : (v : ℕ) → from ≤ v → v < to → cls v ≡ k
+  pub only : (v : ℕ) → v < n → cls v ≡ k → (from ≤ v) × (v < to)
 
 -- how many ones stand in rows top, .., bottom - 1 and columns left, .., right - 1
 abbrev pub blockSum : Graph → ℕ → ℕ → ℕ → ℕ → ℕ

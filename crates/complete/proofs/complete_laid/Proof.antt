@@ -5,9 +5,9 @@ use native.Mathlib.Omega.{arith}
 use borrow.Author.Needs.{needs}
 use Rattle.answer.specs.declared.CompleteAnswer.the-variants.{Refused}
 use Rattle.state.specs.State.{stateOf}
-use Rattle.complete.specs.Complete.{completed}
-use Rattle.complete.proofs.Whole.{total-few, lacks-missing, lacks-few, working-start, working-end, joins-few, work-done}
-use Rattle.complete.proofs.Entry.{complete-works, short-refused}
+use Rattle.completion.specs.Complete.{completed}
+use Rattle.progress.proofs.Whole.{total-few, lacks-missing, lacks-few, working-start, working-end, joins-few, work-done}
+use Rattle.completion.proofs.Entry.{complete-works, short-refused}
 use Rattle.complete.proofs.complete_laid.Statement.{statement}
 use Rattle.state.proofs.Checks.{laid-passed}
 use Rattle.complete.proofs.complete_laid.Tie as tie

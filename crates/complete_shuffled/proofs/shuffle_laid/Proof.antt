@@ -5,8 +5,8 @@ use native.Mathlib.Omega.{arith}
 use borrow.Author.Needs.{needs}
 use Rattle.answer.specs.declared.ShuffleAnswer.the-variants.{Refused}
 use Rattle.state.specs.State.{stateOf}
-use Rattle.complete.proofs.Whole.{vertices-few, total-few, lacks-missing, lacks-few}
-use Rattle.complete.proofs.Entry.{short-refused}
+use Rattle.progress.proofs.Whole.{vertices-few, total-few, lacks-missing, lacks-few}
+use Rattle.completion.proofs.Entry.{short-refused}
 use Rattle.complete_shuffled.specs.Shuffle.{shuffled}
 use Rattle.complete_shuffled.proofs.Entry.{begin-working, begin-classes, begin-lacks, end-few, end-done}
 use Rattle.complete_shuffled.proofs.shuffle_laid.Statement.{statement}

@@ -18,8 +18,8 @@ use Rattle.classes.specs.Inner.Block.{classFrom}
 use Rattle.adjacency.specs.Inner.Degrees.{degreesOf}
 use Rattle.open_pairs.specs.Inner.Rows.{freeTo, Scannable, Summed}
 use Rattle.open_pairs.specs.Inner.Refresh.{refreshRow, refreshRange, refreshSwitches, markFull}
-use Rattle.complete.specs.Complete.{Ran, fresh, mostEdges}
-use Rattle.complete.specs.Inner.Work.{Arranged, Saturated, ValidRun, ran}
+use Rattle.completion.specs.Complete.{Ran, fresh, mostEdges}
+use Rattle.progress.specs.Inner.Work.{Arranged, Saturated, ValidRun, ran}
 use Rattle.complete_shuffled.specs.Shuffle.{Shuffled}
 use Rattle.complete_shuffled.specs.declared.step.Shuffle.{Shuffle}
 

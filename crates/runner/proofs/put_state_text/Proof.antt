@@ -5,7 +5,7 @@ use native.Mathlib.Omega.{arith}
 use borrow.Author.Needs.{needs}
 use lib.ListN.{replicate, length-replicate}
 use Rattle.state.specs.State.{stateOf}
-use Rattle.complete.specs.Complete.{mostEdges}
+use Rattle.completion.specs.Complete.{mostEdges}
 use Rattle.runner.proofs.Room.{never-refused, listed, passes, lines-fit}
 use Rattle.runner.proofs.put_state_text.Statement.{statement}
 use Rattle.runner.proofs.put_state_text.Tie as tie

@@ -9,9 +9,9 @@ use Rattle.graph.specs.Graph.{edges}
 use Rattle.table.specs.Inner.Cells.{matrixOf}
 use Rattle.adjacency.specs.Adjacency.{edge}
 use Rattle.classes.specs.Inner.Block.{classFrom}
-use Rattle.complete.specs.Complete.{mostEdges}
-use Rattle.complete.specs.Inner.Work.{ran, WroteRecords}
-use Rattle.complete.proofs.Output.{wrote-none, wrote-then}
+use Rattle.completion.specs.Complete.{mostEdges}
+use Rattle.progress.specs.Inner.Work.{ran, WroteRecords}
+use Rattle.progress.proofs.Output.{wrote-none, wrote-then}
 use Rattle.complete_shuffled.specs.Shuffle.{Shuffled, runShuffled}
 use Rattle.complete_shuffled.specs.Inner.Track.{Shuffling, shuffledAt, begins}
 use Rattle.complete_shuffled.proofs.Beginning.{begin-summed, begin-countable, begin-classed, begin-shuffling}

@@ -1,0 +1,4 @@
+pub mod Passed
+pub mod Search
+pub mod OneJoin
+pub mod Joins

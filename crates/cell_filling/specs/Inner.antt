@@ -1,0 +1,5 @@
+-- What contracts of inner code cite and no reader has to believe: the entries' contracts do without it.
+-- Assumes nothing.
+pub mod Cursor
+pub mod Search
+pub mod Work

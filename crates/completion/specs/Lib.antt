@@ -1,0 +1,3 @@
+pub mod Choice
+pub mod Complete
+pub mod Inner

@@ -1,0 +1,4 @@
+pub mod ValidRuns
+pub mod Output
+pub mod Whole
+pub mod Saturated
