@@ -4,3 +4,4 @@ pub mod Cellwise
 pub mod Works
 pub mod Records
 pub mod Entry
+pub mod Written

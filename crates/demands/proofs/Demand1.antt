@@ -55,6 +55,7 @@ use Rattle.graph6_write.specs.Write.{writeText, writeListed, writeAnswer, write
 use Rattle.graph6_read.specs.Read.{readList, readAnswer, readOutput}
 use Rattle.join_records.specs.Record.{joinRecordSize}
 use Rattle.completion.specs.Complete.{Ran, completed, missing, ranLaid, ranAnswer, afterRan, ranAfter, outputRan, ranOutput}
+use Rattle.completion.proofs.Written.{refused-leaves, records-written}
 use Rattle.completion.proofs.Entry.{completed-facts}
 use Rattle.complete_shuffled.specs.Shuffle.{shuffled}
 use Rattle.complete_shuffled.proofs.Answers.{with-x-refused, with-x-completed}
@@ -111,8 +112,8 @@ complete-refused s r out q e = (
   subst (OfComplete (1 ∷ 2 ∷ 3 ∷ 18 ∷ [])) e
       (behind OfComplete _ (phaseVerdict phaseLaid s) Complete.Refused (ranLaid r s (length out)) (λ r h. h) (phase-numbers phaseLaid s _)
       (complete-chain (leb (joinRecordSize * missing s) (length out)) (r .joins) (r .switches) (length (r .records)))),
-  ap (λ (a : CompleteAnswer). afterRan a r s) e,
-  ap (λ (a : CompleteAnswer). outputRan a r out) e,
+  refused-leaves s r out q e .0,
+  refused-leaves s r out q e .1,
 )
 
 complete-written : (f : Choice) (s : State) (out : List ℕ) (joins switches n : ℕ)
@@ -123,7 +124,7 @@ complete-written f s out joins switches n e =
     let c = completed-facts s r (length out) joins switches n e in
     let x = outcome-works f s (c .facts) in (
       omega (arith, c .length-is, c .joins-are, x .written),
-      subst (SamePast n out) (sym (ap (λ (a : CompleteAnswer). outputRan a r out) e))
+      subst (SamePast n out) (sym (records-written s r out joins switches n e))
           (past out (r .records) n (c .length-is) (omega (arith, c .room, x .made, x .written))),
     )
 
