@@ -15,7 +15,7 @@ ghost use Rattle.jdm_of_edges.specs.Survey.{surveyAnswer, surveyOutput};
 ghost use Rattle.graph6_write.specs.Write.{writeAnswer, writeOutput};
 ghost use Rattle.graph6_read.specs.Read.{readAnswer, readOutput};
 ghost use Rattle.completion.specs.Complete.{completeAnswer, completeAfter, completeOutput};
-ghost use Rattle.complete_shuffled.specs.Shuffle.{shuffleAnswer, shuffleAfter, shuffleOutput};
+ghost use Rattle.shuffled_completion.specs.Shuffle.{shuffleAnswer, shuffleAfter, shuffleOutput};
 ghost use Rattle.numbers.specs.Flat.{flat, flatJoin, heldNumbers};
 use numbers::ReplicaAnswer;
 use numbers::ReplicaJoin;

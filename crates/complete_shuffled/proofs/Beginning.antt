@@ -15,7 +15,8 @@ use Rattle.open_pairs.specs.Inner.Refresh.{refreshRange, Classed}
 use Rattle.open_pairs.proofs.Refreshed.{range-else, range-right}
 use Rattle.completion.specs.Complete.{fresh}
 use Rattle.progress.specs.Inner.Work.{Arranged, Working}
-use Rattle.complete_shuffled.specs.Inner.Track.{CellsCountable, Counted, ClassArray, Lows, Shuffling}
+use Rattle.tracking.specs.Inner.Track.{CellsCountable, Counted, ClassArray}
+use Rattle.complete_shuffled.specs.Inner.Work.{Lows, Shuffling}
 
 -- no row has an open pair yet
 pub begin-summed : Summed (replicate side 0) (replicate sumCount 0)

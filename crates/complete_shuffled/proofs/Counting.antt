@@ -18,9 +18,9 @@ use Rattle.progress.specs.Inner.Work.{ran}
 use Rattle.completion.proofs.Cellwise.{edges-within}
 use Rattle.completion.proofs.Chosen.{Stepped, opened}
 use Rattle.completion.proofs.Works.{stops}
-use Rattle.complete_shuffled.specs.Choice.{nextX, pairV, pairW, position}
-use Rattle.complete_shuffled.specs.Shuffle.{Shuffled, nextShuffled, incompleteShuffled, runShuffled}
-use Rattle.complete_shuffled.proofs.Picked.{picked, position-below, passes-open}
+use Rattle.shuffled_completion.specs.Choice.{nextX, pairV, pairW, position}
+use Rattle.shuffled_completion.specs.Shuffle.{Shuffled, nextShuffled, incompleteShuffled, runShuffled}
+use Rattle.shuffled_completion.proofs.Picked.{picked, position-below, passes-open}
 
 module _ (n : ℕ) (cls : ℕ → ℕ) (T : ℕ → ℕ → ℕ) where
   -- where no cell is short, there are as many edges as are wanted

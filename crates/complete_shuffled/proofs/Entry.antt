@@ -24,9 +24,10 @@ use Rattle.completion.specs.Complete.{fresh, mostEdges, missing}
 use Rattle.progress.specs.Inner.Work.{Working, Started, WroteRecords}
 use Rattle.progress.specs.declared.Start.{Start}
 use Rattle.progress.proofs.Whole.{vertices-few, wanted-enough, missing-is, lacks-missing, lacks-few, working-start, joins-few, work-done}
-use Rattle.complete_shuffled.specs.Shuffle.{Shuffled, runShuffled, shuffled, withX, shuffleAnswer, shuffleAfter, shuffleOutput}
-use Rattle.complete_shuffled.specs.Inner.Track.{ClassArray, Lacks, begins}
-use Rattle.complete_shuffled.proofs.Works.{shuffled-works}
+use Rattle.shuffled_completion.specs.Shuffle.{Shuffled, runShuffled, shuffled, withX, shuffleAnswer, shuffleAfter, shuffleOutput}
+use Rattle.tracking.specs.Inner.Track.{ClassArray}
+use Rattle.complete_shuffled.specs.Inner.Work.{Lacks, begins}
+use Rattle.shuffled_completion.proofs.Works.{shuffled-works}
 use Rattle.state.proofs.Checks.{laid-passed}
 
 module _ (s : State) {cells counts degrees : List ℕ} (passed : phaseVerdict phaseLaid s ≡ Go) (o : Opened s cells counts degrees)

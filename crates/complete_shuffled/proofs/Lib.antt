@@ -1,9 +1,3 @@
-pub mod Cells
-pub mod Picked
-pub mod Works
-pub mod Answers
-pub mod Following
-pub mod Seeking
 pub mod Unsaturated
 pub mod Onward
 pub mod Beginning

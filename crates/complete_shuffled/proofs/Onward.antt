@@ -24,12 +24,13 @@ use Rattle.completion.specs.Complete.{Ran, joined}
 use Rattle.progress.specs.Inner.Work.{ran, withJoin, Recordable}
 use Rattle.progress.proofs.ValidRuns.{joined-valid, joined-room, join-recordable}
 use Rattle.progress.proofs.Output.{joined-ran}
-use Rattle.complete_shuffled.specs.Choice.{nextX, pairV, pairW, position, openCount}
-use Rattle.complete_shuffled.specs.Shuffle.{Shuffled, nextShuffled, incompleteShuffled}
-use Rattle.complete_shuffled.specs.Inner.Track.{Tracked, Lows, hasNow, haveAfter, isFullNow, flagsAfter, pairsAfter, Shuffling, shuffledAt}
+use Rattle.shuffled_completion.specs.Choice.{nextX, pairV, pairW, position, openCount}
+use Rattle.shuffled_completion.specs.Shuffle.{Shuffled, nextShuffled, incompleteShuffled}
+use Rattle.tracking.specs.Inner.Track.{Tracked, hasNow, haveAfter, isFullNow, flagsAfter, pairsAfter}
+use Rattle.complete_shuffled.specs.Inner.Work.{Lows, Shuffling, shuffledAt}
 use Rattle.complete_shuffled.specs.declared.step.Shuffle.{Shuffle}
-use Rattle.complete_shuffled.proofs.Picked.{Picked, picked, some-open, position-below, passes-open, passes-rising}
-use Rattle.complete_shuffled.proofs.Following.{joinable, column-class, classes-rise, now-within, scannable-after, tracked-after}
+use Rattle.shuffled_completion.proofs.Picked.{Picked, picked, some-open, position-below, passes-open, passes-rising}
+use Rattle.tracking.proofs.Following.{joinable, column-class, classes-rise, now-within, scannable-after, tracked-after}
 
 module _ {n : ℕ} {cells starts classes g have full pairs sums low degrees : List ℕ} (out : List ℕ) (d : Shuffle)
     (p : Shuffling n cells starts classes g have full pairs sums low degrees (length out) (ran g out (d .totals)))

@@ -18,7 +18,7 @@ use Rattle.adjacency.specs.Inner.Degrees.{degreesOf}
 use Rattle.joining.specs.Inner.Work.{Joinable, Placed}
 use Rattle.progress.specs.Inner.Work.{Arranged, Saturated}
 use Rattle.progress.proofs.Saturated.{low-saturated, saturated-stays}
-use Rattle.complete_shuffled.specs.Inner.Track.{Lows, lowAfter}
+use Rattle.complete_shuffled.specs.Inner.Work.{Lows, lowAfter}
 
 module _ {n : ℕ} {starts g low : List ℕ} (arranged : Arranged n starts) (u : Lows n starts g low) where
   -- over a join saturated vertices stay so

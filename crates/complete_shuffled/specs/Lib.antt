@@ -1,4 +1,1 @@
-pub mod Choice
-pub mod Shuffle
-pub mod Outcome
 pub mod Inner

@@ -5,11 +5,11 @@ ghost use Rattle.table.specs.Inner.Cells.{matrixOf};
 ghost use Rattle.classes.specs.Inner.Block.{classFrom};
 ghost use Rattle.completion.specs.Complete.{fresh, mostEdges};
 ghost use Rattle.progress.specs.Inner.Work.{Working, WroteRecords};
-ghost use Rattle.complete_shuffled.specs.Shuffle.{runShuffled};
-ghost use Rattle.complete_shuffled.specs.Inner.Track.{ClassArray, Lacks, shuffledAt, begins};
+ghost use Rattle.shuffled_completion.specs.Shuffle.{runShuffled};
+ghost use Rattle.tracking.specs.Inner.Track.{ClassArray};
+ghost use Rattle.complete_shuffled.specs.Inner.Work.{Lacks, shuffledAt, begins};
 use crate::step::Shuffle;
 use crate::step::shuffle_step;
-use crate::track::count_cells;
 use adjacency::SIDE;
 use classes::STARTS;
 use layout::MAX_VERTICES;
@@ -18,6 +18,7 @@ use open_pairs::row::SUMS;
 use progress::Totals;
 use table::cells::CELLS;
 use table::class::MAX_CLASSES;
+use tracking::count_cells;
 
 // One flag for each class and vertex.
 const FLAGS: usize = MAX_CLASSES * SIDE;

@@ -7,13 +7,10 @@ ghost use Rattle.journal.specs.Journal.{phaseLaid};
 ghost use Rattle.state.specs.State.{stateOf};
 ghost use Rattle.state.specs.Checks.{phaseVerdict};
 ghost use Rattle.state.specs.Inner.Opened.{laidFront, Opened};
-ghost use Rattle.complete_shuffled.specs.Shuffle.{shuffleAnswer, shuffleAfter, shuffleOutput};
+ghost use Rattle.shuffled_completion.specs.Shuffle.{shuffleAnswer, shuffleAfter, shuffleOutput};
 
 mod fill;
-mod pick;
-mod picker;
 mod step;
-mod track;
 
 use crate::fill::shuffle_cells;
 use answer::Cause;

@@ -11,11 +11,8 @@ ghost use Rattle.joining.specs.Join.{joinBytes, joinSwitches};
 ghost use Rattle.adjacency.specs.Inner.Degrees.{degreesOf};
 ghost use Rattle.joining.specs.Inner.Work.{Joinable};
 ghost use Rattle.progress.specs.Inner.Work.{ran, WroteRecords, Arranged};
-ghost use Rattle.complete_shuffled.specs.Shuffle.{nextShuffled, incompleteShuffled};
-ghost use Rattle.complete_shuffled.specs.Inner.Track.{Lows, lowAfter, Shuffling, shuffledAt};
-use crate::pick::pick;
-use crate::picker::next_x;
-use crate::track::update;
+ghost use Rattle.shuffled_completion.specs.Shuffle.{nextShuffled, incompleteShuffled};
+ghost use Rattle.complete_shuffled.specs.Inner.Work.{Lows, lowAfter, Shuffling, shuffledAt};
 use answer::switches::Switches;
 use classes::STARTS;
 use joining::End;
@@ -23,6 +20,8 @@ use joining::both_reliefs;
 use joining::join;
 use layout::MAX_VERTICES;
 use open_pairs::row::SUMS;
+use picking::next_x;
+use picking::pick;
 use progress::Pair;
 use progress::Totals;
 use progress::advance;
@@ -30,6 +29,7 @@ use progress::record_join;
 use slices::wide;
 use table::cells::CELLS;
 use table::class::class_degree;
+use tracking::update;
 
 // Edges added and switches made, and x.
 pub struct Shuffle {

@@ -24,9 +24,9 @@ use Rattle.completion.specs.Complete.{Ran, fresh, mostEdges, missing, afterRan}
 use Rattle.completion.proofs.Works.{Good, Chooser, short, lowest-pair, next-rising}
 use Rattle.completion.proofs.Full.{full-run}
 use Rattle.completion.proofs.Entry.{facts-completed}
-use Rattle.complete_shuffled.specs.Shuffle.{Shuffled}
-use Rattle.complete_shuffled.proofs.Works.{shuffled-pair, shuffled-rises, outcome-works}
-use Rattle.complete_shuffled.specs.Outcome.{outcome, choiceAnswer, choiceAfter}
+use Rattle.shuffled_completion.specs.Shuffle.{Shuffled}
+use Rattle.shuffled_completion.proofs.Works.{shuffled-pair, shuffled-rises, outcome-works}
+use Rattle.shuffled_completion.specs.Outcome.{outcome, choiceAnswer, choiceAfter}
 use Rattle.demands.specs.Matrix.{HasTable}
 
 -- r is what one way to choose pairs, each named lower vertex first, ends in from the state's matrix

@@ -57,10 +57,10 @@ use Rattle.join_records.specs.Record.{joinRecordSize}
 use Rattle.completion.specs.Complete.{Ran, completed, missing, ranLaid, ranAnswer, afterRan, ranAfter, outputRan, ranOutput}
 use Rattle.completion.proofs.Written.{refused-leaves, records-written}
 use Rattle.completion.proofs.Entry.{completed-facts}
-use Rattle.complete_shuffled.specs.Shuffle.{shuffled}
-use Rattle.complete_shuffled.proofs.Answers.{with-x-refused, with-x-completed}
-use Rattle.complete_shuffled.specs.Outcome.{outcome, choiceAnswer, choiceOutput}
-use Rattle.complete_shuffled.proofs.Works.{outcome-works}
+use Rattle.shuffled_completion.specs.Shuffle.{shuffled}
+use Rattle.shuffled_completion.proofs.Answers.{with-x-refused, with-x-completed}
+use Rattle.shuffled_completion.specs.Outcome.{outcome, choiceAnswer, choiceOutput}
+use Rattle.shuffled_completion.proofs.Works.{outcome-works}
 use Rattle.demands.specs.Demand1.{CarriesOneOf, SamePast, Demand1}
 use Rattle.demands.proofs.Chains.{OfClear, OfTake, OfLength, OfLayOut, OfFigures, OfAdd, OfRemove, OfComplete, OfWritten, OfRead, behind, state-numbers, phase-numbers, layout-numbers, clear-chain, takeLater, later-numbers, take-chain, length-chain, pair-numbers, add-chain, remove-chain, complete-chain, fits-chain, list-numbers, survey-chain, read-chain}
 

@@ -43,8 +43,8 @@ use Rattle.add_edge.specs.Add.{addAnswer, afterAdd, addAfter}
 use Rattle.remove_edge.specs.Remove.{removeAnswer, afterRemove, removeAfter}
 use Rattle.completion.specs.Complete.{afterRan}
 use Rattle.completion.proofs.Entry.{completed-facts}
-use Rattle.complete_shuffled.specs.Outcome.{outcome, choiceAnswer, choiceAfter}
-use Rattle.complete_shuffled.proofs.Works.{outcome-works}
+use Rattle.shuffled_completion.specs.Outcome.{outcome, choiceAnswer, choiceAfter}
+use Rattle.shuffled_completion.proofs.Works.{outcome-works}
 use Rattle.demands.specs.Calls.{Change, take, layOut, add, remove, complete, Call, changes, reads, changed, afterAll}
 use Rattle.demands.specs.Tally.{Tally, noTally, told, toldAdd, toldRemove, toldComplete, addsBlock, withBlock, laysOut, nowLaid, tally, tallyAll}
 use Rattle.demands.specs.Matrix.{ShortFor, HasTable}

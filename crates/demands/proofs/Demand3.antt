@@ -33,8 +33,8 @@ use Rattle.joining.specs.Join.{joinBytes, joinSwitches}
 use Rattle.join_records.specs.Record.{joinRecordSize}
 use Rattle.completion.specs.Complete.{Ran, missing, afterRan}
 use Rattle.completion.proofs.Entry.{short-refused, CompleteWorks}
-use Rattle.complete_shuffled.specs.Outcome.{outcome, choiceAnswer}
-use Rattle.complete_shuffled.proofs.Works.{outcome-works}
+use Rattle.shuffled_completion.specs.Outcome.{outcome, choiceAnswer}
+use Rattle.shuffled_completion.proofs.Works.{outcome-works}
 use Rattle.demands.specs.Calls.{Call, afterAll}
 use Rattle.demands.specs.Tally.{Tally, noTally, missingEdges, tallyAll}
 use Rattle.demands.specs.Matrix.{ShortFor}

@@ -13,7 +13,7 @@ use Rattle.state.specs.State.{State}
 use Rattle.add_edge.specs.Add.{addAnswer, afterAdd, addAfter}
 use Rattle.remove_edge.specs.Remove.{removeAnswer, afterRemove, removeAfter}
 use Rattle.completion.specs.Complete.{Ran, afterRan}
-use Rattle.complete_shuffled.specs.Outcome.{outcome, choiceAnswer, choiceAfter}
+use Rattle.shuffled_completion.specs.Outcome.{outcome, choiceAnswer, choiceAfter}
 
 pub add-journal : (s : State) (v w : ℕ) → addAfter s v w .journal ≡ s .journal
 add-journal s v w = go (addAnswer s v w)

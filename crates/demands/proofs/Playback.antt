@@ -30,8 +30,8 @@ use Rattle.completion.specs.Complete.{Ran, fresh, mostEdges, missing, afterRan,
 use Rattle.completion.proofs.Works.{Good, Chooser, short, next-good}
 use Rattle.completion.proofs.Records.{Recorded, next-recorded, Rising, records-rising}
 use Rattle.completion.proofs.Entry.{good-start, CompleteWorks}
-use Rattle.complete_shuffled.specs.Outcome.{outcome, choiceAnswer}
-use Rattle.complete_shuffled.proofs.Works.{outcome-works}
+use Rattle.shuffled_completion.specs.Outcome.{outcome, choiceAnswer}
+use Rattle.shuffled_completion.proofs.Works.{outcome-works}
 use Rattle.demands.specs.Playback.{play, CompletingPlays, addedRecord, Playback}
 use Rattle.demands.proofs.Choices.{By, by, outcome-answer}
 use Rattle.demands.proofs.Playing.{fits, playJoin, join-plays, play-none, play-more}

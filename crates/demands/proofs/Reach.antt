@@ -41,8 +41,8 @@ use Rattle.add_edge.proofs.Add.{added-facts, add-works}
 use Rattle.remove_edge.proofs.Remove.{removed-facts, remove-works}
 use Rattle.completion.specs.Complete.{Ran, ranAnswer, afterRan}
 use Rattle.completion.proofs.Entry.{completed-facts}
-use Rattle.complete_shuffled.specs.Outcome.{outcome}
-use Rattle.complete_shuffled.proofs.Works.{outcome-works}
+use Rattle.shuffled_completion.specs.Outcome.{outcome}
+use Rattle.shuffled_completion.proofs.Works.{outcome-works}
 use Rattle.demands.specs.Calls.{Change, take, layOut, add, remove, complete, Call, changes, reads, changed, after, afterAll}
 use Rattle.demands.specs.Tally.{Tally, noTally, told, toldAdd, toldRemove, toldComplete, addsBlock, withBlock, laysOut, nowLaid, withEdges, tally, tallyAll}
 

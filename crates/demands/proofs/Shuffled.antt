@@ -18,10 +18,10 @@ use Rattle.state.specs.Valid.{ValidLaid}
 use Rattle.state.proofs.Facts.{cellAt}
 use Rattle.join_records.specs.Record.{joinRecordSize}
 use Rattle.completion.specs.Complete.{Ran, fresh, missing, ranAnswer, afterRan, outputRan}
-use Rattle.complete_shuffled.specs.Choice.{nextX, stepsX}
-use Rattle.complete_shuffled.specs.Shuffle.{shuffled, withX, shuffleOutput}
-use Rattle.complete_shuffled.proofs.Answers.{with-x-refused}
-use Rattle.complete_shuffled.proofs.Works.{shuffled-last, outcome-works}
+use Rattle.shuffled_completion.specs.Choice.{nextX, stepsX}
+use Rattle.shuffled_completion.specs.Shuffle.{shuffled, withX, shuffleOutput}
+use Rattle.shuffled_completion.proofs.Answers.{with-x-refused}
+use Rattle.shuffled_completion.proofs.Works.{shuffled-last, outcome-works}
 use Rattle.demands.specs.Shuffled.{Shuffles, LeftAlone, ShuffledCompleting}
 use Rattle.demands.specs.Matrix.{ShortFor}
 use Rattle.demands.specs.Playback.{play}

@@ -29,7 +29,7 @@ use Rattle.add_edge.specs.Add.{addAnswer, afterAdd, addAfter}
 use Rattle.add_edge.proofs.Add.{added-facts}
 use Rattle.join_records.specs.Record.{joinRecordSize}
 use Rattle.completion.proofs.Entry.{refused-not-completed}
-use Rattle.complete_shuffled.specs.Outcome.{choiceAnswer, choiceAfter}
+use Rattle.shuffled_completion.specs.Outcome.{choiceAnswer, choiceAfter}
 use Rattle.state.specs.State.{State, emptyMatrix, cleared}
 use Rattle.state.specs.Valid.{ValidLaid}
 use Rattle.demands.specs.Calls.{take, complete, Call, changes, afterAll}

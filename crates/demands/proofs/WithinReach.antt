@@ -17,8 +17,8 @@ use Rattle.adjacency.specs.Adjacency.{edge}
 use Rattle.state.specs.Laid.{vertexCount}
 use Rattle.join_records.specs.Record.{joinRecordSize}
 use Rattle.completion.proofs.Entry.{completed-facts}
-use Rattle.complete_shuffled.specs.Outcome.{outcome, choiceAnswer, choiceAfter}
-use Rattle.complete_shuffled.proofs.Works.{outcome-works}
+use Rattle.shuffled_completion.specs.Outcome.{outcome, choiceAnswer, choiceAfter}
+use Rattle.shuffled_completion.proofs.Works.{outcome-works}
 use Rattle.state.specs.State.{State, emptyMatrix, cleared}
 use Rattle.state.specs.Valid.{ValidLaid}
 use Rattle.demands.specs.Calls.{Call, afterAll}

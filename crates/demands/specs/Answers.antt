@@ -17,7 +17,7 @@ use Rattle.jdm_of_edges.specs.Survey.{surveyAnswer, surveyOutput}
 use Rattle.graph6_write.specs.Write.{writeAnswer, writeOutput}
 use Rattle.graph6_read.specs.Read.{readAnswer, readOutput}
 use Rattle.completion.specs.Complete.{completeAnswer, completeOutput}
-use Rattle.complete_shuffled.specs.Shuffle.{shuffleAnswer, shuffleOutput}
+use Rattle.shuffled_completion.specs.Shuffle.{shuffleAnswer, shuffleOutput}
 use Rattle.demands.specs.Calls.{Change, take, layOut, add, remove, complete, Reading, readBack, list, figures, survey, writeGraph6, readGraph6, Call, changes, reads}
 
 -- answers as lists of numbers

@@ -9,7 +9,7 @@ use Rattle.take_block.specs.Take.{takeAfter}
 use Rattle.lay_out.specs.LayOut.{layOutAfter}
 use Rattle.add_edge.specs.Add.{addAfter}
 use Rattle.remove_edge.specs.Remove.{removeAfter}
-use Rattle.complete_shuffled.specs.Outcome.{choiceAfter}
+use Rattle.shuffled_completion.specs.Outcome.{choiceAfter}
 
 -- The calls that may change the state, with any arguments. Completing is by either choice of pairs. A list of bytes is a block, or an output as it is
 -- lent, with room or without.

@@ -36,7 +36,7 @@ use Rattle.join_records.specs.Record.{joinRecordSize}
 use Rattle.completion.specs.Complete.{completeAnswer, completeAfter, completeOutput}
 use Rattle.demands.specs.Calls as Calls
 use Rattle.demands.specs.Calls.{Call, changes, reads, take, layOut, add, remove, complete, readBack, list, figures, survey, writeGraph6, readGraph6}
-use Rattle.complete_shuffled.specs.Shuffle.{shuffleAnswer, shuffleAfter, shuffleOutput}
+use Rattle.shuffled_completion.specs.Shuffle.{shuffleAnswer, shuffleAfter, shuffleOutput}
 
 -- The numbers that a refusal of the call may carry, in the order of its checks.
 abbrev pub allowed : Call → List ℕ

@@ -22,7 +22,7 @@ use Rattle.take_block.specs.Take.{takeAnswer, takeAfter}
 use Rattle.lay_out.specs.LayOut.{layOutAfter}
 use Rattle.add_edge.specs.Add.{addAnswer, addAfter}
 use Rattle.remove_edge.specs.Remove.{removeAnswer, removeAfter}
-use Rattle.complete_shuffled.specs.Outcome.{choiceAnswer, choiceAfter}
+use Rattle.shuffled_completion.specs.Outcome.{choiceAnswer, choiceAfter}
 use Rattle.demands.specs.Calls.{Change, take, layOut, add, remove, complete, Call, changes, reads, changed, afterAll}
 use Rattle.demands.specs.Matrix.{ShortFor, HasTable}
 use Rattle.demands.specs.Accepted.{accepted, AcceptedIn}

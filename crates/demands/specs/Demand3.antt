@@ -23,7 +23,7 @@ use Rattle.state.specs.Valid.{valid}
 use Rattle.lay_out.specs.LayOut.{layOutAnswer}
 use Rattle.add_edge.specs.Add.{addAnswer, addAfter}
 use Rattle.join_records.specs.Record.{joinRecordSize}
-use Rattle.complete_shuffled.specs.Outcome.{choiceAnswer, choiceAfter}
+use Rattle.shuffled_completion.specs.Outcome.{choiceAnswer, choiceAfter}
 use Rattle.demands.specs.Calls.{Call, afterAll}
 use Rattle.demands.specs.Matrix.{ShortFor, HasTable}
 use Rattle.demands.specs.Tally.{Tally, noTally, missingEdges, tallyAll}

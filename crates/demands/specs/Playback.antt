@@ -20,7 +20,7 @@ use Rattle.state.specs.Laid.{vertexCount}
 use Rattle.join_records.specs.Record.{joinRecordSize}
 use Rattle.add_edge.specs.Add.{addAnswer, addAfter}
 use Rattle.completion.specs.Complete.{missing}
-use Rattle.complete_shuffled.specs.Outcome.{choiceAnswer, choiceAfter, choiceOutput}
+use Rattle.shuffled_completion.specs.Outcome.{choiceAnswer, choiceAfter, choiceOutput}
 
 -- a matrix in play, and whether everything so far fitted it: an edge that was removed was there, one that was added was not
 pub record Played : Type 0 where

@@ -15,9 +15,9 @@ use Rattle.state.specs.State.{State}
 use Rattle.state.specs.Valid.{ValidLaid}
 use Rattle.join_records.specs.Record.{joinRecordSize}
 use Rattle.completion.specs.Complete.{missing}
-use Rattle.complete_shuffled.specs.Choice.{stepsX}
-use Rattle.complete_shuffled.specs.Shuffle.{shuffleAnswer, shuffleAfter, shuffleOutput}
-use Rattle.complete_shuffled.specs.Outcome.{choiceAnswer}
+use Rattle.shuffled_completion.specs.Choice.{stepsX}
+use Rattle.shuffled_completion.specs.Shuffle.{shuffleAnswer, shuffleAfter, shuffleOutput}
+use Rattle.shuffled_completion.specs.Outcome.{choiceAnswer}
 use Rattle.demands.specs.Calls.{complete, changed}
 use Rattle.demands.specs.Matrix.{ShortFor, HasTable}
 use Rattle.demands.specs.Playback.{play}

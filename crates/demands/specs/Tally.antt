@@ -18,7 +18,7 @@ use Rattle.table.specs.Block.{mostBlocks, wellFormed, plus}
 use Rattle.layout.specs.Layout.{mostVertices, wanted}
 use Rattle.add_edge.specs.Add.{addAnswer}
 use Rattle.remove_edge.specs.Remove.{removeAnswer}
-use Rattle.complete_shuffled.specs.Outcome.{choiceAnswer}
+use Rattle.shuffled_completion.specs.Outcome.{choiceAnswer}
 use Rattle.state.specs.State.{State}
 use Rattle.demands.specs.Calls.{Change, take, layOut, add, remove, complete, Call, changes, reads, changed}
 

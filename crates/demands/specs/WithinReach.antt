@@ -26,7 +26,7 @@ use Rattle.state.specs.Laid.{vertexCount}
 use Rattle.edge_lists.specs.EdgeList.{listOf}
 use Rattle.add_edge.specs.Add.{addAnswer, addAfter}
 use Rattle.remove_edge.specs.Remove.{removeAnswer, removeAfter}
-use Rattle.complete_shuffled.specs.Outcome.{choiceAnswer, choiceAfter}
+use Rattle.shuffled_completion.specs.Outcome.{choiceAnswer, choiceAfter}
 use Rattle.demands.specs.Calls.{add, remove, Call, changes, afterAll}
 use Rattle.demands.specs.Tally.{noTally, missingEdges, tallyAll}
 

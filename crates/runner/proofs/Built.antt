@@ -47,8 +47,8 @@ use Rattle.graph6.proofs.Text.{text-cong}
 use Rattle.graph6_write.specs.Write.{writeText}
 use Rattle.completion.specs.Complete.{Ran, afterRan}
 use Rattle.completion.proofs.Entry.{completed-facts, facts-completed, missing-most}
-use Rattle.complete_shuffled.specs.Outcome.{outcome, choiceAnswer}
-use Rattle.complete_shuffled.proofs.Works.{outcome-works}
+use Rattle.shuffled_completion.specs.Outcome.{outcome, choiceAnswer}
+use Rattle.shuffled_completion.proofs.Works.{outcome-works}
 use Rattle.text.specs.Text.{newline, refusedLine, headLine, edgeLines}
 use Rattle.text.proofs.Lines.{lines-cat, lines-one}
 use Rattle.options.specs.declared.Form.{Form}

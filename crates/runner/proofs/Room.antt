@@ -41,8 +41,8 @@ use Rattle.completion.specs.Complete.{mostEdges, afterRan}
 use Rattle.completion.proofs.Cellwise.{room}
 use Rattle.completion.proofs.Works.{few-edges}
 use Rattle.completion.proofs.Entry.{completed-facts}
-use Rattle.complete_shuffled.specs.Outcome.{outcome, choiceAnswer}
-use Rattle.complete_shuffled.proofs.Works.{outcome-works}
+use Rattle.shuffled_completion.specs.Outcome.{outcome, choiceAnswer}
+use Rattle.shuffled_completion.proofs.Works.{outcome-works}
 use Rattle.text.specs.Text.{newline, edgeLines, headLine, headMost, edgeMost}
 use Rattle.text.proofs.Decimal.{refused-length, head-length, edges-length}
 use Rattle.options.specs.declared.Form.{Form}

@@ -22,8 +22,8 @@ use Rattle.lay_out.specs.LayOut.{layOutAnswer, afterLayOut, layOutAfter}
 use Rattle.completion.specs.Complete.{afterRan}
 use Rattle.completion.proofs.Entry.{completed-facts}
 use Rattle.io.specs.Counts.{Counts}
-use Rattle.complete_shuffled.specs.Outcome.{outcome, choiceAnswer, choiceAfter}
-use Rattle.complete_shuffled.proofs.Works.{outcome-works}
+use Rattle.shuffled_completion.specs.Outcome.{outcome, choiceAnswer, choiceAfter}
+use Rattle.shuffled_completion.proofs.Works.{outcome-works}
 use Rattle.text.specs.Text.{refusedLine}
 use Rattle.text.proofs.Written.{Written}
 use Rattle.options.specs.declared.Form.{Form}

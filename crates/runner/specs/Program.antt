@@ -23,7 +23,7 @@ use Rattle.take_block.specs.Take.{takeAnswer, afterTake}
 use Rattle.lay_out.specs.LayOut.{layOutAnswer, layOutAfter}
 use Rattle.join_records.specs.Record.{joinRecordSize}
 use Rattle.completion.specs.Complete.{mostEdges, ranAnswer, afterRan}
-use Rattle.complete_shuffled.specs.Outcome.{outcome}
+use Rattle.shuffled_completion.specs.Outcome.{outcome}
 use Rattle.edge_list.specs.List.{listBytes}
 use Rattle.graph6_write.specs.Write.{writeText}
 use Rattle.options.specs.declared.Form.{Form}

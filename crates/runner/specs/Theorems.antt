@@ -21,7 +21,7 @@ use Rattle.adjacency.specs.Adjacency.{edge}
 use Rattle.state.specs.State.{State, cleared}
 use Rattle.lay_out.specs.LayOut.{layOutAnswer, layOutAfter}
 use Rattle.graph6.specs.Format.{graph6Text}
-use Rattle.complete_shuffled.specs.Outcome.{choiceAnswer}
+use Rattle.shuffled_completion.specs.Outcome.{choiceAnswer}
 use Rattle.text.specs.Text.{newline, refusedLine, headLine, edgeLine}
 use Rattle.options.specs.declared.Form.{Form}
 use Rattle.options.specs.declared.Form.the-variants.{Lines, Graph6}

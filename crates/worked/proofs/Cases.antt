@@ -49,8 +49,8 @@ use Rattle.jdm_of_edges.specs.Survey.{surveyAnswer, surveyOutput}
 use Rattle.graph6_write.specs.Write.{writeAnswer, writeOutput}
 use Rattle.graph6_read.specs.Read.{readAnswer, readOutput}
 use Rattle.completion.specs.Complete.{Ran, completed, ranLaid, afterRan, outputRan}
-use Rattle.complete_shuffled.specs.Shuffle.{shuffled, withX}
-use Rattle.complete_shuffled.specs.Outcome.{outcome}
+use Rattle.shuffled_completion.specs.Shuffle.{shuffled, withX}
+use Rattle.shuffled_completion.specs.Outcome.{outcome}
 use Rattle.demands.specs.Calls.{Change, take, layOut, add, remove, complete, Reading, readBack, list, figures, survey, writeGraph6, readGraph6, Call, changes, reads, changed, after}
 use Rattle.demands.specs.Answers.{six, nine, answerOf}
 use Rattle.demands.specs.Tally.{Tally, noTally, told, tally}

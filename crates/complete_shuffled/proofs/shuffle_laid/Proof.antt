@@ -7,7 +7,7 @@ use Rattle.answer.specs.declared.ShuffleAnswer.the-variants.{Refused}
 use Rattle.state.specs.State.{stateOf}
 use Rattle.progress.proofs.Whole.{vertices-few, total-few, lacks-missing, lacks-few}
 use Rattle.completion.proofs.Entry.{short-refused}
-use Rattle.complete_shuffled.specs.Shuffle.{shuffled}
+use Rattle.shuffled_completion.specs.Shuffle.{shuffled}
 use Rattle.complete_shuffled.proofs.Entry.{begin-working, begin-classes, begin-lacks, end-few, end-done}
 use Rattle.complete_shuffled.proofs.shuffle_laid.Statement.{statement}
 use Rattle.state.proofs.Checks.{laid-passed}

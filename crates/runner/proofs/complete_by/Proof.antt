@@ -4,7 +4,7 @@ use borrow.Author.Needs.{needs}
 use lib.ListN.{length}
 use Rattle.state.specs.State.{stateOf}
 use Rattle.completion.specs.Complete.{ranAnswer}
-use Rattle.complete_shuffled.specs.Shuffle.{shuffled}
+use Rattle.shuffled_completion.specs.Shuffle.{shuffled}
 use Rattle.runner.proofs.complete_by.Statement.{statement}
 use Rattle.runner.proofs.complete_by.Tie as tie
 

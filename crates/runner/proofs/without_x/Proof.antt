@@ -2,7 +2,7 @@
 -- Assumes nothing.
 use mathlib.Core.Path.{sym, _∙_}
 use borrow.Author.Needs.{needs}
-use Rattle.complete_shuffled.proofs.Answers.{with-x-completed, with-x-refused}
+use Rattle.shuffled_completion.proofs.Answers.{with-x-completed, with-x-refused}
 use Rattle.runner.proofs.without_x.Statement.{statement}
 use Rattle.runner.proofs.without_x.Tie as tie
 

@@ -12,8 +12,8 @@ use Rattle.classes.specs.Inner.Block.{classFrom}
 use Rattle.completion.specs.Complete.{mostEdges}
 use Rattle.progress.specs.Inner.Work.{ran, WroteRecords}
 use Rattle.progress.proofs.Output.{wrote-none, wrote-then}
-use Rattle.complete_shuffled.specs.Shuffle.{Shuffled, runShuffled}
-use Rattle.complete_shuffled.specs.Inner.Track.{Shuffling, shuffledAt, begins}
+use Rattle.shuffled_completion.specs.Shuffle.{Shuffled, runShuffled}
+use Rattle.complete_shuffled.specs.Inner.Work.{Shuffling, shuffledAt, begins}
 use Rattle.complete_shuffled.proofs.Beginning.{begin-summed, begin-countable, begin-classed, begin-shuffling}
 use Rattle.complete_shuffled.proofs.Counting.{next-more, still-short, not-short, run-next, run-stop}
 use Rattle.complete_shuffled.proofs.fill.shuffle_cells.Statement.{statement}

@@ -1,0 +1,3 @@
+pub mod Picked
+pub mod Works
+pub mod Answers
