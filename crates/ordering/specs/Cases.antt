@@ -1,4 +1,4 @@
--- More worked examples, of worked's kind: `ordered` are those that show the order of checks, `withIsolated` those of document 02's idle boards,
+-- More worked examples, tried in the same way: `ordered` are those that show the order of checks, `withIsolated` those of document 02's idle boards,
 -- `withEmpty` those of its blocks of no bytes.
 -- Assumes nothing.
 use mathlib.Core.Path.{_≡_}
@@ -7,7 +7,7 @@ use mathlib.Core.List.{List, [], _∷_}
 use Prim.Native.Nat.{ℕ, zero, suc, _+_}
 use lib.ListN.{replicate}
 use Rattle.answer.specs.declared.Choice.the-variants.{Lowest}
-use Rattle.worked.specs.Cases.{take, layOut, add, remove, complete, readBack, list, figures, survey, Step, _gives_, Case, allHold, taken, held, part, laidOut, completed, written, report, no, noInto, joined, noJoin, join, sevens, rec}
+use Rattle.trying.specs.Cases.{take, layOut, add, remove, complete, readBack, list, figures, survey, Step, _gives_, Case, allHold, taken, held, part, laidOut, completed, written, report, no, noInto, joined, noJoin, join, sevens, rec}
 
 -- The order of checks (document 01: "Checks run in table order, among those that concern the call"): calls in which refusals compete, and the
 -- one that is to come out. Left to the tests: survey's 18 on 200 vertices, and 200 isolated vertices laid out. A new block on a laid state with

@@ -1,9 +1,9 @@
--- Worked drawings, of worked's kind: graphs whose edges are added by hand (document 02, P6).
+-- Worked drawings, tried in the same way: graphs whose edges are added by hand (document 02, P6).
 -- Assumes nothing.
 use mathlib.Core.Path.{_≡_}
 use mathlib.Core.Bool.{true}
 use mathlib.Core.List.{List, [], _∷_}
-use Rattle.worked.specs.Cases.{take, layOut, add, remove, figures, _gives_, Case, allHold, taken, laidOut, removed, report, joined, joinedBy, noJoin, rec}
+use Rattle.trying.specs.Cases.{take, layOut, add, remove, figures, _gives_, Case, allHold, taken, laidOut, removed, report, joined, joinedBy, noJoin, rec}
 
 abbrev pub drawings : List Case
 drawings =

@@ -1,0 +1,1 @@
+// The way of trying a case: calls and what they hand back, over the definitions. No code.
