@@ -1,5 +1,6 @@
 #!/bin/sh
-# Compiles the example against an installed library and nothing else, runs it, and checks its output.
+# Compiles the test and the example against an installed library and nothing else, runs them, and
+# checks what the example prints.
 #
 #   run.sh [PREFIX]      without PREFIX the library is installed into a temporary one first
 set -eu
@@ -13,8 +14,8 @@ else
     prefix=$(cd "$1" && pwd)
 fi
 
-# As a stranger would: the example alone, in a folder of its own.
-cp "$here/example.c" "$work"
+# As a stranger would: the two files alone, in a folder of their own.
+cp "$here/test.c" "$here/example.c" "$work"
 cd "$work"
 if command -v pkg-config >/dev/null; then
     PKG_CONFIG_PATH=$prefix/lib/pkgconfig
@@ -23,9 +24,14 @@ if command -v pkg-config >/dev/null; then
 else
     flags="-I$prefix/include -L$prefix/lib -lreplica"
 fi
-# The flags are words; a prefix has no white space.
-# shellcheck disable=SC2086
-${CC:-cc} -std=c99 -Wall -Wextra -Wpedantic -Werror -o example example.c $flags
+compile() { # NAME
+    # The flags are words; a prefix has no white space.
+    # shellcheck disable=SC2086
+    ${CC:-cc} -std=c99 -Wall -Wextra -Wpedantic -Werror -o "$1" "$1.c" $flags
+}
+compile test
+./test
+compile example
 ./example >printed
 cat printed
 cat >expected <<END
