@@ -1,14 +1,11 @@
 //! What moved: the switches of a join, and the records of completing.
 
 use crate::raw::ReplicaJoin;
-use crate::JOIN_RECORD_BYTES;
+use crate::{JOIN_RECORD_BYTES, UNUSED};
 use std::iter::{FusedIterator, Take};
 use std::ops::Deref;
 use std::slice::ChunksExact;
 use std::{array, fmt, slice};
-
-/// In the bytes and numbers of a switch that was not needed. No vertex has this number.
-const UNUSED: u8 = 255;
 
 /// An edge that moved: a-t went and b-t came. The vertices a and b are of the same degree, so no cell
 /// changes.

@@ -69,10 +69,14 @@ pub const JOURNAL_BYTES: usize = 4162;
 pub const ADJACENCY_BYTES: usize = 40_000;
 /// Most bytes in a block.
 pub const MAX_BLOCK_BYTES: usize = 64;
+/// Most blocks in a journal.
+pub const MAX_BLOCKS: usize = 64;
 /// Bytes of a record.
 pub const RECORD_BYTES: usize = 4;
 /// Bytes of a join record, which completing writes for each edge it adds.
 pub const JOIN_RECORD_BYTES: usize = 8;
+/// In the bytes and numbers of a switch that was not needed. No vertex has this number.
+pub const UNUSED: u8 = 255;
 /// Highest degree.
 pub const MAX_DEGREE: usize = 40;
 /// Most vertices in a state.
