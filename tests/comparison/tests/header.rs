@@ -49,7 +49,10 @@ const COMMENTS: &[Said] = said! {
     "A block is up to # records": MAX_BLOCK_BYTES / RECORD_BYTES,
     "so at most # bytes": MAX_BLOCK_BYTES,
     "A join record is # bytes": JOIN_RECORD_BYTES,
+    "from 63 to # byte 126": MAX_VERTICES,
     "byte v * # + w is 1": MAX_VERTICES,
+    "# rows of 200": MAX_VERTICES,
+    "rows of #. */": ADJACENCY_BYTES / MAX_VERTICES,
     "# cells, and the isolated vertices": MAX_CELLS,
     "# for the pairs of 200 vertices": MAX_GRAPH6_BYTES - 4,
     "all # pairs of 200 vertices": MAX_PAIRS,
@@ -61,6 +64,11 @@ const COMMENTS: &[Said] = said! {
     "The total is over # (no place)": MAX_VERTICES,
     "has a degree over #. first": MAX_DEGREE,
     "a graph with more than # vertices": MAX_VERTICES,
+    "that make a number above #.": MAX_VERTICES,
+    "with the isolated vertices it has more than #)": MAX_VERTICES,
+    "total being # at most, and the number": MAX_VERTICES,
+    "total being # at most; degrees over 40": MAX_VERTICES,
+    "at most; degrees over # are written too": MAX_DEGREE,
 };
 
 /// Types and names, of the fields of a struct or the parameters of a function.
@@ -79,14 +87,17 @@ fn between<'a>(text: &'a str, before: &str, behind: &str) -> &'a str {
     rest.split_once(behind).expect(behind).0
 }
 
+/// What stands outside all pairs of these two, which begin and end a comment, say.
+fn outside(text: &str, open: &str, close: &str) -> String {
+    let behind = |part| str::split_once(part, close).map_or(part, |(_, behind)| behind);
+    text.split(open).map(behind).collect()
+}
+
 /// The header without its comments and lines of the preprocessor.
 fn declarations() -> String {
-    let mut text = String::new();
-    for part in HEADER.split("/*") {
-        text += part.split_once("*/").map_or(part, |(_, code)| code);
-    }
-    let code = text.lines().filter(|line| !line.starts_with('#'));
-    one_line(&code.collect::<Vec<_>>().join("\n"))
+    let text = outside(HEADER, "/*", "*/");
+    let lines = text.lines().filter(|line| !line.starts_with('#'));
+    one_line(&lines.collect::<Vec<_>>().join("\n"))
 }
 
 /// The comments of the header, and the rest too, without the stars that begin a line.
@@ -187,28 +198,15 @@ fn called_with(function: &str) -> Vec<String> {
     parts.map(one).collect()
 }
 
-/// The numbers behind `Refused:` in the comment that ends at the prototype, in their order.
+/// The numbers behind `Refused:` in the comment before the prototype, in their order.
 fn refusals_named(function: &str) -> Vec<usize> {
     let prototype = HEADER.find(&format!(" {function}(")).expect(function);
-    let (_, list) = HEADER[..prototype].rsplit_once("Refused:").expect(function);
-    let list = list
-        .split_once("*/")
-        .expect("the end of a comment")
-        .0
-        .replace(" *", "");
-    // What stands in brackets says when.
-    let mut numbers = String::new();
-    for part in list.split('(') {
-        numbers += part.split_once(')').map_or(part, |(_, behind)| behind);
-    }
-    let numbers = numbers
-        .split_once('.')
-        .expect("the end of a sentence")
-        .0
-        .split(',');
-    numbers
-        .map(|number| number.trim().parse().expect(function))
-        .collect()
+    let (_, comment) = HEADER[..prototype].rsplit_once("/*").expect(function);
+    let list = between(comment, "Refused:", "*/").replace(" *", "");
+    // What stands in brackets says when. A full stop ends the list.
+    let numbers = between(&outside(&list, "(", ")"), " ", ".").to_string();
+    let number = |text: &str| text.trim().parse().expect(function);
+    numbers.split(',').map(number).collect()
 }
 
 /// All `#define`s but the guard against a second inclusion.
