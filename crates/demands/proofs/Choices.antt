@@ -1,4 +1,4 @@
--- What holds of completing by every choice (crates/complete_shuffled/specs/Outcome.antt), whichever pairs it joins:
+-- What holds of completing by every choice (crates/shuffled_completion/specs/Outcome.antt), whichever pairs it joins:
 -- the laws of completing by any choice of open pairs, at the two that there are.
 -- Assumes nothing.
 use mathlib.Core.Path.{_≡_, refl, sym, ap, subst, _∙_}

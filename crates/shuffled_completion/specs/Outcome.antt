@@ -1,5 +1,5 @@
 -- Both ways of completing: what each ends in. The checks before it, its answer, the state after it and its records are the same for each
--- (crates/complete/specs/Complete.antt).
+-- (crates/completion/specs/Complete.antt).
 -- Assumes nothing.
 use mathlib.Core.List.{List}
 use Prim.Native.Nat.{ℕ}

@@ -1,5 +1,5 @@
 -- Completing by shuffled choice (document 02, P7): while a cell is short, x steps, the open pair that it picks (specs/Choice.antt) is joined, lower
--- vertex first, and its record written. The checks, the records and the answer are those of completing (crates/complete/specs/Complete.antt); the last
+-- vertex first, and its record written. The checks, the records and the answer are those of completing (crates/completion/specs/Complete.antt); the last
 -- x is handed back besides.
 -- Assumes nothing.
 use mathlib.Core.Bool.{Bool}
