@@ -19,9 +19,9 @@ use Rattle.answer.specs.declared.CompleteAnswer.the-variants.{Completed, Refuse
 use Rattle.answer.proofs.Checks.{unless-passed, unless-stopped-passed}
 use Rattle.finite.specs.Range.{sumTo}
 use Rattle.graph.specs.Graph.{Simple, degree, ownJdm, isolated}
-use Rattle.graph.specs.Tests.{mostClasses, rowSum, Table, classDegree}
+use Rattle.graph.specs.Tests.{mostClasses, rowSum, Table, classDegree, Passed}
 use Rattle.graph.proofs.Complete.{complete-is-exact}
-use Rattle.graph.proofs.Passes.{Passed, passes-passed}
+use Rattle.graph.proofs.Passes.{passes-passed}
 use Rattle.graph.proofs.Realizability.{has-table, has-isolated}
 use Rattle.journal.specs.Journal.{phaseLaid, jdmOf, isolatedOf, tableOf}
 use Rattle.journal.proofs.Table.{jdm-table}

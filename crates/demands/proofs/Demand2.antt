@@ -22,11 +22,11 @@ use Rattle.answer.specs.declared.CompleteAnswer.the-variants.{Completed, Refuse
 use Rattle.answer.specs.declared.Choice.{Choice}
 use Rattle.finite.proofs.All.{and-left, and-right, and-false}
 use Rattle.graph.specs.Graph.{jdm, DegreeTable, noTable}
-use Rattle.graph.specs.Tests.{mostClasses, Table}
+use Rattle.graph.specs.Tests.{mostClasses, Table, Passed}
 use Rattle.graph.proofs.Counts.{same-table}
 use Rattle.answer.specs.Numbers.{oneOf}
 use Rattle.table.specs.Block.{wellFormed, blockCell, blockIsolated, plus}
-use Rattle.graph.proofs.Passes.{Passed, passes-passed}
+use Rattle.graph.proofs.Passes.{passes-passed}
 use Rattle.graph.proofs.Realizability.{has-table, has-isolated}
 use Rattle.journal.specs.Journal.{phaseLaid, phase, blocks, jdmOf, tableOf}
 use Rattle.journal.proofs.Table.{jdm-table}

@@ -1,4 +1,4 @@
--- What passing the tests 9, 10 and 11 says of each cell and each row.
+-- The tests 9, 10 and 11 pass if and only if each cell and each row is as `Passed` says.
 -- Assumes nothing.
 use mathlib.Core.Path.{_≡_}
 use mathlib.Core.Bool.{Bool, true, false, _&&_}
@@ -11,12 +11,7 @@ use Rattle.finite.specs.Range.{lowest}
 use Rattle.finite.proofs.All.{and-left, and-right, and-both}
 use Rattle.finite.proofs.Lowest.{lowest-le, lowest-before, lowest-none}
 use Rattle.graph.specs.Target.{cellMost}
-use Rattle.graph.specs.Tests.{leastClass, mostClasses, rowSum, count, odd, uneven, overfull, firstOdd, firstUneven, firstOverfullIn, firstOverfull, passes}
-
-pub record Passed (T : ℕ → ℕ → ℕ) : Type 0 where
-  pub even : (k : ℕ) → leastClass ≤ k → k < mostClasses → T k k % 2 ≡ 0
-  pub rows : (k : ℕ) → leastClass ≤ k → k < mostClasses → rowSum T k % k ≡ 0
-  pub fits : (k l : ℕ) → leastClass ≤ k → k < mostClasses → leastClass ≤ l → l < mostClasses → T k l ≤ cellMost (count T) k l
+use Rattle.graph.specs.Tests.{leastClass, mostClasses, rowSum, count, odd, uneven, overfull, firstOdd, firstUneven, firstOverfullIn, firstOverfull, passes, Passed}
 
 -- a search through the degrees comes to their end if and only if none of them passes
 none : (p : ℕ → Bool) → (lowest leastClass mostClasses p ≡ mostClasses) ↔ ((k : ℕ) → leastClass ≤ k → k < mostClasses → p k ≡ false)

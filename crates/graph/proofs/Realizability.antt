@@ -12,14 +12,14 @@ use Rattle.finite.proofs.Delta.{δ-move}
 use Rattle.finite.proofs.Sum.{sumTo-cong, sumTo-const, sumTo-scale-right, sumTo-mono, sumTo-split, sumTo-zero}
 use Rattle.graph.specs.Graph.{Graph, Simple, degree, size, jdm, ownJdm, isolated, DegreeTable}
 use Rattle.graph.specs.Target.{cellMost, Target, Partial}
-use Rattle.graph.specs.Tests.{mostDegree, mostClasses, rowSum, count, classCount, vertices, vertexClass, passes, Table, classDegree}
+use Rattle.graph.specs.Tests.{mostDegree, mostClasses, rowSum, count, classCount, vertices, vertexClass, passes, Table, classDegree, Passed}
 use Rattle.graph.specs.Theorems.{Realized, Realizability, Necessary}
 use Rattle.graph.proofs.Matrix.{jdm-none, cellMost-cong}
 use Rattle.graph.proofs.Necessary.{necessary-always}
 use Rattle.graph.proofs.Complete.{complete-is-exact, complete-has-target}
 use Rattle.graph.proofs.Counts.{count-at, vertex-class, class-size}
 use Rattle.graph.proofs.Existence.{target-reached}
-use Rattle.graph.proofs.Passes.{Passed, passes-passed}
+use Rattle.graph.proofs.Passes.{passes-passed}
 
 module _ (T : ℕ → ℕ → ℕ) (table : Table T) where
   none-of-0 : (k l : ℕ) → k ≡ 0 → T k l ≡ 0

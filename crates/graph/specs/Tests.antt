@@ -3,7 +3,7 @@
 -- Assumes nothing.
 use mathlib.Core.Path.{_≡_}
 use mathlib.Core.Bool.{Bool, _&&_, not, cond}
-use Prim.Native.Nat.{ℕ, _+_, _-_, _/_, _%_, _<_}
+use Prim.Native.Nat.{ℕ, _+_, _-_, _/_, _%_, _≤_, _<_}
 use lib.Dec.{eqb, ltb}
 use Rattle.finite.specs.Range.{sumTo, lowest}
 use Rattle.graph.specs.Graph.{DegreeTable}
@@ -76,6 +76,15 @@ firstOverfull T = lowest leastClass mostClasses (λ k. ltb (firstOverfullIn T k)
 -- T passes 9, 10 and 11
 abbrev pub passes : (ℕ → ℕ → ℕ) → Bool
 passes T = eqb (firstOdd T) mostClasses && eqb (firstUneven T) mostClasses && eqb (firstOverfull T) mostClasses
+
+-- What passing 9, 10 and 11 says of each cell and each row (proofs/Passes.antt).
+pub record Passed (T : ℕ → ℕ → ℕ) : Type 0 where
+  -- 9: "every (k, k) even"
+  pub even : (k : ℕ) → leastClass ≤ k → k < mostClasses → T k k % 2 ≡ 0
+  -- 10: "every S(k) divisible by k"
+  pub rows : (k : ℕ) → leastClass ≤ k → k < mostClasses → rowSum T k % classDegree k ≡ 0
+  -- 11: "cell (k, l) at most D(k) × D(l), and cell (k, k) at most D(k) × (D(k) − 1)"
+  pub fits : (k l : ℕ) → leastClass ≤ k → k < mostClasses → leastClass ≤ l → l < mostClasses → T k l ≤ cellMost (count T) k l
 
 -- A table: symmetric, and 0 in the cells of degree 0 and of a degree above 40.
 pub record Table (T : ℕ → ℕ → ℕ) : Type 0 where
