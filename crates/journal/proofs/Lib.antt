@@ -5,3 +5,4 @@ pub mod Store
 pub mod Laid
 pub mod Empty
 pub mod Table
+pub mod Clauses

@@ -3,16 +3,17 @@
 use mathlib.Core.Path.{_≡_, refl, sym, _∙_}
 use mathlib.Core.Bool.{Bool, true, false, _&&_, _||_, not, cond, true≢false, and-true, or-true}
 use mathlib.Core.List.{List}
+use mathlib.Core.Logic.{inl, inr, _↔_}
 use Prim.Native.Nat.{ℕ, _≤_, _<_}
 use native.Mathlib.Decide.{ℕ-discrete}
 use native.Mathlib.Omega.{arith}
 use lib.Dec.{eqb, leb}
-use borrow.Author.Tests.{leb-true, eqb-true, eq-eqb, ne-eqb, not-false}
+use borrow.Author.Tests.{leb-true, le-leb, eqb-true, eq-eqb, ne-eqb, not-false}
 use Rattle.finite.proofs.All.{and-left, and-right, and-false}
-use Rattle.finite.proofs.Lowest.{lowest-before}
+use Rattle.finite.proofs.Lowest.{lowest-before, lowest-none}
 use Rattle.finite.proofs.Sum.{sumTo-cong, sumTo-zero}
 use Rattle.graph.specs.Tests.{leastDegree, mostDegree}
-use Rattle.table.specs.Block.{isDegree, records, recordK, recordL, recordCount, ofIsolated, ofCell, goodRecord, firstBad, samePair, recordCell, recordIsolated, blockCell}
+use Rattle.table.specs.Block.{isDegree, records, recordK, recordL, recordCount, ofIsolated, ofCell, goodRecord, GoodPair, firstBad, samePair, recordCell, recordIsolated, blockCell}
 
 -- k and l of a record of isolated vertices
 isolated-zeros : (b : List ℕ) (i : ℕ) → ofIsolated b i ≡ true → (recordK b i ≡ 0) × (recordL b i ≡ 0)
@@ -30,8 +31,9 @@ pub record Good (b : List ℕ) (i : ℕ) : Type 0 where
   pub ordered : recordK b i ≤ recordL b i
   pub most : recordL b i ≤ mostDegree
 
-pub good-record : (b : List ℕ) (i : ℕ) → goodRecord b i ≡ true → Good b i
-good-record b i e = go (ofCell b i) refl
+-- the test of a record is what its first two bytes are to be
+pub good-pair : (b : List ℕ) (i : ℕ) → (goodRecord b i ≡ true) ↔ GoodPair (recordK b i) (recordL b i)
+good-pair b i = (λ e. there (ofCell b i) refl e, back)
   where
     k : ℕ
     k = recordK b i
@@ -39,26 +41,36 @@ good-record b i e = go (ofCell b i) refl
     l : ℕ
     l = recordL b i
 
-    cell : ofCell b i ≡ true → Good b i
-    cell c =
-        let d = and-left (isDegree k && isDegree l) (leb k l) c in
-        record {
-          least = λ _. leb-true leastDegree k (and-left (leb leastDegree k) (leb k mostDegree) (and-left (isDegree k) (isDegree l) d));
-          ordered = leb-true k l (and-right (isDegree k && isDegree l) (leb k l) c);
-          most = leb-true l mostDegree (and-right (leb leastDegree l) (leb l mostDegree) (and-right (isDegree k) (isDegree l) d));
-        }
+    there : (t : Bool) → ofCell b i ≡ t → t || ofIsolated b i ≡ true → GoodPair (recordK b i) (recordL b i)
+    there true c e =
+        let d = and-left (isDegree k && isDegree l) _ c in
+        inl (
+          leb-true leastDegree k (and-left (leb leastDegree k) (leb k mostDegree) (and-left (isDegree k) (isDegree l) d)),
+          leb-true k l (and-right (isDegree k && isDegree l) _ c),
+          leb-true l mostDegree (and-right (leb leastDegree l) (leb l mostDegree) (and-right (isDegree k) (isDegree l) d)),
+        )
+    there false c e = inr (isolated-zeros b i e)
 
-    go : (t : Bool) → ofCell b i ≡ t → Good b i
-    go true c = cell c
-    go false c =
-        let z : ofIsolated b i ≡ true = rw c at e in
-        let zeros = isolated-zeros b i z in
-        record { least = λ n. absurd (true≢false (sym z ∙ n)); ordered = omega (arith, zeros); most = omega (arith, zeros) }
+    back : GoodPair (recordK b i) (recordL b i) → goodRecord b i ≡ true
+    back (inl (p, q, r)) =
+        rw (le-leb leastDegree k p, le-leb k mostDegree (omega arith), le-leb leastDegree l (omega arith), le-leb l mostDegree r, le-leb k l q)
+    back (inr (p, q)) = rw (zeros-isolated b i p q) (or-true (ofCell b i))
 
--- in a block with no bad record each one is good
+pub good-record : (b : List ℕ) (i : ℕ) → goodRecord b i ≡ true → Good b i
+good-record b i e = go (good-pair b i .0 e)
+  where
+    go : GoodPair (recordK b i) (recordL b i) → Good b i
+    go (inl (p, q, r)) = record { least = λ _. p; ordered = q; most = r }
+    go (inr (p, q)) =
+        record { least = λ n. absurd (true≢false (sym (zeros-isolated b i p q) ∙ n)); ordered = omega (arith, p, q); most = omega (arith, q) }
+
+-- a block has no bad record if and only if each one is good
 pub all-good : (b : List ℕ) → firstBad b ≡ records b → (i : ℕ) → i < records b → goodRecord b i ≡ true
 all-good b e i l =
     not-false (goodRecord b i) (lowest-before 0 (records b) (λ i. not (goodRecord b i)) (omega arith) i (omega arith) (rw e l))
+
+pub good-all : (b : List ℕ) → ((i : ℕ) → i < records b → goodRecord b i ≡ true) → firstBad b ≡ records b
+good-all b f = lowest-none 0 (records b) (λ i. not (goodRecord b i)) (omega arith) (λ i g l. rw (f i l))
 
 both-fail : (k a l b : ℕ) → (k ≡ a → l ≡ b → ⊥) → eqb k a && eqb l b ≡ false
 both-fail k a l b h = go (ℕ-discrete k a)

@@ -1,9 +1,11 @@
 -- Blocks and records (document 01, "Blocks and records"), and what a block adds to a degree table: to the cells of its matrix, and to the isolated
 -- vertices beside them (document 02, P1).
 -- Assumes nothing.
+use mathlib.Core.Path.{_≡_}
 use mathlib.Core.Bool.{Bool, _&&_, _||_, not, cond}
 use mathlib.Core.List.{List}
-use Prim.Native.Nat.{ℕ, _+_, _*_, _/_, _%_}
+use mathlib.Core.Logic.{_⊎_}
+use Prim.Native.Nat.{ℕ, _+_, _*_, _/_, _%_, _≤_}
 use lib.Dec.{eqb, leb}
 use lib.ListN.{length, getD}
 use Rattle.finite.specs.Range.{sumTo, lowest}
@@ -59,6 +61,10 @@ ofCell b i = isDegree (recordK b i) && isDegree (recordL b i) && leb (recordK b 
 
 abbrev pub goodRecord : List ℕ → ℕ → Bool
 goodRecord b i = ofCell b i || ofIsolated b i
+
+-- What a good record is, of its first two bytes: "A degree runs from 1 to 40, and k ≤ l"; or 0 and 0, isolated vertices (proofs/Block.antt `good-pair`).
+abbrev pub GoodPair : ℕ → ℕ → Type 0
+GoodPair k l = ((1 ≤ k) × (k ≤ l) × (l ≤ 40)) ⊎ ((k ≡ 0) × (l ≡ 0))
 
 -- the first record that is not good; the number of records where all are
 abbrev pub firstBad : List ℕ → ℕ
