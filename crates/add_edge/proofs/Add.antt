@@ -20,7 +20,7 @@ use Rattle.graph.specs.Theorems.{AfterJoin}
 use Rattle.graph.proofs.Join.{join-works}
 use Rattle.journal.specs.Journal.{phaseLaid, jdmOf}
 use Rattle.adjacency.specs.Adjacency.{adjacencySize, edge}
-use Rattle.adjacency.proofs.Facts.{ZeroOutside}
+use Rattle.adjacency.specs.Clauses.{ZeroOutside}
 use Rattle.state.specs.State.{State, withMatrix}
 use Rattle.state.specs.Checks.{phaseVerdict, pairVerdict}
 use Rattle.state.specs.Valid.{ValidLaid}

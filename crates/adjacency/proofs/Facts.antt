@@ -1,9 +1,9 @@
--- What a matrix that passes the check is, and that such a matrix passes it.
+-- What a matrix that passes the check is, and that such a matrix passes it (specs/Clauses.antt).
 -- Assumes nothing.
 use mathlib.Core.Path.{_≡_, ap, _∙_}
 use mathlib.Core.Bool.{Bool, true, _&&_}
 use mathlib.Core.List.{List}
-use mathlib.Core.Logic.{_⊎_, inl, inr, ⊎-elim}
+use mathlib.Core.Logic.{inl, inr, ⊎-elim}
 use Prim.Native.Nat.{ℕ, _+_, _-_, _*_, _/_, _%_, _≤_, _<_}
 use native.Mathlib.Decide.{decLt}
 use native.Mathlib.Omega.{arith}
@@ -13,22 +13,13 @@ use lib.Seq.{getD-take, getD-drop}
 use borrow.Author.Tests.{leb-true, le-leb}
 use Rattle.finite.specs.Range.{allTo}
 use Rattle.finite.proofs.All.{and-left, and-right, and-both, allTo-at, allTo-holds}
-use Rattle.graph.specs.Graph.{Simple, degree, jdm}
+use Rattle.graph.specs.Graph.{degree, jdm}
 use Rattle.graph.specs.Tests.{mostClasses}
 use Rattle.slices.specs.Slices.{allZero}
 use Rattle.slices.proofs.Zero.{all-zero-at, zeros-all-zero}
 use Rattle.adjacency.specs.Adjacency.{side, adjacencySize, edge, mirrored, zeroOutside, degreesWithin, cellsWithin, adjacencyOk}
+use Rattle.adjacency.specs.Clauses.{ZeroOutside, MatrixClauses, MatrixByClauses}
 use Rattle.adjacency.proofs.Mirrored.{mirrored-simple, simple-mirrored}
-
--- 0 at each place of the matrix that is not between two vertices
-abbrev pub ZeroOutside : ℕ → List ℕ → Type 0
-ZeroOutside n g = (v w : ℕ) → v < side → w < side → (n ≤ v) ⊎ (n ≤ w) → edge g v w ≡ 0
-
-pub record Facts (n : ℕ) (cls : ℕ → ℕ) (T : ℕ → ℕ → ℕ) (g : List ℕ) : Type 0 where
-  pub simple : Simple n (edge g)
-  pub outside : ZeroOutside n g
-  pub room : (v : ℕ) → v < n → degree n (edge g) v ≤ cls v
-  pub within : (k l : ℕ) → k < mostClasses → l < mostClasses → jdm n cls (edge g) k l ≤ T k l
 
 module _ (n : ℕ) (g : List ℕ) where
   -- the bytes of row v behind the first n, and the bytes of the rows from n on
@@ -76,7 +67,7 @@ module _ (n : ℕ) (g : List ℕ) where
           getD-drop (n * side) g i 0 ∙ ap (λ (p : ℕ). getD g p 0) e ∙ f (j / side) (j % side) (omega arith) (omega arith) (inl (omega arith))
 
 module _ (n : ℕ) (cls : ℕ → ℕ) (T : ℕ → ℕ → ℕ) (g : List ℕ) where
-  pub adjacency-facts : adjacencyOk n cls T g ≡ true → Facts n cls T g
+  pub adjacency-facts : adjacencyOk n cls T g ≡ true → MatrixClauses n cls T g
   adjacency-facts h =
       record {
         simple = mirrored-simple n g (and-left _ (zeroOutside n g) mz);
@@ -103,10 +94,13 @@ module _ (n : ℕ) (cls : ℕ → ℕ) (T : ℕ → ℕ → ℕ) (g : List ℕ) 
       row : (k : ℕ) → k < mostClasses → allTo mostClasses (at k) ≡ true
       row = allTo-at (λ k. allTo mostClasses (at k)) mostClasses within
 
-  pub facts-adjacency : length g ≡ adjacencySize → n ≤ side → Facts n cls T g → adjacencyOk n cls T g ≡ true
+  pub facts-adjacency : length g ≡ adjacencySize → n ≤ side → MatrixClauses n cls T g → adjacencyOk n cls T g ≡ true
   facts-adjacency long small f =
       and-both _ _
       (and-both _ _ (and-both _ _ (simple-mirrored n g (f .simple)) (outside-zero n g long small (f .outside)))
       (allTo-holds (λ v. leb (degree n (edge g) v) (cls v)) n (λ v l. le-leb (degree n (edge g) v) (cls v) (f .room v l))))
       (allTo-holds (λ k. allTo mostClasses (λ l. leb (jdm n cls (edge g) k l) (T k l))) mostClasses
       (λ k p. allTo-holds (λ l. leb (jdm n cls (edge g) k l) (T k l)) mostClasses (λ l q. le-leb (jdm n cls (edge g) k l) (T k l) (f .within k l p q))))
+
+pub matrix-by-clauses : MatrixByClauses
+matrix-by-clauses n cls T g long small = (adjacency-facts n cls T g, facts-adjacency n cls T g long small)

@@ -1,2 +1,3 @@
 pub mod Adjacency
+pub mod Clauses
 pub mod Inner

@@ -17,7 +17,7 @@ use Rattle.finite.proofs.Blocks.{singles-length, singles-at}
 use Rattle.graph.specs.Graph.{Graph, SameOn}
 use Rattle.slices.proofs.Zero.{getD-zeros}
 use Rattle.adjacency.specs.Adjacency.{side, adjacencySize, edge}
-use Rattle.adjacency.proofs.Facts.{ZeroOutside}
+use Rattle.adjacency.specs.Clauses.{ZeroOutside}
 use Rattle.state.specs.State.{emptyMatrix}
 use Rattle.demands.specs.WithinReach.{bytesOf}
 

@@ -19,7 +19,7 @@ use Rattle.layout.proofs.Counted.{counted-total}
 use Rattle.journal.specs.Journal.{phaseLaid}
 use Rattle.adjacency.specs.Adjacency.{edge}
 use Rattle.adjacency.specs.Inner.Degrees.{degreesOf}
-use Rattle.adjacency.proofs.Facts.{ZeroOutside}
+use Rattle.adjacency.specs.Clauses.{ZeroOutside}
 use Rattle.state.specs.State.{State}
 use Rattle.state.specs.Checks.{phaseVerdict}
 use Rattle.state.specs.Inner.Opened.{Opened}

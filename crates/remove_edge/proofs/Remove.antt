@@ -19,7 +19,7 @@ use Rattle.graph.specs.Theorems.{Updated}
 use Rattle.graph.proofs.Update.{removing-updates}
 use Rattle.journal.specs.Journal.{phaseLaid, jdmOf}
 use Rattle.adjacency.specs.Adjacency.{adjacencySize, side, edge, setEdge}
-use Rattle.adjacency.proofs.Facts.{ZeroOutside}
+use Rattle.adjacency.specs.Clauses.{ZeroOutside}
 use Rattle.adjacency.proofs.Set.{set-length, set-removes, set-outside}
 use Rattle.state.specs.State.{State, withMatrix}
 use Rattle.state.specs.Checks.{phaseVerdict, pairVerdict}

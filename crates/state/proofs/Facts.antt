@@ -19,7 +19,8 @@ use Rattle.layout.specs.Layout.{mostVertices}
 use Rattle.journal.specs.Journal.{journalSize, phaseTaking, phaseLaid, phase, journalOk, jdmOf, tableOf}
 use Rattle.journal.proofs.Table.{jdm-table}
 use Rattle.adjacency.specs.Adjacency.{adjacencySize, adjacencyOk, edge}
-use Rattle.adjacency.proofs.Facts.{ZeroOutside, adjacency-facts}
+use Rattle.adjacency.specs.Clauses.{ZeroOutside}
+use Rattle.adjacency.proofs.Facts.{adjacency-facts}
 use Rattle.state.specs.State.{State}
 use Rattle.state.specs.Valid.{lengthsOk, laidOk, valid}
 use Rattle.state.specs.Laid.{vertexCount, classAt}

@@ -9,7 +9,8 @@ use Rattle.graph.specs.Target.{Partial}
 use Rattle.graph.specs.Tests.{mostClasses, classDegree}
 use Rattle.journal.specs.Journal.{phaseLaid, phase, journalOk, jdmOf}
 use Rattle.adjacency.specs.Adjacency.{adjacencySize, edge}
-use Rattle.adjacency.proofs.Facts.{ZeroOutside, facts-adjacency}
+use Rattle.adjacency.specs.Clauses.{ZeroOutside}
+use Rattle.adjacency.proofs.Facts.{facts-adjacency}
 use Rattle.state.specs.State.{State, withMatrix}
 use Rattle.state.specs.Valid.{valid}
 use Rattle.state.specs.Laid.{vertexCount, classAt}
