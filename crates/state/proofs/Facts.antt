@@ -1,7 +1,7 @@
 -- What a valid state is, as named facts, and back.
 -- Assumes nothing.
 use mathlib.Core.Path.{_≡_}
-use mathlib.Core.Bool.{Bool, true, _&&_, cond}
+use mathlib.Core.Bool.{true, _&&_}
 use mathlib.Core.List.{List}
 use Prim.Native.Nat.{ℕ, _≤_}
 use lib.Dec.{eqb, leb}
@@ -60,17 +60,15 @@ module _ (s : State) where
   pub lengths-both : length (s .journal) ≡ journalSize → length (s .adjacency) ≡ adjacencySize → lengthsOk s ≡ true
   lengths-both a b = and-both _ _ (eq-eqb (length (s .journal)) journalSize a) (eq-eqb (length (s .adjacency)) adjacencySize b)
 
-  -- the check of the matrix, in either phase
-  matrixOk : Bool
-  matrixOk = cond (eqb (phase (s .journal)) phaseTaking) (allZero (s .adjacency)) (laidOk (tableOf (s .journal)) (s .adjacency))
-
   pub valid-journal : valid s ≡ true → journalOk (s .journal) ≡ true
-  unfolding matrixOk
-  valid-journal h = and-left (journalOk (s .journal)) matrixOk h
+  valid-journal h = and-left (journalOk (s .journal)) _ h
 
-  matrix-ok : valid s ≡ true → matrixOk ≡ true
-  unfolding matrixOk
-  matrix-ok h = and-right (journalOk (s .journal)) matrixOk h
+  -- the matrix in phase 0, and in phase 1
+  matrix-zero : phase (s .journal) ≡ phaseTaking → valid s ≡ true → allZero (s .adjacency) ≡ true
+  matrix-zero e h = rw (eq-eqb (phase (s .journal)) phaseTaking e) at (and-right (journalOk (s .journal)) _ h)
+
+  matrix-laid : phase (s .journal) ≡ phaseLaid → valid s ≡ true → laidOk (tableOf (s .journal)) (s .adjacency) ≡ true
+  matrix-laid e h = rw e at (and-right (journalOk (s .journal)) _ h)
 
   laid-tests : laidOk (tableOf (s .journal)) (s .adjacency) ≡ true → (passes (jdmOf (s .journal)) ≡ true) × (vertexCount s ≤ mostVertices)
       × (adjacencyOk (vertexCount s) (classAt s) (jdmOf (s .journal)) (s .adjacency) ≡ true)
@@ -95,14 +93,13 @@ module _ (s : State) where
       }
 
   pub valid-facts : lengthsOk s ≡ true → valid s ≡ true → StateFacts s
-  unfolding matrixOk
   valid-facts l h =
       record {
         journal-length = lengths-journal l;
         adjacency-length = lengths-adjacency l;
         journal-ok = valid-journal h;
-        empty = λ e. all-zero-at (s .adjacency) (rw (eq-eqb (phase (s .journal)) phaseTaking e) at (matrix-ok h));
-        laid = λ e. laid-facts (valid-journal h) (rw e at (matrix-ok h));
+        empty = λ e. all-zero-at (s .adjacency) (matrix-zero e h);
+        laid = λ e. laid-facts (valid-journal h) (matrix-laid e h);
       }
 
   pub facts-valid-0 : phase (s .journal) ≡ phaseTaking → journalOk (s .journal) ≡ true → ((p : ℕ) → getD (s .adjacency) p 0 ≡ 0) → valid s ≡ true

@@ -4,3 +4,4 @@ pub mod Checks
 pub mod Front
 pub mod Graph
 pub mod Opened
+pub mod Clauses
