@@ -25,6 +25,7 @@ use Rattle.graph.proofs.Passes.{passes-passed}
 use Rattle.graph.proofs.Realizability.{has-table, has-isolated}
 use Rattle.journal.specs.Journal.{phaseLaid, jdmOf, isolatedOf, tableOf}
 use Rattle.journal.proofs.Table.{jdm-table}
+use Rattle.adjacency.specs.Clauses.{ZeroOutside}
 use Rattle.adjacency.specs.Adjacency.{edge}
 use Rattle.state.specs.State.{State, withMatrix}
 use Rattle.state.specs.Checks.{phaseVerdict}
@@ -105,6 +106,7 @@ module _ (s : State) where
     pub written : length (r .records) ≡ joinRecordSize * r .joins
     pub all : sumTo mostClasses (rowSum (jdmOf (s .journal))) ≡ 2 * edgeTotal (withMatrix s (r .adjacency))
     pub simple : Simple (vertexCount s) (edge (r .adjacency))
+    pub outside : ZeroOutside (vertexCount s) (r .adjacency)
     pub table : (k l : ℕ) → ownJdm (vertexCount s) (edge (r .adjacency)) k l ≡ jdmOf (s .journal) k l
     pub no-edge : isolated (vertexCount s) (edge (r .adjacency)) ≡ isolatedOf (s .journal)
     pub degrees-exact : (v : ℕ) → v < vertexCount s → degree (vertexCount s) (edge (r .adjacency)) v ≡ classDegree (classAt s v)
@@ -124,6 +126,7 @@ module _ (s : State) where
         written = recorded;
         all = end .missing;
         simple = end .filling .partial .simple;
+        outside = end .outside;
         table = has-table (tableOf (s .journal)) summed passed (edge g′) (end .filling .partial) (end .full);
         no-edge = has-isolated (tableOf (s .journal)) summed passed (edge g′) (end .filling .partial) (end .full);
         degrees-exact =

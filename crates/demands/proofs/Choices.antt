@@ -91,7 +91,7 @@ module _ (s : State) (f : Choice) where
   pub outcome-has : ValidLaid s → HasTable (tableOf (s .journal)) completedState
   outcome-has laid =
       let x = outcome-works f s laid in
-      record { simple = x .simple; exact = x .table; exact-isolated = x .no-edge }
+      record { simple = x .simple; exact = x .table; exact-isolated = x .no-edge; outside = x .outside }
 
   pub after-choice : (out : List ℕ) (joins switches n : ℕ) → choiceAnswer f s (length out) ≡ Completed joins switches n
       → choiceAfter f s (length out) ≡ completedState

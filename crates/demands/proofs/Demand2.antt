@@ -51,7 +51,8 @@ use Rattle.demands.specs.Matrix.{ShortFor, HasTable}
 use Rattle.demands.specs.Accepted.{accepted}
 use Rattle.demands.specs.Demand2.{answered, answeredSum, addRefused, removeRefused, quietly, quiet, Demand2}
 use Rattle.demands.proofs.Choices.{outcome-has, after-choice}
-use Rattle.demands.proofs.Reach.{Reach, reach, reach-cleared, after-call, same-next, after-append}
+use Rattle.demands.specs.Reach.{Reach}
+use Rattle.demands.proofs.Reach.{reach, reach-cleared, after-call, same-next, after-append}
 use Rattle.demands.proofs.Kept.{accepted-once}
 
 -- the numbers that came already are those below m
@@ -251,6 +252,7 @@ none-short-has s lengths is-valid phased full =
       simple = laid .partial .simple;
       exact = has-table (tableOf (s .journal)) table passed (edge (s .adjacency)) (laid .partial) filled;
       exact-isolated = has-isolated (tableOf (s .journal)) table passed (edge (s .adjacency)) (laid .partial) filled;
+      outside = laid .outside;
     }
   where
     facts : StateFacts s

@@ -23,7 +23,7 @@ use Rattle.journal.specs.Journal.{phase, jdmOf, tableOf}
 use Rattle.journal.proofs.Table.{jdm-table}
 use Rattle.adjacency.specs.Adjacency.{edge}
 use Rattle.state.specs.State.{State, withMatrix, cleared}
-use Rattle.state.specs.Valid.{valid, ValidLaid}
+use Rattle.state.specs.Valid.{lengthsOk, valid, ValidLaid}
 use Rattle.state.specs.Laid.{vertexCount, classAt}
 use Rattle.state.proofs.Facts.{edgeTotal, StateFacts, Laid, valid-facts}
 use Rattle.lay_out.proofs.LayOut.{lay-out-honest}
@@ -40,7 +40,8 @@ use Rattle.demands.specs.Tally.{Tally, noTally, missingEdges, tallyAll}
 use Rattle.demands.specs.Matrix.{ShortFor}
 use Rattle.demands.specs.Demand3 as D
 use Rattle.demands.proofs.Choices.{outcome-answer, after-choice, choice-has}
-use Rattle.demands.proofs.Reach.{Reach, reach, laid-counted, phase-0, phase-1}
+use Rattle.demands.specs.Reach.{Reach}
+use Rattle.demands.proofs.Reach.{reach, phase-0, phase-1}
 
 -- Everything is first said of the journal's own table, which is the tally's.
 module _ (s : State) (checked : ValidLaid s) where
@@ -98,6 +99,7 @@ module _ (s : State) (checked : ValidLaid s) where
           record {
             switches = joinSwitches (vertexCount s) (classAt s) (s .adjacency) v w;
             answer = e;
+            lengths = subst (λ (y : State). lengthsOk y ≡ true) (sym (to e)) (x .state .lengths);
             is-valid = subst (λ (y : State). valid y ≡ true) (sym (to e)) (x .state .is-valid);
             linked = subst (λ (y : State). edge (y .adjacency) v w ≡ 1) (sym (to e)) (x .linked);
             one-more = subst (λ (y : State). D.edgesLaid (tableOf (s .journal)) y ≡ edgeTotal s + 1) (sym (to e)) (x .one-more);
@@ -206,8 +208,8 @@ demand-3 calls = (not-laid, laid-out)
               let q = some-pair (afterAll cleared calls) valid-laid k l
               (subst (λ (u : DegreeTable). ShortFor u (afterAll cleared calls) k l) (sym (r .table)) h) in
               (q .0, q .1, subst (λ (u : DegreeTable). D.OpenPair u (afterAll cleared calls) (q .0) (q .1)) (r .table) (q .2));
-          completes = completes (afterAll cleared calls) valid-laid (tallyAll cleared noTally calls) (r .table) (laid-counted _ _ r e);
-          refuses = refuses (afterAll cleared calls) valid-laid (tallyAll cleared noTally calls) (r .table) (laid-counted _ _ r e);
+          completes = completes (afterAll cleared calls) valid-laid (tallyAll cleared noTally calls) (r .table) (r .counted);
+          refuses = refuses (afterAll cleared calls) valid-laid (tallyAll cleared noTally calls) (r .table) (r .counted);
         }
       where
         valid-laid : ValidLaid (afterAll cleared calls)

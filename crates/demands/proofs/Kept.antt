@@ -28,7 +28,8 @@ use Rattle.demands.specs.Tally.{Tally, noTally, told, tally, tallyAll}
 use Rattle.demands.specs.Accepted.{accepted, AcceptedIn}
 use Rattle.demands.specs.ReadBack.{Holds, ReadsBack}
 use Rattle.demands.proofs.Journals.{add-journal, remove-journal, complete-journal}
-use Rattle.demands.proofs.Reach.{Reach, reach, after-call, after-append}
+use Rattle.demands.specs.Reach.{Reach}
+use Rattle.demands.proofs.Reach.{reach, after-call, after-append}
 
 -- the journal has b as its block of this number
 record Has (s : State) (number : ℕ) (b : List ℕ) : Type 0 where

@@ -26,7 +26,8 @@ use Rattle.demands.specs.Tally.{noTally, missingEdges, tallyAll}
 use Rattle.demands.specs.Demand3.{Completes}
 use Rattle.demands.specs.WithinReach.{Replica, Pair, Order, ascending, adds, removes, NothingToComplete, Drawn, Redrawn, lacking, EveryReplicaWithinReach}
 use Rattle.demands.proofs.Choices.{after-choice}
-use Rattle.demands.proofs.Reach.{Reach, reach, laid-tally, phase-1, after-append}
+use Rattle.demands.specs.Reach.{Reach}
+use Rattle.demands.proofs.Reach.{reach, laid-tally, phase-1, after-append}
 use Rattle.demands.proofs.Demand3.{demand-3}
 use Rattle.demands.proofs.Orders.{order-length}
 use Rattle.demands.proofs.Ascending.{ascending-order}

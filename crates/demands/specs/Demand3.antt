@@ -19,7 +19,7 @@ use Rattle.answer.specs.declared.CompleteAnswer.the-variants.{Completed, Refuse
 use Rattle.answer.specs.declared.Choice.{Choice}
 use Rattle.adjacency.specs.Adjacency.{edge}
 use Rattle.state.specs.State.{State, cleared}
-use Rattle.state.specs.Valid.{valid}
+use Rattle.state.specs.Valid.{lengthsOk, valid}
 use Rattle.lay_out.specs.LayOut.{layOutAnswer}
 use Rattle.add_edge.specs.Add.{addAnswer, addAfter}
 use Rattle.join_records.specs.Record.{joinRecordSize}
@@ -46,10 +46,11 @@ pub record OpenPair (t : DegreeTable) (s : State) (v w : ℕ) : Type 0 where
   pub unlinked : edge (s .adjacency) v w ≢ 1
   pub short : ShortFor t s (vertexClass t v) (vertexClass t w)
 
--- joining v and w is not refused; afterwards the state is valid, the pair is linked, and there is exactly one edge more
+-- joining v and w is not refused; afterwards the state has its lengths and is valid, the pair is linked, and there is exactly one edge more
 pub record CanBeJoined (t : DegreeTable) (s : State) (v w : ℕ) : Type 0 where
   pub switches : Switches
   pub answer : addAnswer s v w ≡ Added switches
+  pub lengths : lengthsOk (addAfter s v w) ≡ true
   pub is-valid : valid (addAfter s v w) ≡ true
   pub linked : edge (addAfter s v w .adjacency) v w ≡ 1
   pub one-more : edgesLaid t (addAfter s v w) ≡ edgesLaid t s + 1

@@ -2,6 +2,7 @@ pub mod Calls
 pub mod Answers
 pub mod Matrix
 pub mod Tally
+pub mod Reach
 pub mod Accepted
 pub mod Demand1
 pub mod Demand2

@@ -55,7 +55,8 @@ use Rattle.demands.specs.Calls.{Change, take, layOut, add, remove, complete, Re
 use Rattle.demands.specs.Answers.{six, nine, answerOf}
 use Rattle.demands.specs.Tally.{Tally, noTally, told, tally}
 use Rattle.trying.specs.Cases.{Step, Case, sameList, edgesOf, holdsFrom, allHold, smallest, SmallestHolds}
-use Rattle.demands.proofs.Reach.{Reach, reach-cleared, after-call}
+use Rattle.demands.specs.Reach.{Reach}
+use Rattle.demands.proofs.Reach.{reach-cleared, after-call}
 
 -- The answers past the checks 1 and 2.
 abbrev phaseRest : ℕ → State → Verdict
