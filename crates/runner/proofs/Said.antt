@@ -27,8 +27,10 @@ use Rattle.complete_shuffled.proofs.Works.{outcome-works}
 use Rattle.text.specs.Text.{refusedLine}
 use Rattle.text.proofs.Written.{Written}
 use Rattle.options.specs.declared.Form.{Form}
-use Rattle.runner.specs.Program.{takeAll, stateText, joinRecordsMost, completedText, laidText, takenText, textFrom, textMost}
-use Rattle.runner.proofs.Taking.{taken-matrix}
+use Rattle.input_blocks.specs.Blocks.{takeAll}
+use Rattle.input_blocks.proofs.Taking.{taken-matrix}
+use Rattle.state_text.specs.StateText.{stateText, textMost}
+use Rattle.runner.specs.Program.{joinRecordsMost, completedText, laidText, takenText, textFrom}
 use Rattle.runner.proofs.Room.{laid-count, text-fits}
 
 -- the text t stands at the start of the list l, which is then m, and p is its length

@@ -1,4 +1,4 @@
--- `runner::put_state_text` meets its contract: its list is never refused.
+-- `state_text::put_state_text` meets its contract: its list is never refused.
 -- Assumes nothing.
 use Prim.Native.Nat.{ℕ, _*_}
 use native.Mathlib.Omega.{arith}
@@ -6,9 +6,9 @@ use borrow.Author.Needs.{needs}
 use lib.ListN.{replicate, length-replicate}
 use Rattle.state.specs.State.{stateOf}
 use Rattle.complete.specs.Complete.{mostEdges}
-use Rattle.runner.proofs.Room.{never-refused, listed, passes, lines-fit}
-use Rattle.runner.proofs.put_state_text.Statement.{statement}
-use Rattle.runner.proofs.put_state_text.Tie as tie
+use Rattle.state_text.proofs.Room.{never-refused, listed, passes, lines-fit}
+use Rattle.state_text.proofs.put_state_text.Statement.{statement}
+use Rattle.state_text.proofs.put_state_text.Tie as tie
 
 pub put-state-text-spec : {M : Type 1} → statement M
 put-state-text-spec =

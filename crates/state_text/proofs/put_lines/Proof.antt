@@ -1,4 +1,4 @@
--- `runner::put_lines` meets its contract.
+-- `state_text::put_lines` meets its contract.
 -- Assumes nothing.
 use mathlib.Core.Path.{_∙_}
 use Prim.Native.Nat.{_/_}
@@ -9,8 +9,8 @@ use lib.ListN.{length, length-append}
 use Rattle.text.specs.Text.{headLine, edgeLines}
 use Rattle.text.proofs.Decimal.{head-length}
 use Rattle.text.proofs.Written.{fits-next, written-next}
-use Rattle.runner.proofs.put_lines.Statement.{statement}
-use Rattle.runner.proofs.put_lines.Tie as tie
+use Rattle.state_text.proofs.put_lines.Statement.{statement}
+use Rattle.state_text.proofs.put_lines.Tie as tie
 
 pub put-lines-spec : {M : Type 1} → statement M
 put-lines-spec =

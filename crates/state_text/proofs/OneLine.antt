@@ -18,8 +18,8 @@ use Rattle.edge_lists.specs.EdgeList.{listVerdict}
 use Rattle.graph6.specs.Format.{bodyMost}
 use Rattle.graph6_write.specs.Write.{writeText, writeAnswer, writeOutput}
 use Rattle.text.specs.Text.{newline}
-use Rattle.runner.specs.Program.{textMost}
-use Rattle.runner.proofs.Room.{text-fits-room}
+use Rattle.state_text.specs.StateText.{textMost}
+use Rattle.state_text.proofs.Room.{text-fits-room}
 
 module _ (e : List ℕ) (n : ℕ) (out : List ℕ) (passes : listVerdict e n ≡ Go) (room : textMost ≤ length out)
     (a : WrittenAnswer) (out′ : List ℕ) (h : (a ≡ writeAnswer e n (length out)) × (out′ ≡ writeOutput (writeAnswer e n (length out)) e n out)) where

@@ -1,4 +1,4 @@
--- `runner::take_all` meets its contract: the blocks so far went into the journal.
+-- `input_blocks::take_all` meets its contract: the blocks so far went into the journal.
 -- Assumes nothing.
 use mathlib.Core.Path.{_≡_, refl}
 use Prim.Native.Nat.{_≤_, _-_}
@@ -7,9 +7,9 @@ use borrow.Author.Needs.{needs}
 use lib.ListN.{length}
 use Rattle.finite.proofs.Fold.{foldTo-none}
 use Rattle.state.specs.State.{stateOf}
-use Rattle.runner.proofs.Taking.{Went, went-next, first-refusal, all-went}
-use Rattle.runner.proofs.take_all.Statement.{statement}
-use Rattle.runner.proofs.take_all.Tie as tie
+use Rattle.input_blocks.proofs.Taking.{Went, went-next, first-refusal, all-went}
+use Rattle.input_blocks.proofs.take_all.Statement.{statement}
+use Rattle.input_blocks.proofs.take_all.Tie as tie
 
 abbrev Inv-loop : tie.InvT-loop
 Inv-loop journal₀ adjacency input n number₀ journal number =

@@ -21,7 +21,7 @@ use Rattle.state.specs.State.{State, withJournal}
 use Rattle.state.proofs.Facts.{valid-journal}
 use Rattle.take_block.specs.Take.{takeAnswer, afterTake, takeAfter}
 use Rattle.take_block.proofs.Take.{taken-facts, held-facts}
-use Rattle.runner.specs.Program.{blocksIn, blockIn, Taking, takeVerdict, takeNext, takeAll}
+use Rattle.input_blocks.specs.Blocks.{blocksIn, blockIn, Taking, takeVerdict, takeNext, takeAll}
 
 abbrev pub IsGo : Verdict → Type 0
 IsGo Go = Unit {0}

@@ -1,10 +1,10 @@
--- `runner::take_one` meets its contract.
+-- `input_blocks::take_one` meets its contract.
 -- Assumes nothing.
 use mathlib.Core.Path.{sym, ap, _∙_}
 use borrow.Author.Needs.{needs}
-use Rattle.runner.specs.Program.{takeVerdict}
-use Rattle.runner.proofs.take_one.Statement.{statement}
-use Rattle.runner.proofs.take_one.Tie as tie
+use Rattle.input_blocks.specs.Blocks.{takeVerdict}
+use Rattle.input_blocks.proofs.take_one.Statement.{statement}
+use Rattle.input_blocks.proofs.take_one.Tie as tie
 
 pub take-one-spec : {M : Type 1} → statement M
 take-one-spec =

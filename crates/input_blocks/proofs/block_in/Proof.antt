@@ -1,10 +1,10 @@
--- `runner::block_in` meets its contract.
+-- `input_blocks::block_in` meets its contract.
 -- Assumes nothing.
 use native.Mathlib.Nat.{add-sub-cancel-left}
 use native.Mathlib.Omega.{arith}
-use Rattle.runner.proofs.Taking.{rest-block}
-use Rattle.runner.proofs.block_in.Statement.{statement}
-use Rattle.runner.proofs.block_in.Tie as tie
+use Rattle.input_blocks.proofs.Taking.{rest-block}
+use Rattle.input_blocks.proofs.block_in.Statement.{statement}
+use Rattle.input_blocks.proofs.block_in.Tie as tie
 
 pub block-in-spec : {M : Type 1} → statement M
 block-in-spec =

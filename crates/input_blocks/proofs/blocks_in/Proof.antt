@@ -1,8 +1,8 @@
--- `runner::blocks_in` meets its contract.
+-- `input_blocks::blocks_in` meets its contract.
 -- Assumes nothing.
 use native.Mathlib.Omega.{arith}
-use Rattle.runner.proofs.blocks_in.Statement.{statement}
-use Rattle.runner.proofs.blocks_in.Tie as tie
+use Rattle.input_blocks.proofs.blocks_in.Statement.{statement}
+use Rattle.input_blocks.proofs.blocks_in.Tie as tie
 
 pub blocks-in-spec : {M : Type 1} → statement M
 blocks-in-spec =

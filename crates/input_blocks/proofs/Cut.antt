@@ -1,4 +1,4 @@
--- How the input is cut into blocks (specs/Theorems.antt `InputCut`).
+-- How the input is cut into blocks (specs/Blocks.antt `InputCut`).
 -- Assumes nothing.
 use mathlib.Core.Path.{_≡_, refl, sym, ap, _∙_}
 use mathlib.Core.List.{List, _++_}
@@ -11,8 +11,7 @@ use Rattle.finite.specs.Range.{catTo}
 use Rattle.finite.proofs.Fold.{catTo-none, catTo-more}
 use Rattle.slices.proofs.Part.{length-part}
 use Rattle.table.specs.Block.{blockMost}
-use Rattle.runner.specs.Program.{blocksIn, blockIn}
-use Rattle.runner.specs.Theorems.{InputCut}
+use Rattle.input_blocks.specs.Blocks.{blocksIn, blockIn, InputCut}
 
 -- the first m blocks are the input's first bytes
 first-blocks : (input : List ℕ) (m : ℕ) → catTo m (blockIn input) ≡ take (blockMost * m) input

@@ -1,11 +1,11 @@
--- `runner::put_graph6` meets its contract: there is room for every text.
+-- `state_text::put_graph6` meets its contract: there is room for every text.
 -- Assumes nothing.
 use native.Mathlib.Omega.{arith}
 use borrow.Author.Needs.{needs}
 use mathlib.Core.Path.{_∙_}
-use Rattle.runner.proofs.OneLine.{never-refused, len-small, line-length, line-written}
-use Rattle.runner.proofs.put_graph6.Statement.{statement}
-use Rattle.runner.proofs.put_graph6.Tie as tie
+use Rattle.state_text.proofs.OneLine.{never-refused, len-small, line-length, line-written}
+use Rattle.state_text.proofs.put_graph6.Statement.{statement}
+use Rattle.state_text.proofs.put_graph6.Tie as tie
 
 pub put-graph6-spec : {M : Type 1} → statement M
 put-graph6-spec =

@@ -1,8 +1,8 @@
--- `runner::put_list_text` meets its contract.
+-- `state_text::put_list_text` meets its contract.
 -- Assumes nothing.
 use borrow.Author.Needs.{needs}
-use Rattle.runner.proofs.put_list_text.Statement.{statement}
-use Rattle.runner.proofs.put_list_text.Tie as tie
+use Rattle.state_text.proofs.put_list_text.Statement.{statement}
+use Rattle.state_text.proofs.put_list_text.Tie as tie
 
 pub put-list-text-spec : {M : Type 1} → statement M
 put-list-text-spec =
