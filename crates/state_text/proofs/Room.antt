@@ -20,7 +20,7 @@ use Rattle.state.specs.Laid.{vertexCount, classAt}
 use Rattle.state.proofs.Facts.{edgeTotal, StateFacts, Laid, valid-facts}
 use Rattle.state.proofs.Checks.{laid-goes}
 use Rattle.adjacency.specs.Adjacency.{edge}
-use Rattle.edge_list.specs.List.{listBytes, listAnswer, outputListed, listOutput}
+use Rattle.edge_list.specs.List.{listAnswer, outputListed, listOutput}
 use Rattle.edge_lists.specs.EdgeList.{listVerdict, graphOf}
 use Rattle.edge_lists.proofs.List.{verdict-passed, list-simple}
 use Rattle.edge_lists.proofs.Listing.{list-length}
@@ -35,7 +35,7 @@ use Rattle.text.specs.Text.{newline, refusedLine, edgeLines, headLine, headMost
 use Rattle.text.proofs.Decimal.{refused-length, head-length, edges-length}
 use Rattle.options.specs.declared.Form.{Form}
 use Rattle.options.specs.declared.Form.the-variants.{Lines, Graph6}
-use Rattle.state_text.specs.StateText.{stateText, textMost}
+use Rattle.state_text.specs.StateText.{stateList, stateText, textMost}
 
 -- the graph6 text of a list that passes the checks 19
 pub text-fits-room : (e : List ℕ) (n : ℕ) → listVerdict e n ≡ Go → length (writeText e n) ≤ 4 + bodyMost
@@ -55,62 +55,57 @@ module _ (s : State) (checked : ValidLaid s) where
       room (vertexCount s) (classAt s) (jdmOf (s .journal)) mostEdges (few-edges (vertexCount s) (classAt s) (jdmOf (s .journal)) (laid .target) (laid .vertices-le)) (s .adjacency)
       (record { sized = facts .adjacency-length; few = laid .vertices-le; target = laid .target; partial = laid .partial })
 
-  list-twice : length (listBytes (vertexCount s) (s .adjacency)) ≡ 2 * edgeTotal s
+  list-twice : length (stateList s) ≡ 2 * edgeTotal s
   list-twice = list-length (vertexCount s) (edge (s .adjacency)) (laid .partial .simple)
 
-  pub list-most : length (listBytes (vertexCount s) (s .adjacency)) ≤ 2 * mostEdges
+  list-most : length (stateList s) ≤ 2 * mostEdges
   list-most = omega (arith, list-twice, edges-most)
 
-  -- the list is written where there is room for 4,000 edges
-  pub list-written : listAnswer s (2 * mostEdges) ≡ Written (length (listBytes (vertexCount s) (s .adjacency)))
-  list-written = rw (laid-goes s checked, le-leb (length (listBytes (vertexCount s) (s .adjacency))) (2 * mostEdges) list-most)
+  -- what listing into an output with room for 4,000 edges answers and leaves
+  module _ (empty : List ℕ) (r : WrittenAnswer) (out : List ℕ) (e : (r ≡ listAnswer s (length empty)) × (out ≡ listOutput s empty))
+      (wide : 2 * mostEdges ≤ length empty) where
+    fits : length (stateList s) ≤ length empty
+    fits = omega (arith, wide, list-most)
 
-  -- what listing into so long an output answers and leaves
-  module _ (empty : List ℕ) (wide : length empty ≡ 2 * mostEdges) (r : WrittenAnswer) (out : List ℕ)
-      (e : (r ≡ listAnswer s (length empty)) × (out ≡ listOutput s empty)) where
-    answer-written : listAnswer s (length empty) ≡ Written (length (listBytes (vertexCount s) (s .adjacency)))
-    answer-written = ap (λ (k : ℕ). listAnswer s k) wide ∙ list-written
+    answer-written : listAnswer s (length empty) ≡ Written (length (stateList s))
+    answer-written = rw (laid-goes s checked, le-leb (length (stateList s)) (length empty) fits)
 
     pub never-refused : (q : Refusal) → r ≡ WriteRefused q → ⊥
-    never-refused q h = refused-not-written q (length (listBytes (vertexCount s) (s .adjacency))) (sym h ∙ e .0 ∙ answer-written)
+    never-refused q h = refused-not-written q (length (stateList s)) (sym h ∙ e .0 ∙ answer-written)
 
-    pub listed : (len : ℕ) → r ≡ Written len
-        → (len ≡ length (listBytes (vertexCount s) (s .adjacency))) × (take len out ≡ listBytes (vertexCount s) (s .adjacency)) × (len ≤ length out)
+    pub listed : (len : ℕ) → r ≡ Written len → (take len out ≡ stateList s) × (len ≤ length out)
     listed len h =
-        (same, rw (same, written) (take-sets empty (listBytes (vertexCount s) (s .adjacency)) fits), rw (written, length-sets) (omega (arith, same, fits)))
+        (rw (same, written) (take-sets empty (stateList s) fits), rw (written, length-sets) (omega (arith, same, fits)))
       where
-        same : len ≡ length (listBytes (vertexCount s) (s .adjacency))
-        same = written-length (length (listBytes (vertexCount s) (s .adjacency))) len (sym answer-written ∙ sym (e .0) ∙ h)
+        same : len ≡ length (stateList s)
+        same = written-length (length (stateList s)) len (sym answer-written ∙ sym (e .0) ∙ h)
 
-        written : out ≡ sets empty 0 (listBytes (vertexCount s) (s .adjacency))
+        written : out ≡ sets empty 0 (stateList s)
         written = e .1 ∙ ap (λ (a : WrittenAnswer). outputListed a s empty) answer-written
 
-        fits : length (listBytes (vertexCount s) (s .adjacency)) ≤ length empty
-        fits = omega (arith, wide, list-most)
-
-  lines-most : length (edgeLines (listBytes (vertexCount s) (s .adjacency))) ≤ edgeMost * mostEdges
+  lines-most : length (edgeLines (stateList s)) ≤ edgeMost * mostEdges
   lines-most =
-      omega (arith, list-twice, edges-most, edges-length (listBytes (vertexCount s) (s .adjacency)) small)
+      omega (arith, list-twice, edges-most, edges-length (stateList s) small)
     where
-      small : (i : ℕ) → i < length (listBytes (vertexCount s) (s .adjacency)) / 2
-          → (getD (listBytes (vertexCount s) (s .adjacency)) (2 * i) 0 < 1000) × (getD (listBytes (vertexCount s) (s .adjacency)) (2 * i + 1) 0 < 1000)
+      small : (i : ℕ) → i < length (stateList s) / 2
+          → (getD (stateList s) (2 * i) 0 < 1000) × (getD (stateList s) (2 * i + 1) 0 < 1000)
       small i l =
           let r = list-rising (vertexCount s) (edge (s .adjacency)) (laid .vertices-le) in
           (omega (arith, r .ordered i l, r .vertex i l, laid .vertices-le), omega (arith, r .vertex i l, laid .vertices-le))
 
-  pub lines-fit : headMost + length (edgeLines (listBytes (vertexCount s) (s .adjacency))) ≤ textMost
+  pub lines-fit : headMost + length (edgeLines (stateList s)) ≤ textMost
   lines-fit = omega (arith, lines-most)
 
   -- the list passes the checks 19
-  pub passes : listVerdict (listBytes (vertexCount s) (s .adjacency)) (vertexCount s) ≡ Go
+  pub passes : listVerdict (stateList s) (vertexCount s) ≡ Go
   passes = list-passed (vertexCount s) (edge (s .adjacency)) (laid .vertices-le)
 
   pub state-fits : (form : Form) (n switches : ℕ) → n ≡ vertexCount s → length (stateText form n switches s) ≤ textMost
   state-fits Lines n switches count =
-      let e = listBytes (vertexCount s) (s .adjacency) in
+      let e = stateList s in
       omega (arith, lines-fit, length-append (headLine n (length e / 2) switches) (edgeLines e), head-length n (length e / 2) switches)
   state-fits Graph6 n switches count =
-      let e = listBytes (vertexCount s) (s .adjacency) in
+      let e = stateList s in
       rw count (omega (arith, length-append (writeText e (vertexCount s)) newline, text-fits-room e (vertexCount s) passes))
 
 pub refused-fits : (r : Refusal) → length (refusedLine r) ≤ textMost

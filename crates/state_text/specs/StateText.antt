@@ -25,9 +25,13 @@ abbrev pub listText : Form → ℕ → ℕ → List ℕ → List ℕ
 listText Lines n switches e = headLine n (length e / 2) switches ++ edgeLines e
 listText Graph6 n switches e = writeText e n ++ newline
 
+-- the edges of a completed state
+abbrev pub stateList : State → List ℕ
+stateList s = listBytes (vertexCount s) (s .adjacency)
+
 -- the text of a completed state
 abbrev pub stateText : Form → ℕ → ℕ → State → List ℕ
-stateText form n switches s = listText form n switches (listBytes (vertexCount s) (s .adjacency))
+stateText form n switches s = listText form n switches (stateList s)
 
 -- no text is longer
 abbrev pub textMost : ℕ

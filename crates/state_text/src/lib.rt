@@ -1,17 +1,18 @@
 // The text of a completed state, in the form asked for: a first line and a line for each edge, or one line of graph6.
 ghost use mathlib.Core.Path.{_≡_};
 ghost use mathlib.Core.List.{_++_};
-ghost use Prim.Native.Nat.{_+_, _/_, _≤_};
-ghost use lib.ListN.{length};
+ghost use Prim.Native.Nat.{_+_, _*_, _/_, _≤_};
+ghost use lib.ListN.{length, take};
 ghost use lib.Seq.{sets};
 ghost use Rattle.answer.specs.declared.Verdict.the-variants.{Go};
 ghost use Rattle.state.specs.State.{stateOf};
 ghost use Rattle.state.specs.Valid.{ValidLaid};
 ghost use Rattle.state.specs.Laid.{vertexCount};
+ghost use Rattle.complete.specs.Complete.{mostEdges};
 ghost use Rattle.edge_lists.specs.EdgeList.{listVerdict};
 ghost use Rattle.graph6_write.specs.Write.{writeText};
 ghost use Rattle.text.specs.Text.{newline, headLine, edgeLines, headMost};
-ghost use Rattle.state_text.specs.StateText.{listText, stateText, textMost};
+ghost use Rattle.state_text.specs.StateText.{listText, stateList, stateText, textMost};
 use answer::WrittenAnswer;
 use layout::MAX_VERTICES;
 use options::Form;
@@ -67,7 +68,20 @@ fn put_list_text(output: &mut [u8], form: Form, n: usize, switches: usize, edges
     }
 }
 
-// A completed state of n vertices. Its list is never refused: there is room for every edge.
+// Lists a completed state into an output with room for every edge, so that listing is not refused. The list's length.
+fn list_edges(journal: &[u8], adjacency: &[u8], list: &mut [u8]) -> usize
+    requires { ⌜ ValidLaid (stateOf (now journal) (now adjacency)) × (2 * mostEdges ≤ length (now list)) ⌝ }
+    ensures { λ r. ⌜ take r (now (list .exit)) ≡ stateList (stateOf (now (journal .entry)) (now (adjacency .entry))) ⌝ }
+    ensures { λ r. ⌜ r ≤ length (now (list .exit)) ⌝ }
+{
+    let answer = edge_list::edge_list(journal, adjacency, list);
+    match answer {
+        WrittenAnswer::Refused(_) => 0,
+        WrittenAnswer::Written(len) => len,
+    }
+}
+
+// A completed state of n vertices.
 pub fn put_state_text(
     journal: &[u8],
     adjacency: &[u8],
@@ -81,9 +95,6 @@ pub fn put_state_text(
     ensures { λ _. ⌜ now (output .exit) ≡ sets (now (output .entry)) 0 (stateText form n switches (stateOf (now (journal .entry)) (now (adjacency .entry)))) ⌝ }
 {
     let mut list = [0u8; MAX_LIST_BYTES];
-    let answer = edge_list::edge_list(journal, adjacency, &mut list);
-    match answer {
-        WrittenAnswer::Refused(r) => put_refused(output, 0, r),
-        WrittenAnswer::Written(len) => put_list_text(output, form, n, switches, &list[..len]),
-    }
+    let len = list_edges(journal, adjacency, &mut list);
+    put_list_text(output, form, n, switches, &list[..len])
 }
