@@ -12,7 +12,7 @@ ghost use Rattle.state.specs.Laid.{vertexCount};
 ghost use Rattle.complete_shuffled.specs.Outcome.{choiceAnswer, choiceAfter};
 ghost use Rattle.complete_shuffled.specs.Shuffle.{withX};
 ghost use Rattle.state_text.specs.StateText.{textMost};
-ghost use Rattle.runner.specs.Program.{laidText, takenText, programText};
+ghost use Rattle.runner.specs.Program.{joinRecordsMost, laidText, takenText, programText};
 use adjacency::ADJACENCY_BYTES;
 use answer::Choice;
 use answer::CompleteAnswer;
@@ -47,15 +47,16 @@ fn without_x(answer: ShuffleAnswer) -> CompleteAnswer
     }
 }
 
-// Completes by the lowest open pairs, or by those that x picks.
+// Completes by the lowest open pairs, or by those that x picks, with room for every record.
 fn complete_by(
     journal: &[u8],
     adjacency: &mut [u8],
     choice: Choice,
     records: &mut [u8],
 ) -> CompleteAnswer
-    ensures { λ r. ⌜ r ≡ choiceAnswer choice (stateOf (now (journal .entry)) (now (adjacency .entry))) (length (now (records .entry))) ⌝ }
-    ensures { λ r. ⌜ now (adjacency .exit) ≡ choiceAfter choice (stateOf (now (journal .entry)) (now (adjacency .entry))) (length (now (records .entry))) .adjacency ⌝ }
+    requires { ⌜ length (now records) ≡ joinRecordsMost ⌝ }
+    ensures { λ r. ⌜ r ≡ choiceAnswer choice (stateOf (now (journal .entry)) (now (adjacency .entry))) joinRecordsMost ⌝ }
+    ensures { λ _. ⌜ now (adjacency .exit) ≡ choiceAfter choice (stateOf (now (journal .entry)) (now (adjacency .entry))) joinRecordsMost .adjacency ⌝ }
 {
     match choice {
         Choice::Lowest => complete::complete(journal, adjacency, records),
@@ -63,7 +64,7 @@ fn complete_by(
     }
 }
 
-// Completes a laid state of n vertices. There is room for every record.
+// Completes a laid state of n vertices.
 fn put_laid_text(
     journal: &[u8],
     adjacency: &mut [u8],
