@@ -1,19 +1,19 @@
 // The program: builds the replica of the records on standard input and prints it.
 use answer::Choice;
+use input_blocks::MAX_INPUT_BYTES;
 use libc::STDERR_FILENO;
 use libc::STDIN_FILENO;
 use libc::STDOUT_FILENO;
 use options::Form;
 use options::Request;
-use runner::MAX_INPUT_BYTES;
-use runner::MAX_TEXT_BYTES;
+use state_text::MAX_TEXT_BYTES;
 
 // Room for every option and for a number with many zeros before it; a longer word is read as an empty one, which is neither.
 const MAX_WORD_BYTES: usize = 64;
 
 // Whether n bytes are all of the input that can matter. Where fewer came, the input ended or a read failed: one more read tells.
 fn was_read(n: usize) -> bool {
-    if runner::is_enough(n) {
+    if input_blocks::is_enough(n) {
         return true;
     }
     let mut more = [0u8; 1];

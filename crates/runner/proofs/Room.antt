@@ -1,140 +1,29 @@
--- The text has room: no layout has more than 4,000 edges, so that neither its list nor its lines are longer than the arrays that hold them.
+-- Every text of the program fits the array that holds it.
 -- Assumes nothing.
-use mathlib.Core.Path.{_≡_, refl, sym, ap, subst, _∙_}
-use mathlib.Core.List.{List}
-use Prim.Native.Nat.{ℕ, _+_, _*_, _/_, _≤_, _<_}
-use native.Mathlib.Omega.{arith}
-use lib.ListN.{length, getD, take, length-append}
-use lib.Seq.{sets, length-sets}
-use borrow.Author.Tests.{le-leb}
-use Rattle.answer.specs.declared.Refusal.{Refusal}
+use mathlib.Core.Path.{_≡_, refl, sym, ap, _∙_}
+use Prim.Native.Nat.{ℕ, _≤_}
+use lib.ListN.{length}
 use Rattle.answer.specs.declared.Verdict.{Verdict}
 use Rattle.answer.specs.declared.Verdict.the-variants.{Go, Stop}
 use Rattle.answer.specs.declared.LayOutAnswer.{LayOutAnswer}
 use Rattle.answer.specs.declared.LayOutAnswer.the-variants.{LaidOut, Refused as LayOutRefused}
 use Rattle.answer.specs.declared.CompleteAnswer.{CompleteAnswer}
 use Rattle.answer.specs.declared.CompleteAnswer.the-variants.{Completed, Refused as CompleteRefused}
-use Rattle.answer.specs.declared.WrittenAnswer.{WrittenAnswer}
-use Rattle.answer.specs.declared.WrittenAnswer.the-variants.{Written, Refused as WriteRefused}
 use Rattle.answer.specs.declared.Choice.{Choice}
-use Rattle.slices.proofs.Part.{take-sets}
-use Rattle.journal.specs.Journal.{jdmOf}
 use Rattle.state.specs.State.{State, withMatrix}
-use Rattle.state.specs.Valid.{ValidLaid}
-use Rattle.state.specs.Laid.{vertexCount, classAt}
-use Rattle.state.proofs.Facts.{edgeTotal, StateFacts, Laid, valid-facts}
-use Rattle.state.proofs.Checks.{laid-goes}
+use Rattle.state.specs.Laid.{vertexCount}
 use Rattle.graph.specs.Tests.{vertices}
 use Rattle.journal.proofs.Laid.{table-laid}
-use Rattle.adjacency.specs.Adjacency.{edge}
 use Rattle.lay_out.specs.LayOut.{layOutAnswer, afterLayOut, layOutAfter}
 use Rattle.lay_out.proofs.LayOut.{lay-out-vertices}
-use Rattle.edge_list.specs.List.{listBytes, listAnswer, outputListed, listOutput}
-use Rattle.edge_lists.specs.EdgeList.{listVerdict, graphOf}
-use Rattle.edge_lists.proofs.List.{verdict-passed, list-simple}
-use Rattle.edge_lists.proofs.Listing.{list-length}
-use Rattle.edge_lists.proofs.Listed.{list-rising, list-passed}
-use Rattle.graph6.specs.Format.{bodyMost}
-use Rattle.graph6.proofs.Text.{text-most}
-use Rattle.graph6_write.specs.Write.{writeText}
-use Rattle.completion.specs.Complete.{mostEdges, afterRan}
-use Rattle.completion.proofs.Cellwise.{room}
-use Rattle.completion.proofs.Works.{few-edges}
+use Rattle.completion.specs.Complete.{afterRan}
 use Rattle.completion.proofs.Entry.{completed-facts}
 use Rattle.shuffled_completion.specs.Outcome.{outcome, choiceAnswer}
 use Rattle.shuffled_completion.proofs.Works.{outcome-works}
-use Rattle.text.specs.Text.{newline, edgeLines, headLine, headMost, edgeMost}
-use Rattle.text.proofs.Decimal.{refused-length, head-length, edges-length}
 use Rattle.options.specs.declared.Form.{Form}
-use Rattle.options.specs.declared.Form.the-variants.{Lines, Graph6}
-use Rattle.runner.specs.Program.{stateText, joinRecordsMost, completedText, laidText, takenText, textMost}
-
-abbrev IsWritten : WrittenAnswer → Type 0
-IsWritten (Written n) = Unit {0}
-IsWritten (WriteRefused r) = ⊥
-
-abbrev count : WrittenAnswer → ℕ
-count (Written n) = n
-count (WriteRefused r) = 0
-
--- the graph6 text of a list that passes the checks 19
-pub text-fits-room : (e : List ℕ) (n : ℕ) → listVerdict e n ≡ Go → length (writeText e n) ≤ 4 + bodyMost
-text-fits-room e n go =
-    let p = verdict-passed e n go in
-    text-most n (graphOf e) (p .few) (list-simple e n (p .well))
-
-module _ (s : State) (checked : ValidLaid s) where
-  facts : StateFacts s
-  facts = valid-facts s (checked .lengths) (checked .is-valid)
-
-  laid : Laid s
-  laid = facts .laid (checked .phased)
-
-  edges-most : edgeTotal s ≤ mostEdges
-  edges-most =
-      room (vertexCount s) (classAt s) (jdmOf (s .journal)) mostEdges (few-edges (vertexCount s) (classAt s) (jdmOf (s .journal)) (laid .target) (laid .vertices-le)) (s .adjacency)
-      (record { sized = facts .adjacency-length; few = laid .vertices-le; target = laid .target; partial = laid .partial })
-
-  list-twice : length (listBytes (vertexCount s) (s .adjacency)) ≡ 2 * edgeTotal s
-  list-twice = list-length (vertexCount s) (edge (s .adjacency)) (laid .partial .simple)
-
-  pub list-most : length (listBytes (vertexCount s) (s .adjacency)) ≤ 2 * mostEdges
-  list-most = omega (arith, list-twice, edges-most)
-
-  -- the list is written where there is room for 4,000 edges
-  pub list-written : listAnswer s (2 * mostEdges) ≡ Written (length (listBytes (vertexCount s) (s .adjacency)))
-  list-written = rw (laid-goes s checked, le-leb (length (listBytes (vertexCount s) (s .adjacency))) (2 * mostEdges) list-most)
-
-  -- what listing into so long an output answers and leaves
-  module _ (empty : List ℕ) (wide : length empty ≡ 2 * mostEdges) (r : WrittenAnswer) (out : List ℕ)
-      (e : (r ≡ listAnswer s (length empty)) × (out ≡ listOutput s empty)) where
-    answer-written : listAnswer s (length empty) ≡ Written (length (listBytes (vertexCount s) (s .adjacency)))
-    answer-written = ap (λ (k : ℕ). listAnswer s k) wide ∙ list-written
-
-    pub never-refused : (q : Refusal) → r ≡ WriteRefused q → ⊥
-    never-refused q h = subst IsWritten (sym answer-written ∙ sym (e .0) ∙ h) tt
-
-    pub listed : (len : ℕ) → r ≡ Written len
-        → (len ≡ length (listBytes (vertexCount s) (s .adjacency))) × (take len out ≡ listBytes (vertexCount s) (s .adjacency)) × (len ≤ length out)
-    listed len h =
-        (same, rw (same, written) (take-sets empty (listBytes (vertexCount s) (s .adjacency)) fits), rw (written, length-sets) (omega (arith, same, fits)))
-      where
-        same : len ≡ length (listBytes (vertexCount s) (s .adjacency))
-        same = ap count (sym h ∙ e .0 ∙ answer-written)
-
-        written : out ≡ sets empty 0 (listBytes (vertexCount s) (s .adjacency))
-        written = e .1 ∙ ap (λ (a : WrittenAnswer). outputListed a s empty) answer-written
-
-        fits : length (listBytes (vertexCount s) (s .adjacency)) ≤ length empty
-        fits = omega (arith, wide, list-most)
-
-  lines-most : length (edgeLines (listBytes (vertexCount s) (s .adjacency))) ≤ edgeMost * mostEdges
-  lines-most =
-      omega (arith, list-twice, edges-most, edges-length (listBytes (vertexCount s) (s .adjacency)) small)
-    where
-      small : (i : ℕ) → i < length (listBytes (vertexCount s) (s .adjacency)) / 2
-          → (getD (listBytes (vertexCount s) (s .adjacency)) (2 * i) 0 < 1000) × (getD (listBytes (vertexCount s) (s .adjacency)) (2 * i + 1) 0 < 1000)
-      small i l =
-          let r = list-rising (vertexCount s) (edge (s .adjacency)) (laid .vertices-le) in
-          (omega (arith, r .ordered i l, r .vertex i l, laid .vertices-le), omega (arith, r .vertex i l, laid .vertices-le))
-
-  pub lines-fit : headMost + length (edgeLines (listBytes (vertexCount s) (s .adjacency))) ≤ textMost
-  lines-fit = omega (arith, lines-most)
-
-  -- the list passes the checks 19
-  pub passes : listVerdict (listBytes (vertexCount s) (s .adjacency)) (vertexCount s) ≡ Go
-  passes = list-passed (vertexCount s) (edge (s .adjacency)) (laid .vertices-le)
-
-  state-fits : (form : Form) (n switches : ℕ) → n ≡ vertexCount s → length (stateText form n switches s) ≤ textMost
-  state-fits Lines n switches count =
-      let e = listBytes (vertexCount s) (s .adjacency) in
-      omega (arith, lines-fit, length-append (headLine n (length e / 2) switches) (edgeLines e), head-length n (length e / 2) switches)
-  state-fits Graph6 n switches count =
-      let e = listBytes (vertexCount s) (s .adjacency) in
-      rw count (omega (arith, length-append (writeText e (vertexCount s)) newline, text-fits-room e (vertexCount s) passes))
-
-refused-fits : (r : Refusal) → length (Rattle.text.specs.Text.refusedLine r) ≤ textMost
-refused-fits r = omega (arith, refused-length r)
+use Rattle.state_text.specs.StateText.{textMost}
+use Rattle.state_text.proofs.Room.{state-fits, refused-fits}
+use Rattle.runner.specs.Program.{joinRecordsMost, completedText, laidText, takenText}
 
 completed-fits : (form : Form) (choice : Choice) (s : State) (n : ℕ) → n ≡ vertexCount s → length (laidText form choice (LaidOut n) s) ≤ textMost
 completed-fits form choice s n count = go (choiceAnswer choice s joinRecordsMost) refl

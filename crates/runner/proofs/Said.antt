@@ -27,8 +27,10 @@ use Rattle.shuffled_completion.proofs.Works.{outcome-works}
 use Rattle.text.specs.Text.{refusedLine}
 use Rattle.text.proofs.Written.{Written}
 use Rattle.options.specs.declared.Form.{Form}
-use Rattle.runner.specs.Program.{takeAll, stateText, joinRecordsMost, completedText, laidText, takenText, textFrom, textMost}
-use Rattle.runner.proofs.Taking.{taken-matrix}
+use Rattle.input_blocks.specs.Blocks.{takeAll}
+use Rattle.input_blocks.proofs.Taking.{taken-matrix}
+use Rattle.state_text.specs.StateText.{stateText, textMost}
+use Rattle.runner.specs.Program.{joinRecordsMost, completedText, laidText, takenText, textFrom}
 use Rattle.runner.proofs.Room.{laid-count, text-fits}
 
 -- the text t stands at the start of the list l, which is then m, and p is its length
@@ -42,14 +44,11 @@ says t u l p m e w = subst (λ (t : List ℕ). Says t l p m) (sym e) w
 pub says-line : (t u l : List ℕ) (p : ℕ) (m : List ℕ) → t ≡ u → Written l 0 u p m → Says t l p m
 says-line t u l p m e w = says t u l p m e (w .0 ∙ zero-add (length u), w .1)
 
--- after completing, with m bytes for the records
-module _ (form : Form) (choice : Choice) (s : State) (n m : ℕ) (room : m ≡ joinRecordsMost) (a : CompleteAnswer) (g : List ℕ)
-    (answered : a ≡ choiceAnswer choice s m) (left : g ≡ choiceAfter choice s m .adjacency) where
-  answer : a ≡ choiceAnswer choice s joinRecordsMost
-  answer = answered ∙ ap (choiceAnswer choice s) room
-
+-- after completing
+module _ (form : Form) (choice : Choice) (s : State) (n : ℕ) (a : CompleteAnswer) (g : List ℕ)
+    (answered : a ≡ choiceAnswer choice s joinRecordsMost) (left : g ≡ choiceAfter choice s joinRecordsMost .adjacency) where
   pub said-refused : (r : Refusal) → a ≡ CompleteRefused r → laidText form choice (LaidOut n) s ≡ refusedLine r
-  said-refused r h = ap (λ (a : CompleteAnswer). completedText form a n (afterRan a (outcome choice s) s)) (sym answer ∙ h)
+  said-refused r h = ap (λ (a : CompleteAnswer). completedText form a n (afterRan a (outcome choice s) s)) (sym answered ∙ h)
 
   module _ (joins switches written : ℕ) (h : a ≡ Completed joins switches written) where
     completed-is : g ≡ outcome choice s .adjacency
@@ -57,12 +56,12 @@ module _ (form : Form) (choice : Choice) (s : State) (n m : ℕ) (room : m ≡ j
 
     pub said-completed : laidText form choice (LaidOut n) s ≡ stateText form n switches (withMatrix s g)
     said-completed =
-        ap (λ (a : CompleteAnswer). completedText form a n (afterRan a (outcome choice s) s)) (sym answer ∙ h)
+        ap (λ (a : CompleteAnswer). completedText form a n (afterRan a (outcome choice s) s)) (sym answered ∙ h)
         ∙ ap (λ (g : List ℕ). stateText form n switches (withMatrix s g)) (sym completed-is)
 
     pub completed-laid : ValidLaid (withMatrix s g)
     completed-laid =
-        let f = completed-facts s (outcome choice s) m joins switches written (sym answered ∙ h) .facts in
+        let f = completed-facts s (outcome choice s) joinRecordsMost joins switches written (sym answered ∙ h) .facts in
         rw completed-is (outcome-works choice s f .state)
 
 -- laying out leaves the matrix

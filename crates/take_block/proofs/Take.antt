@@ -10,7 +10,7 @@ use lib.ListN.{length}
 use borrow.Author.Tests.{eqb-true, eq-eqb, ne-eqb, leb-true, le-leb, ltb-true, lt-ltb, ltb-false, le-ltb}
 use Rattle.finite.proofs.All.{and-left, and-right, and-both}
 use Rattle.answer.specs.Refusals.{refuse, unless}
-use Rattle.answer.specs.declared.Cause.the-variants.{WrongPhase, BlockDiffers}
+use Rattle.answer.specs.declared.Cause.the-variants.{WrongPhase, BlockDiffers, JournalFull}
 use Rattle.answer.specs.declared.Refusal.{Refusal}
 use Rattle.answer.specs.declared.TakeAnswer.{TakeAnswer}
 use Rattle.answer.specs.declared.TakeAnswer.the-variants.{Taken, Held, Refused}
@@ -110,6 +110,18 @@ module _ (s : State) (number : ℕ) (b : List ℕ) where
         le-leb number (blocks (s .journal)) (omega arith),
         le-ltb number (blocks (s .journal)) (omega arith),
         ne-eqb (phase (s .journal)) phaseTaking (λ z. absurd (omega (arith, z, p))),
+      )
+
+  -- and with 8 where the journal is full
+  pub take-new-full : lengthsOk s ≡ true → valid s ≡ true → wellFormed b ≡ true → number ≡ blocks (s .journal) → phase (s .journal) ≡ phaseTaking
+      → mostBlocks ≤ blocks (s .journal) → takeAnswer s number b ≡ Refused (refuse JournalFull 0 0)
+  take-new-full l v h e p full =
+      take-numbered l v h
+      ∙ rw (
+        le-leb number (blocks (s .journal)) (omega arith),
+        le-ltb number (blocks (s .journal)) (omega arith),
+        eq-eqb (phase (s .journal)) phaseTaking p,
+        le-ltb (blocks (s .journal)) mostBlocks full,
       )
 
   held-not-taken : (t : Bool) (m : ℕ) → unless t (Refused (refuse BlockDiffers 0 0)) Held ≡ Taken m → ⊥

@@ -1,9 +1,13 @@
 -- `runner::complete_by` meets its contract.
 -- Assumes nothing.
+use mathlib.Core.Path.{ap, _∙_}
+use Prim.Native.Nat.{ℕ}
 use borrow.Author.Needs.{needs}
 use lib.ListN.{length}
 use Rattle.state.specs.State.{stateOf}
-use Rattle.completion.specs.Complete.{ranAnswer}
+use Rattle.answer.specs.declared.Choice.the-variants.{Lowest}
+use Rattle.completion.specs.Complete.{ranAnswer, ranAfter}
+use Rattle.shuffled_completion.specs.Outcome.{choiceAnswer, choiceAfter}
 use Rattle.shuffled_completion.specs.Shuffle.{shuffled}
 use Rattle.runner.proofs.complete_by.Statement.{statement}
 use Rattle.runner.proofs.complete_by.Tie as tie
@@ -21,15 +25,22 @@ complete-by-spec =
     (λ c.
     let p = c .before .before .before .before in
     let k = p .before .before .before in
-    rw (k .enum-told .given .1) (p .complete .ensures .0, p .complete .ensures .1 .0))  -- returns
+    let s = k .before .before .before .before .before in
+    let st = stateOf (s .args .journal .now) (s .args .adjacency .now) in
+    rw (k .enum-told .given .1) (
+      p .complete .ensures .0 ∙ ap (choiceAnswer Lowest st) (s .pre),
+      p .complete .ensures .1 .0 ∙ ap (λ (m : ℕ). choiceAfter Lowest st m .adjacency) (s .pre),
+    ))  -- returns
     (λ c. search needs)  -- same-length-3
     (λ c. search needs)  -- same-length-4
     (λ c.
-    let s = c .before .before .before .before .before in
-    let k = s .before .before .before .before in
-    let a = k .before .before .before .before .before .args in
-    let st = stateOf (a .journal .now) (a .adjacency .now) in
-    let m = length (a .records .now) in
+    let p = c .before .before .before .before .before in
+    let k = p .before .before .before .before in
+    let s = k .before .before .before .before .before in
+    let st = stateOf (s .args .journal .now) (s .args .adjacency .now) in
     let r = shuffled st (k .choice .given .0 .0) in
-    rw (k .choice .given .1)
-    (c .without-x .ensures (r .x) (ranAnswer (r .ran) st m) (s .complete-shuffled .ensures .0), s .complete-shuffled .ensures .1 .0)))  -- returns-2
+    rw (k .choice .given .1) (
+      c .without-x .ensures (r .x) (ranAnswer (r .ran) st (length (s .args .records .now))) (p .complete-shuffled .ensures .0)
+          ∙ ap (ranAnswer (r .ran) st) (s .pre),
+      p .complete-shuffled .ensures .1 .0 ∙ ap (λ (m : ℕ). ranAfter (r .ran) st m .adjacency) (s .pre),
+    )))  -- returns-2

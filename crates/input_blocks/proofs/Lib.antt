@@ -1,0 +1,4 @@
+pub mod Taking
+pub mod Cut
+pub mod Enough
+pub mod Sent
