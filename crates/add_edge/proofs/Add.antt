@@ -28,8 +28,8 @@ use Rattle.state.specs.Laid.{vertexCount, classAt, shortAt}
 use Rattle.state.proofs.Facts.{edgeTotal, cellAt, StateFacts, Laid, valid-facts, lengths-both}
 use Rattle.state.proofs.Checks.{laid-passed, laid-goes, pair-passed, pair-goes}
 use Rattle.state.proofs.Graph.{laid-valid}
-use Rattle.joining.specs.Join.{joinBytes, joinSwitches}
-use Rattle.joining.proofs.Bytes.{join-bytes, join-length, join-outside}
+use Rattle.join_bytes.specs.Join.{joinBytes, joinSwitches}
+use Rattle.join_bytes.proofs.Bytes.{join-bytes, join-length, join-outside}
 use Rattle.add_edge.specs.Add.{addAnswer}
 
 -- what the checks of an added edge said

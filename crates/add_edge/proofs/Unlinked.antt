@@ -22,9 +22,10 @@ use Rattle.adjacency.specs.Adjacency.{adjacencySize, edge}
 use Rattle.adjacency.specs.Inner.Degrees.{degreesOf}
 use Rattle.state.specs.State.{State}
 use Rattle.classes.specs.Inner.Block.{startsOf, Numbered, classFrom, blockSum, BlockOf}
-use Rattle.joining.specs.Join.{joinBytes, joinSwitches}
-use Rattle.joining.specs.Inner.Work.{Joinable, Placed}
-use Rattle.joining.specs.declared.End.{End}
+use Rattle.join_bytes.specs.Join.{joinBytes, joinSwitches}
+use Rattle.join_bytes.specs.Inner.Joinable.{Joinable}
+use Rattle.switching.specs.Inner.Work.{Placed}
+use Rattle.switching.specs.declared.End.{End}
 use Rattle.classes.proofs.Blocks.{start-rises, start-most, class-below, class-only, block-cell, table-numbered, table-classes}
 use Rattle.add_edge.specs.Add.{afterAdd}
 use Rattle.add_edge.specs.Inner.Work.{Unlinked, endIn, addedAdjacency}

@@ -15,7 +15,7 @@ use Rattle.adjacency.specs.Adjacency.{edge}
 use Rattle.state.specs.State.{State, withMatrix}
 use Rattle.state.specs.Checks.{phaseVerdict, pairVerdict}
 use Rattle.state.specs.Laid.{vertexCount, classAt}
-use Rattle.joining.specs.Join.{joinBytes, joinSwitches}
+use Rattle.join_bytes.specs.Join.{joinBytes, joinSwitches}
 
 -- on two different vertices that the matrix g of the table t does not link: the check 16, whose places are their classes, the lower first
 abbrev pub addUnlinked : DegreeTable → List ℕ → ℕ → ℕ → AddAnswer

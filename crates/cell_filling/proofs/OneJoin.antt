@@ -12,9 +12,11 @@ use Rattle.finite.proofs.Lowest.{lowest-le, lowest-ge}
 use Rattle.answer.specs.Switches.{switchCount}
 use Rattle.answer.specs.declared.switches.Switches.{Switches}
 use Rattle.graph.specs.Tests.{classDegree}
-use Rattle.joining.specs.Join.{joinBytes, joinSwitches}
+use Rattle.join_bytes.specs.Join.{joinBytes, joinSwitches}
 use Rattle.classes.specs.Inner.Block.{classFrom}
-use Rattle.joining.specs.Inner.Work.{Joinable, Placed, freed}
+use Rattle.join_bytes.specs.Inner.Joinable.{Joinable}
+use Rattle.switching.specs.Inner.Work.{Placed}
+use Rattle.joining.specs.Inner.Work.{freed}
 use Rattle.completion.specs.Choice.{openW, openV}
 use Rattle.join_records.specs.Record.{joinRecordSize, joinRecord}
 use Rattle.completion.specs.Complete.{Ran, joined}

@@ -19,9 +19,9 @@ use Rattle.graph.specs.Tests.{mostClasses, classDegree}
 use Rattle.graph.proofs.Join.{join-works}
 use Rattle.graph.proofs.Resume.{RowsFull, join-row, join-rows}
 use Rattle.adjacency.specs.Adjacency.{edge}
-use Rattle.joining.specs.Join.{transferAt, joinBytes}
+use Rattle.join_bytes.specs.Join.{transferAt, joinBytes}
 use Rattle.joining.specs.Inner.Work.{freed}
-use Rattle.joining.proofs.Bytes.{join-bytes}
+use Rattle.join_bytes.proofs.Bytes.{join-bytes}
 use Rattle.completion.specs.Choice.{openColumn, openW, openV}
 use Rattle.completion.specs.Inner.Cellwise.{Filling}
 use Rattle.cell_filling.specs.Inner.Cursor.{RowsDone, ColumnsDone}

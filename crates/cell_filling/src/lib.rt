@@ -13,7 +13,6 @@ pub mod pair;
 use crate::pair::Cell;
 use crate::pair::open_pair;
 use classes::STARTS;
-use joining::End;
 use joining::both_reliefs;
 use joining::cut_off;
 use joining::join;
@@ -23,6 +22,7 @@ use progress::Totals;
 use progress::advance;
 use progress::record_join;
 use slices::least;
+use switching::End;
 use table::class::class_degree;
 
 // Where the searches in a cell go on: at a row and a column, and for an unsaturated vertex of either class.

@@ -14,10 +14,10 @@ use Rattle.table.specs.Inner.Cells.{matrixOf}
 use Rattle.adjacency.specs.Adjacency.{side, edge}
 use Rattle.classes.specs.Inner.Block.{classFrom}
 use Rattle.join_records.specs.Record.{joinRecordSize, joinRecord}
-use Rattle.joining.specs.Join.{joinBytes, joinSwitches}
+use Rattle.join_bytes.specs.Join.{joinBytes, joinSwitches}
 use Rattle.adjacency.specs.Inner.Degrees.{degreesOf}
-use Rattle.joining.specs.Inner.Work.{Joinable}
-use Rattle.joining.proofs.Untouched.{switches-below}
+use Rattle.join_bytes.specs.Inner.Joinable.{Joinable}
+use Rattle.join_bytes.proofs.Switches.{switches-below}
 use Rattle.open_pairs.specs.Inner.Rows.{Scannable, Summed}
 use Rattle.open_pairs.specs.Inner.Refresh.{Classed, Within}
 use Rattle.completion.specs.Complete.{Ran, joined}

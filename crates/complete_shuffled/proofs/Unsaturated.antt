@@ -13,9 +13,10 @@ use Rattle.graph.specs.Tests.{mostClasses, classDegree}
 use Rattle.adjacency.specs.Adjacency.{side}
 use Rattle.classes.specs.Inner.Block.{classFrom}
 use Rattle.classes.proofs.Blocks.{starts-length, start-most, class-range}
-use Rattle.joining.specs.Join.{joinBytes}
+use Rattle.join_bytes.specs.Join.{joinBytes}
 use Rattle.adjacency.specs.Inner.Degrees.{degreesOf}
-use Rattle.joining.specs.Inner.Work.{Joinable, Placed}
+use Rattle.join_bytes.specs.Inner.Joinable.{Joinable}
+use Rattle.switching.specs.Inner.Work.{Placed}
 use Rattle.progress.specs.Inner.Work.{Arranged, Saturated}
 use Rattle.progress.proofs.Saturated.{low-saturated, saturated-stays}
 use Rattle.complete_shuffled.specs.Inner.Work.{Lows, lowAfter}

@@ -22,7 +22,7 @@ use Rattle.graph.proofs.Completion.{cells-twice}
 use Rattle.graph.specs.Target.{isShort}
 use Rattle.finite.proofs.Sum.{sumTo-mono₂}
 use Rattle.adjacency.specs.Adjacency.{edge}
-use Rattle.joining.specs.Join.{joinBytes}
+use Rattle.join_bytes.specs.Join.{joinBytes}
 use Rattle.completion.specs.Choice.{shortL, shortK, openW, openV}
 use Rattle.completion.specs.Complete.{Ran, next, isIncomplete, run}
 use Rattle.completion.specs.Inner.Cellwise.{cellStep, cellMissing, fillCell, fillRow, fillAll, Filling}

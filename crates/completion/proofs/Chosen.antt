@@ -19,8 +19,8 @@ use Rattle.graph.specs.Tests.{mostClasses, classDegree}
 use Rattle.graph.proofs.OpenPair.{short-has-open-pair}
 use Rattle.graph.proofs.Join.{join-works}
 use Rattle.adjacency.specs.Adjacency.{edge}
-use Rattle.joining.specs.Join.{joinBytes}
-use Rattle.joining.proofs.Bytes.{join-bytes, join-length}
+use Rattle.join_bytes.specs.Join.{joinBytes}
+use Rattle.join_bytes.proofs.Bytes.{join-bytes, join-length}
 use Rattle.completion.specs.Choice.{openColumn, openW, openV}
 use Rattle.completion.specs.Inner.Cellwise.{Filling}
 

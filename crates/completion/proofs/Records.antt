@@ -15,7 +15,7 @@ use Rattle.journal.specs.Journal.{jdmOf}
 use Rattle.state.specs.State.{State}
 use Rattle.state.specs.Laid.{vertexCount, classAt}
 use Rattle.join_records.specs.Record.{joinRecordSize, joinRecord}
-use Rattle.joining.specs.Join.{joinSwitches}
+use Rattle.join_bytes.specs.Join.{joinSwitches}
 use Rattle.completion.specs.Complete.{Ran, fresh, joined, mostEdges, completed}
 use Rattle.completion.proofs.Works.{Good, Chooser, short, next-good, lowest-pair}
 

@@ -23,7 +23,7 @@ use Rattle.graph.proofs.Completion.{completes-by-any-rule}
 use Rattle.layout.specs.Layout.{mostVertices}
 use Rattle.adjacency.specs.Adjacency.{edge}
 use Rattle.adjacency.specs.Clauses.{ZeroOutside}
-use Rattle.joining.proofs.Bytes.{join-bytes, join-outside}
+use Rattle.join_bytes.proofs.Bytes.{join-bytes, join-outside}
 use Rattle.completion.specs.Choice.{shortL, shortK, openW, openV}
 use Rattle.completion.specs.Complete.{Ran, fresh, joined, next, isIncomplete, run, mostEdges}
 use Rattle.completion.specs.Inner.Cellwise.{Filling}

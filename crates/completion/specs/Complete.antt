@@ -19,7 +19,7 @@ use Rattle.adjacency.specs.Adjacency.{edge}
 use Rattle.state.specs.State.{State, withMatrix}
 use Rattle.state.specs.Checks.{phaseVerdict}
 use Rattle.state.specs.Laid.{vertexCount, classAt}
-use Rattle.joining.specs.Join.{joinBytes, joinSwitches}
+use Rattle.join_bytes.specs.Join.{joinBytes, joinSwitches}
 use Rattle.completion.specs.Choice.{shortK, shortL, openV, openW}
 use Rattle.join_records.specs.Record.{joinRecordSize, joinRecord}
 

@@ -40,7 +40,7 @@ use Rattle.state.specs.State.{State}
 use Rattle.state.specs.Checks.{stateVerdict, phaseVerdict, pairVerdict}
 use Rattle.state.specs.Valid.{lengthsOk}
 use Rattle.state.specs.Laid.{vertexCount, classAt, shortAt}
-use Rattle.joining.specs.Join.{joinSwitches}
+use Rattle.join_bytes.specs.Join.{joinSwitches}
 use Rattle.clear.specs.Clear.{afterClear}
 use Rattle.take_block.specs.Take.{takeOnValid, afterTake}
 use Rattle.held_block.specs.Held.{partHeld}

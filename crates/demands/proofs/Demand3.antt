@@ -29,7 +29,7 @@ use Rattle.state.proofs.Facts.{edgeTotal, StateFacts, Laid, valid-facts}
 use Rattle.lay_out.proofs.LayOut.{lay-out-honest}
 use Rattle.add_edge.specs.Add.{addAnswer, afterAdd, addAfter}
 use Rattle.add_edge.proofs.Add.{AddFacts, facts-added, AddWorks, add-works}
-use Rattle.joining.specs.Join.{joinBytes, joinSwitches}
+use Rattle.join_bytes.specs.Join.{joinBytes, joinSwitches}
 use Rattle.join_records.specs.Record.{joinRecordSize}
 use Rattle.completion.specs.Complete.{Ran, missing, afterRan}
 use Rattle.completion.proofs.Entry.{short-refused, CompleteWorks}

@@ -21,8 +21,8 @@ use Rattle.adjacency.proofs.Set.{set-adds, set-removes}
 use Rattle.state.specs.State.{State, stateOf, emptyMatrix}
 use Rattle.state.specs.Valid.{ValidLaid}
 use Rattle.state.proofs.Facts.{cellAt, StateFacts, Laid, valid-facts}
-use Rattle.joining.specs.Join.{joinBytes, joinSwitches}
-use Rattle.joining.proofs.Alone.{room-none, none-alone}
+use Rattle.join_bytes.specs.Join.{joinBytes, joinSwitches}
+use Rattle.join_bytes.proofs.Alone.{room-none, none-alone}
 use Rattle.add_edge.specs.Add.{addAnswer, afterAdd, addAfter}
 use Rattle.add_edge.proofs.Add.{AddFacts, facts-added, add-works}
 use Rattle.remove_edge.specs.Remove.{removeAnswer, afterRemove, removeAfter}

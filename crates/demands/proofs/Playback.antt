@@ -22,7 +22,7 @@ use Rattle.state.specs.State.{State}
 use Rattle.state.specs.Valid.{ValidLaid}
 use Rattle.state.specs.Laid.{vertexCount, classAt}
 use Rattle.state.proofs.Facts.{StateFacts, Laid, valid-facts}
-use Rattle.joining.specs.Join.{joinSwitches}
+use Rattle.join_bytes.specs.Join.{joinSwitches}
 use Rattle.join_records.specs.Record.{joinRecordSize}
 use Rattle.add_edge.specs.Add.{addAnswer, afterAdd, addAfter}
 use Rattle.add_edge.proofs.Add.{AddFacts, added-facts}

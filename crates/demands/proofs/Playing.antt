@@ -22,8 +22,8 @@ use Rattle.graph.proofs.Switch.{switch-works}
 use Rattle.layout.specs.Layout.{mostVertices}
 use Rattle.adjacency.specs.Adjacency.{adjacencySize, edge, setEdge}
 use Rattle.adjacency.proofs.Set.{set-other}
-use Rattle.joining.specs.Join.{substituteAt, transferAt, neighborSwitch, relieveBytes, joinBytes, switchAt, inOrder, joinSwitches}
-use Rattle.joining.proofs.Bytes.{ready-v, pair-w, sized-once}
+use Rattle.join_bytes.specs.Join.{substituteAt, transferAt, neighborSwitch, relieveBytes, joinBytes, switchAt, inOrder, joinSwitches}
+use Rattle.join_bytes.proofs.Bytes.{ready-v, pair-w, sized-once}
 use Rattle.join_records.specs.Record.{joinRecordSize, joinRecord}
 use Rattle.demands.specs.Playback.{Played, removeEdge, addEdge, playTriple, playRecord, play}
 

@@ -24,7 +24,7 @@ use Rattle.journal.specs.Journal.{tableOf}
 use Rattle.adjacency.specs.Adjacency.{edge, setEdge}
 use Rattle.state.specs.Laid.{vertexCount, classAt}
 use Rattle.take_block.specs.Take.{takeAnswer}
-use Rattle.joining.proofs.Alone.{none-alone}
+use Rattle.join_bytes.proofs.Alone.{none-alone}
 use Rattle.add_edge.specs.Add.{addAnswer, afterAdd, addAfter}
 use Rattle.add_edge.proofs.Add.{added-facts}
 use Rattle.join_records.specs.Record.{joinRecordSize}

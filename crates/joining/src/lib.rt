@@ -2,26 +2,19 @@
 // stand beside the matrix.
 ghost use mathlib.Core.Path.{_≡_};
 ghost use Rattle.adjacency.specs.Inner.Degrees.{degreesOf};
-ghost use Rattle.joining.specs.Join.{relieveBytes, joinBytes, joinSwitches};
+ghost use Rattle.join_bytes.specs.Join.{relieveBytes, joinBytes, joinSwitches};
 ghost use Rattle.classes.specs.Inner.Block.{classFrom};
-ghost use Rattle.joining.specs.Inner.Work.{Joinable, Placed, reliefOf, bothReliefs, cutOff, freed};
-
-mod switch;
-
-use crate::switch::link;
-use crate::switch::neighbor_switch;
+ghost use Rattle.join_bytes.specs.Inner.Joinable.{Joinable};
+ghost use Rattle.switching.specs.Inner.Work.{Placed};
+ghost use Rattle.joining.specs.Inner.Work.{reliefOf, bothReliefs, cutOff, freed};
 use answer::switches::Switch;
 use answer::switches::Switches;
 use classes::STARTS;
 use layout::MAX_VERTICES;
+use switching::End;
+use switching::link;
+use switching::neighbor_switch;
 use table::class::class_degree;
-
-// An end of the edge to be: the vertex, its class, and a vertex of the class before which all but the other end are saturated.
-pub struct End {
-    pub at: usize,
-    pub class: usize,
-    pub low: usize,
-}
 
 // What making room at an end took: nothing, or a switch.
 pub enum Relief {

@@ -10,7 +10,7 @@ use Rattle.slices.proofs.Part.{take-written, drop-written, take-sets, drop-sets
 use Rattle.answer.specs.Switches.{switchCount}
 use Rattle.answer.specs.declared.switches.Switches.{Switches}
 use Rattle.join_records.specs.Record.{joinRecordSize, joinRecord}
-use Rattle.joining.specs.Join.{joinBytes, joinSwitches}
+use Rattle.join_bytes.specs.Join.{joinBytes, joinSwitches}
 use Rattle.completion.specs.Complete.{Ran, joined}
 use Rattle.progress.specs.Inner.Work.{WroteRecords}
 

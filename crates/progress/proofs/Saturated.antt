@@ -19,9 +19,9 @@ use Rattle.graph.proofs.Resume.{join-degree}
 use Rattle.layout.specs.Layout.{mostVertices}
 use Rattle.adjacency.specs.Adjacency.{edge}
 use Rattle.adjacency.proofs.Degrees.{degrees-are}
-use Rattle.joining.specs.Join.{joinBytes}
+use Rattle.join_bytes.specs.Join.{joinBytes}
 use Rattle.adjacency.specs.Inner.Degrees.{degreesOf}
-use Rattle.joining.proofs.Bytes.{join-bytes}
+use Rattle.join_bytes.proofs.Bytes.{join-bytes}
 use Rattle.completion.specs.Inner.Cellwise.{Filling}
 use Rattle.classes.specs.Inner.Block.{ClassRange}
 use Rattle.progress.specs.Inner.Work.{Saturated}

@@ -14,9 +14,9 @@ use Rattle.graph.specs.Target.{Open}
 use Rattle.graph.specs.Tests.{leastClass, mostClasses}
 use Rattle.adjacency.specs.Adjacency.{edge}
 use Rattle.join_records.specs.Record.{joinRecordSize}
-use Rattle.joining.specs.Join.{joinSwitches}
-use Rattle.joining.specs.Inner.Work.{Joinable}
-use Rattle.joining.proofs.Relieving.{switches-bytes}
+use Rattle.join_bytes.specs.Join.{joinSwitches}
+use Rattle.join_bytes.specs.Inner.Joinable.{Joinable}
+use Rattle.join_bytes.proofs.Switches.{switches-bytes}
 use Rattle.completion.specs.Choice.{openW, openV}
 use Rattle.completion.specs.Complete.{Ran, joined, mostEdges}
 use Rattle.completion.specs.Inner.Cellwise.{cellStep, cellMissing, fillCell, fillRow}

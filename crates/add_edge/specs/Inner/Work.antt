@@ -13,8 +13,8 @@ use Rattle.layout.specs.Layout.{mostVertices}
 use Rattle.adjacency.specs.Adjacency.{adjacencySize, edge}
 use Rattle.adjacency.specs.Inner.Degrees.{degreesOf}
 use Rattle.classes.specs.Inner.Block.{classFrom}
-use Rattle.joining.specs.Join.{joinBytes}
-use Rattle.joining.specs.declared.End.{End}
+use Rattle.join_bytes.specs.Join.{joinBytes}
+use Rattle.switching.specs.declared.End.{End}
 
 -- g is a partial graph of the table t, with these degrees, and v and w are two vertices that it does not link
 pub record Unlinked (t : DegreeTable) (g degrees : List ℕ) (v w : ℕ) : Type 0 where

@@ -1,7 +1,8 @@
 -- `joining::join` meets its contract: room is made at v, then at w, and then both have room for the edge.
 -- Assumes nothing.
 use borrow.Author.Needs.{needs}
-use Rattle.joining.proofs.Relieving.{reliefs-switches, relief-freed, joinable-next, placed-next, linkable, link-kept, joinable-last, room-v, room-w}
+use Rattle.joining.proofs.Relieving.{reliefs-switches, relief-freed, placed-next, linkable, link-kept}
+use Rattle.join_bytes.proofs.Joinable.{joinable-next, joinable-last, room-v, room-w}
 use Rattle.joining.proofs.join.Statement.{statement}
 use Rattle.joining.proofs.join.Tie as tie
 

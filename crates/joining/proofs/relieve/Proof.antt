@@ -3,7 +3,7 @@
 use mathlib.Core.Path.{refl}
 use native.Mathlib.Omega.{arith}
 use borrow.Author.Needs.{needs}
-use Rattle.joining.proofs.Substitute.{room-in, full-in}
+use Rattle.switching.proofs.Substitute.{room-in, full-in}
 use Rattle.joining.proofs.relieve.Statement.{statement}
 use Rattle.joining.proofs.relieve.Tie as tie
 

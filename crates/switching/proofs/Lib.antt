@@ -1,0 +1,4 @@
+pub mod Degrees
+pub mod Substitute
+pub mod Transfer
+pub mod Steps
