@@ -1,7 +1,7 @@
 -- The input's blocks sent one after the other: those that are taken leave a valid state with their sum, and taking them all ends at the first refusal.
 -- Assumes nothing.
 use mathlib.Core.Path.{_≡_, refl, sym, ap, subst, _∙_}
-use mathlib.Core.Bool.{true, true≢false}
+use mathlib.Core.Bool.{true}
 use mathlib.Core.List.{List}
 use mathlib.Core.Logic.{_⊎_, inl, inr}
 use Prim.Native.Nat.{ℕ, zero, suc, _+_, _≤_, _<_}
@@ -27,7 +27,7 @@ use Rattle.state.specs.Valid.{lengthsOk, valid}
 use Rattle.state.proofs.Facts.{lengths-journal, valid-journal}
 use Rattle.clear.specs.Clear.{ClearedState}
 use Rattle.take_block.specs.Take.{afterTake, takeAfter}
-use Rattle.take_block.proofs.Take.{isTaken, withBlock, taken-facts, facts-taken, held-facts, take-new-full, take-lengths, take-valid, taken-number, taken-table}
+use Rattle.take_block.proofs.Take.{withBlock, taken-facts, facts-taken, held-facts, take-new-full, take-lengths, take-valid, taken-number, taken-table}
 use Rattle.input_blocks.specs.Blocks.{blocksIn, blockIn, Taking, takeVerdict, takeNext, takeAll}
 use Rattle.input_blocks.specs.Taken.{stateAfter, blockAnswer, AllTaken, FirstRefused}
 

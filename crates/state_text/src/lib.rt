@@ -69,7 +69,7 @@ fn put_list_text(output: &mut [u8], form: Form, n: usize, switches: usize, edges
 }
 
 // Lists a completed state into an output with room for every edge, so that listing is not refused. The list's length.
-fn list_edges(journal: &[u8], adjacency: &[u8], list: &mut [u8]) -> usize
+fn put_state_list(journal: &[u8], adjacency: &[u8], list: &mut [u8]) -> usize
     requires { ⌜ ValidLaid (stateOf (now journal) (now adjacency)) × (2 * mostEdges ≤ length (now list)) ⌝ }
     ensures { λ r. ⌜ take r (now (list .exit)) ≡ stateList (stateOf (now (journal .entry)) (now (adjacency .entry))) ⌝ }
     ensures { λ r. ⌜ r ≤ length (now (list .exit)) ⌝ }
@@ -95,6 +95,6 @@ pub fn put_state_text(
     ensures { λ _. ⌜ now (output .exit) ≡ sets (now (output .entry)) 0 (stateText form n switches (stateOf (now (journal .entry)) (now (adjacency .entry)))) ⌝ }
 {
     let mut list = [0u8; MAX_LIST_BYTES];
-    let len = list_edges(journal, adjacency, &mut list);
+    let len = put_state_list(journal, adjacency, &mut list);
     put_list_text(output, form, n, switches, &list[..len])
 }

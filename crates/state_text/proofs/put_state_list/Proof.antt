@@ -1,13 +1,13 @@
--- `state_text::list_edges` meets its contract: listing is not refused.
+-- `state_text::put_state_list` meets its contract: listing is not refused.
 -- Assumes nothing.
 use borrow.Author.Needs.{needs}
 use Rattle.state.specs.State.{stateOf}
 use Rattle.state_text.proofs.Room.{never-refused, listed}
-use Rattle.state_text.proofs.list_edges.Statement.{statement}
-use Rattle.state_text.proofs.list_edges.Tie as tie
+use Rattle.state_text.proofs.put_state_list.Statement.{statement}
+use Rattle.state_text.proofs.put_state_list.Tie as tie
 
-pub list-edges-spec : {M : Type 1} → statement M
-list-edges-spec =
+pub put-state-list-spec : {M : Type 1} → statement M
+put-state-list-spec =
     tie.close (tie.spec
     (λ c κs. tt)  -- edge-list-requires
     (λ c. search needs)  -- enum-told
