@@ -49,7 +49,8 @@ use Rattle.add_edge.specs.Add.{addPair, afterAdd}
 use Rattle.remove_edge.specs.Remove.{afterRemove}
 use Rattle.edge_list.specs.List.{listBytes, listLaid, listAnswer, outputListed}
 use Rattle.edge_lists.specs.EdgeList.{listVerdict}
-use Rattle.jdm_of_edges.specs.Survey.{firstAbove, surveyRecords, surveyListed, surveyAnswer, surveyOutput}
+use Rattle.degree_counts.specs.Above.{firstAbove}
+use Rattle.jdm_of_edges.specs.Survey.{surveyRecords, surveyListed, surveyAnswer, surveyOutput}
 use Rattle.graph6.specs.Format.{sizeOf, tooLarge, wellFormedText}
 use Rattle.graph6_write.specs.Write.{writeText, writeListed, writeAnswer, writeOutput}
 use Rattle.graph6_read.specs.Read.{readList, readAnswer, readOutput}

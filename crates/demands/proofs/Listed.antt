@@ -22,7 +22,9 @@ use Rattle.state.proofs.Facts.{Laid, valid-facts}
 use Rattle.edge_list.specs.List.{listBytes}
 use Rattle.edge_lists.specs.EdgeList.{graphOf}
 use Rattle.edge_lists.proofs.Listed.{list-passed, list-graph}
-use Rattle.jdm_of_edges.specs.Survey.{firstAbove, recordsOf, surveyRecords}
+use Rattle.table_records.specs.Records.{recordsOf}
+use Rattle.degree_counts.specs.Above.{firstAbove}
+use Rattle.jdm_of_edges.specs.Survey.{surveyRecords}
 use Rattle.demands.specs.Listed.{ListSurveyed}
 
 -- the same graph on n vertices has the same table

@@ -11,7 +11,8 @@ use Rattle.state.specs.State.{State}
 use Rattle.state.specs.Valid.{ValidLaid}
 use Rattle.state.specs.Laid.{vertexCount}
 use Rattle.edge_list.specs.List.{listBytes}
-use Rattle.jdm_of_edges.specs.Survey.{recordsOf, surveyRecords, surveyAnswer}
+use Rattle.table_records.specs.Records.{recordsOf}
+use Rattle.jdm_of_edges.specs.Survey.{surveyRecords, surveyAnswer}
 
 abbrev pub ListSurveyed : Type 0
 ListSurveyed =

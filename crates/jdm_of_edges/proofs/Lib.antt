@@ -1,4 +1,1 @@
-pub mod Counting
-pub mod Records
-pub mod ReadBack
 pub mod Survey

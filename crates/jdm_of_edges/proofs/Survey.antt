@@ -18,13 +18,17 @@ use Rattle.slices.proofs.Part.{take-sets, drop-sets}
 use Rattle.layout.specs.Layout.{mostVertices}
 use Rattle.layout.specs.Inner.Arrays.{tableIn}
 use Rattle.edge_lists.specs.EdgeList.{listed, firstBadEdge, listVerdict, graphOf}
-use Rattle.jdm_of_edges.specs.Survey.{firstAbove, recordsOf, surveyRecords, surveyListed, surveyAnswer}
-use Rattle.jdm_of_edges.specs.Inner.Counting.{HasCells, recordsMost}
-use Rattle.jdm_of_edges.specs.Theorem.{Ascending, SurveyExact}
-use Rattle.jdm_of_edges.proofs.Counting.{degree-low, jdm-most, few-edges, class-most}
 use Rattle.edge_lists.proofs.List.{Passed, verdict-passed, list-simple, edges-to}
-use Rattle.jdm_of_edges.proofs.Records.{records-cong, records-whole, records-shown, records-rise}
-use Rattle.jdm_of_edges.proofs.ReadBack.{records-bytes, records-good, records-exact, records-isolated}
+use Rattle.table_records.specs.Records.{recordsOf}
+use Rattle.table_records.specs.Inner.Bounds.{recordsMost}
+use Rattle.table_records.proofs.Records.{records-cong, records-whole, records-shown, records-rise}
+use Rattle.table_records.proofs.ReadBack.{records-bytes, records-good, records-exact, records-isolated}
+use Rattle.degree_counts.specs.Above.{firstAbove}
+use Rattle.degree_counts.proofs.Degrees.{degree-low, class-most}
+use Rattle.cell_counts.specs.Inner.Cells.{HasCells}
+use Rattle.cell_counts.proofs.Cells.{jdm-most, few-edges}
+use Rattle.jdm_of_edges.specs.Survey.{surveyRecords, surveyListed, surveyAnswer}
+use Rattle.jdm_of_edges.specs.Theorem.{Ascending, SurveyExact}
 
 -- what the code counts has the records of the list's own table
 pub own-records : (e : List ℕ) (total z : ℕ) (c : List ℕ) → z ≡ isolated total (graphOf e) → HasCells c total (degree total (graphOf e)) (graphOf e)

@@ -1,3 +1,2 @@
 pub mod Survey
 pub mod Theorem
-pub mod Inner

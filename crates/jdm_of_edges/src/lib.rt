@@ -5,25 +5,24 @@ ghost use lib.ListN.{length};
 ghost use lib.Seq.{sets};
 ghost use Rattle.answer.specs.declared.Verdict.the-variants.{Go};
 ghost use Rattle.edge_lists.specs.EdgeList.{listVerdict, graphOf};
-ghost use Rattle.jdm_of_edges.specs.Survey.{firstAbove, surveyRecords, surveyListed, surveyAnswer, surveyOutput};
-ghost use Rattle.jdm_of_edges.specs.Inner.Counting.{HasDegrees, recordsMost};
-use crate::count::cells_of;
-use crate::count::degrees_of;
-use crate::count::first_above;
-use crate::count::isolated_in;
-use crate::write::put_records;
+ghost use Rattle.table_records.specs.Inner.Bounds.{recordsMost};
+ghost use Rattle.degree_counts.specs.Above.{firstAbove};
+ghost use Rattle.degree_counts.specs.Inner.Degrees.{HasDegrees};
+ghost use Rattle.jdm_of_edges.specs.Survey.{surveyRecords, surveyListed, surveyAnswer, surveyOutput};
 use answer::Cause;
 use answer::Verdict;
 use answer::WrittenAnswer;
 use answer::refuse;
+use cell_counts::cells_of;
+use degree_counts::degrees_of;
+use degree_counts::first_above;
+use degree_counts::isolated_in;
 use edge_lists::list_check;
 use layout::MAX_VERTICES;
 use slices::copy_in;
 use table::cells::CELLS;
 use table::record::RECORD_BYTES;
-
-mod count;
-mod write;
+use table_records::put_records;
 
 // Room for a record of each cell and one of isolated vertices, so that the length is known before a byte of the output changes.
 const MAX_RECORDS_BYTES: usize = RECORD_BYTES * (CELLS + 1);

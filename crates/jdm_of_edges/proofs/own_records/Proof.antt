@@ -3,7 +3,7 @@
 use mathlib.Core.Path.{_∙_}
 use native.Mathlib.Omega.{arith}
 use Rattle.edge_lists.proofs.List.{verdict-passed}
-use Rattle.jdm_of_edges.proofs.Counting.{isolated-same}
+use Rattle.degree_counts.proofs.Degrees.{isolated-same}
 use Rattle.jdm_of_edges.proofs.Survey.{own-records}
 use Rattle.jdm_of_edges.proofs.own_records.Statement.{statement}
 use Rattle.jdm_of_edges.proofs.own_records.Tie as tie

@@ -1,6 +1,7 @@
 -- `jdm_of_edges::survey_listed` meets its contract: each check decides as the definition has it.
 -- Assumes nothing.
-use mathlib.Core.Path.{refl, sym, ap, _∙_}
+use mathlib.Core.Path.{refl, sym, ap, subst, _∙_}
+use Prim.Native.Nat.{ℕ, _<_}
 use native.Mathlib.Omega.{arith}
 use lib.ListN.{length}
 use lib.Seq.{length-sets}
@@ -8,7 +9,7 @@ use borrow.Author.Needs.{needs}
 use borrow.Author.Tests.{le-leb, lt-leb, eq-eqb, ne-eqb}
 use Rattle.answer.specs.declared.WrittenAnswer.the-variants.{Written, Refused}
 use Rattle.edge_lists.proofs.List.{verdict-passed}
-use Rattle.jdm_of_edges.proofs.Counting.{above-same}
+use Rattle.degree_counts.proofs.Degrees.{above-same}
 use Rattle.jdm_of_edges.proofs.Survey.{records-written}
 use Rattle.jdm_of_edges.proofs.survey_listed.Statement.{statement}
 use Rattle.jdm_of_edges.proofs.survey_listed.Tie as tie
@@ -46,7 +47,7 @@ survey-listed-spec =
     let d = f .before .before in
     let a = d .before .before .before .args in
     let above = f .first-above .ensures ∙ above-same (a .edges .now) (d .degrees-of .result) (a .total) (d .degrees-of .ensures) in
-    let short = rw (r .own-records .ensures .0 .0) at (o .if2 .taken) in
+    let short = subst (λ (m : ℕ). length (a .output .now) < m) (r .own-records .ensures .0 .0) (o .if2 .taken) in
     rw (eq-eqb _ _ (sym above ∙ i .if1 .left), lt-leb _ _ short)
     (ap Refused (c .refuse2 .ensures), refl))  -- returns-2
     (λ c. let r = c .before .before in rw (r .own-records .ensures .1, length-sets) (r .own-records .ensures .0 .1))  -- array-share-prefix-records
