@@ -17,7 +17,7 @@ use Rattle.join_records.specs.Record.{joinRecordSize, joinRecord}
 use Rattle.join_bytes.specs.Join.{joinBytes, joinSwitches}
 use Rattle.adjacency.specs.Inner.Degrees.{degreesOf}
 use Rattle.join_bytes.specs.Inner.Joinable.{Joinable}
-use Rattle.join_bytes.proofs.Switches.{switches-below}
+use Rattle.join_bytes.proofs.Untouched.{switches-below}
 use Rattle.open_pairs.specs.Inner.Rows.{Scannable, Summed}
 use Rattle.open_pairs.specs.Inner.Refresh.{Classed, Within}
 use Rattle.completion.specs.Complete.{Ran, joined}

@@ -4,6 +4,7 @@ use mathlib.Core.Path.{_≡_}
 use mathlib.Core.Bool.{false}
 use mathlib.Core.List.{List}
 use Prim.Native.Nat.{ℕ, _<_}
+use Rattle.answer.specs.Inner.Moved.{SwitchBelow}
 use Rattle.graph.specs.Graph.{degree}
 use Rattle.graph.specs.Switch.{unsaturated}
 use Rattle.graph.specs.Tests.{mostClasses, classDegree}
@@ -11,7 +12,7 @@ use Rattle.graph.specs.Theorems.{Choices}
 use Rattle.graph.proofs.Switch.{switch-works}
 use Rattle.graph.proofs.Join.{Ready}
 use Rattle.adjacency.specs.Adjacency.{edge}
-use Rattle.join_bytes.specs.Join.{substituteAt, transferAt, relieveBytes}
+use Rattle.join_bytes.specs.Join.{substituteAt, transferAt, relieveBytes, switchAt}
 use Rattle.join_bytes.specs.Inner.Joinable.{Joinable}
 use Rattle.join_bytes.proofs.Bytes.{ready-v, pair-w, sized-once}
 
@@ -20,6 +21,9 @@ module _ {n : ℕ} {cls : ℕ → ℕ} {g : List ℕ} {a o : ℕ} (j : Joinable 
   pub chosen : unsaturated n cls classDegree (edge g) a ≡ false
       → Choices n mostClasses cls classDegree (j .table) (edge g) a o (substituteAt n cls g a o) (transferAt n cls g a o)
   chosen full = switch-works n mostClasses cls classDegree (j .table) (edge g) a o (j .target) (j .partial) (j .pair) full .0
+
+  pub switch-below : unsaturated n cls classDegree (edge g) a ≡ false → SwitchBelow n (switchAt n cls g a o)
+  switch-below full = (j .pair .first, chosen full .b-vertex, chosen full .t-vertex)
 
   ready : Ready n mostClasses cls classDegree (j .table) (edge g) a o (edge (relieveBytes n cls g a o))
   ready = ready-v n cls (j .table) g a o (j .sized) (j .few) (j .target) (j .partial) (j .pair)

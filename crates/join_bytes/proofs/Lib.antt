@@ -1,5 +1,5 @@
 pub mod Bytes
 pub mod Alone
 pub mod Joinable
-pub mod Switches
 pub mod Untouched
+pub mod Switches

@@ -6,18 +6,23 @@ use mathlib.Core.List.{List}
 use mathlib.Core.Logic.{_≢_}
 use Prim.Native.Nat.{ℕ, _<_}
 use native.Mathlib.Omega.{arith}
-use Rattle.answer.specs.Inner.Moved.{RowApart, Each}
+use Rattle.answer.specs.Inner.Moved.{SwitchBelow, RowApart, Each}
 use Rattle.answer.specs.declared.switches.Switch.{Switch}
 use Rattle.graph.specs.Switch.{unsaturated}
 use Rattle.adjacency.specs.Adjacency.{edge, setEdge}
 use Rattle.adjacency.proofs.Set.{set-length, set-other}
 use Rattle.join_bytes.specs.Join.{transferAt, switchAt, neighborSwitch, relieveBytes, joinBytes, inOrder, joinSwitches}
 use Rattle.join_bytes.specs.Inner.Joinable.{Joinable}
-use Rattle.join_bytes.proofs.Joinable.{joinable-next, joinable-last}
-use Rattle.join_bytes.proofs.Switches.{switch-below}
+use Rattle.join_bytes.proofs.Joinable.{switch-below, joinable-next, joinable-last}
 use Rattle.graph.specs.Tests.{classDegree}
 
 -- of the switches of both ends, those that were made
+each-made : (P : Switch → Type 0) (p q : Bool) (x y : Switch) → (p ≡ false → P x) → (q ≡ false → P y) → Each P (inOrder p q x y)
+each-made P true true x y f h = tt
+each-made P true false x y f h = h refl
+each-made P false true x y f h = f refl
+each-made P false false x y f h = (f refl, h refl)
+
 made-each : (P : Switch → Type 0) (p q : Bool) (x y : Switch) → Each P (inOrder p q x y) → (p ≡ false → P x) × (q ≡ false → P y)
 made-each P true true x y e = ((λ h. absurd (false≢true (sym h))), (λ h. absurd (false≢true (sym h))))
 made-each P true false x y e = ((λ h. absurd (false≢true (sym h))), (λ h. e))
@@ -54,3 +59,9 @@ module _ {n : ℕ} {cls : ℕ → ℕ} {g : List ℕ} {v w : ℕ} (j : Joinable 
       (λ h. uv (h .0)) (λ h. omega (arith, h .0, h .1))
       ∙ relieve-apart (joinable-next j) u z uz zn (parts .1)
       ∙ relieve-apart j u z uz zn (parts .0)
+
+  -- its switches name vertices
+  pub switches-below : Each (SwitchBelow n) (joinSwitches n cls g v w)
+  switches-below =
+      each-made (SwitchBelow n) (unsaturated n cls classDegree (edge g) v) (unsaturated n cls classDegree (edge (relieveBytes n cls g v w)) w) (switchAt n cls g v w)
+      (switchAt n cls (relieveBytes n cls g v w) w v) (switch-below j) (switch-below (joinable-next j))

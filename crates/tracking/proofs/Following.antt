@@ -26,8 +26,7 @@ use Rattle.classes.specs.Inner.Block.{classFrom}
 use Rattle.classes.proofs.Blocks.{start-most, class-inside, class-only, class-rises}
 use Rattle.join_bytes.specs.Join.{joinBytes, joinSwitches}
 use Rattle.join_bytes.specs.Inner.Joinable.{Joinable}
-use Rattle.join_bytes.proofs.Switches.{switches-below}
-use Rattle.join_bytes.proofs.Untouched.{join-apart}
+use Rattle.join_bytes.proofs.Untouched.{switches-below, join-apart}
 use Rattle.open_pairs.specs.Inner.Rows.{isFree, freeTo, Scannable, Summed}
 use Rattle.open_pairs.specs.Inner.Refresh.{refreshRow, refreshRange, markFull}
 use Rattle.open_pairs.proofs.Marked.{marked-length, marked-inside, marked-outside, marked-binary}

@@ -6,7 +6,6 @@ use Prim.Native.Nat.{ℕ}
 use Rattle.graph.specs.Switch.{unsaturated}
 use Rattle.graph.specs.Tests.{classDegree}
 use Rattle.adjacency.specs.Adjacency.{edge}
-use Rattle.answer.specs.declared.switches.Switch.{Switch}
 use Rattle.answer.specs.declared.switches.Switches.{Switches}
 use Rattle.answer.specs.declared.switches.Switches.the-variants.{None, One, Two}
 use Rattle.join_bytes.specs.Join.{transferAt, switchAt}
