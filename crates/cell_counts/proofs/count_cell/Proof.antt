@@ -1,7 +1,9 @@
 -- `cell_counts::count_cell` meets its contract.
 -- Assumes nothing.
+use mathlib.Core.Path.{_≡_}
 use Prim.Native.Nat.{_≤_}
 use lib.ListN.{getD}
+use Rattle.graph.specs.Graph.{timesCounted}
 use Rattle.table_records.specs.Inner.Bounds.{cellMostOwn}
 use native.Mathlib.Omega.{arith}
 use Rattle.cell_counts.proofs.count_cell.Statement.{statement}
@@ -23,4 +25,8 @@ count-cell-spec =
     omega arith)  -- cast-cells
     (λ c. omega arith)  -- mul-cells
     (λ c. omega arith)  -- element-write-cells
-    (λ c. rw (c .before .wide32 .ensures .0, c .times-counted .ensures .0, c .before .before .before .place-of .ensures .0)))  -- returns
+    (λ c.
+    let p = c .before .before .before in
+    let s = p .before in
+    let times : c .times-counted .result ≡ timesCounted (s .args .a) (s .args .b) = c .times-counted .ensures .0 in
+    rw (c .before .wide32 .ensures .0, times, p .place-of .ensures .0)))  -- returns

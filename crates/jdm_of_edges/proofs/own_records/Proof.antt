@@ -1,8 +1,9 @@
 -- `jdm_of_edges::own_records` meets its contract: what it counts has the records of the list's own table.
 -- Assumes nothing.
-use mathlib.Core.Path.{_∙_}
+use mathlib.Core.Path.{_≡_, _∙_}
 use native.Mathlib.Omega.{arith}
 use Rattle.edge_lists.proofs.List.{verdict-passed}
+use Rattle.degree_counts.specs.Inner.Degrees.{isolatedIn}
 use Rattle.degree_counts.proofs.Degrees.{isolated-same}
 use Rattle.jdm_of_edges.proofs.Survey.{own-records}
 use Rattle.jdm_of_edges.proofs.own_records.Statement.{statement}
@@ -11,7 +12,7 @@ use Rattle.jdm_of_edges.proofs.own_records.Tie as tie
 pub own-records-spec : {M : Type 1} → statement M
 own-records-spec =
     tie.close (tie.spec
-    (λ c κs. let s = c .before in verdict-passed (s .args .edges .now) (s .args .total) (s .pre .0) .few)  -- isolated-in-requires
+    (λ c κs. let s = c .before in omega (arith, verdict-passed (s .args .edges .now) (s .args .total) (s .pre .0) .few))  -- isolated-in-requires
     (λ c κs.
     let s = c .before .before in
     let p = verdict-passed (s .args .edges .now) (s .args .total) (s .pre .0) in
@@ -28,6 +29,7 @@ own-records-spec =
     let s = z .before .before in
     let e = s .args .edges .now in
     let t = s .args .total in
-    let counted = z .isolated-in .ensures .0 ∙ isolated-same e (s .args .degrees .now) t (s .pre .2) in
+    let asked : z .isolated-in .result ≡ isolatedIn (s .args .degrees .now) t = z .isolated-in .ensures .0 in
+    let counted = asked ∙ isolated-same e (s .args .degrees .now) t (s .pre .2) in
     let own = own-records e t (z .isolated-in .result) (q .cells-of .result) counted (q .cells-of .ensures .0) in
     rw own at (c .put-records .ensures)))  -- returns
