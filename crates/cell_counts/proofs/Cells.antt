@@ -3,7 +3,7 @@
 use mathlib.Core.Path.{_≡_, sym, ap, _∙_}
 use mathlib.Core.List.{List}
 use mathlib.Core.Logic.{_≢_}
-use Prim.Native.Nat.{ℕ, zero, suc, _+_, _*_, _≤_, _<_}
+use Prim.Native.Nat.{ℕ, zero, suc, _+_, _*_, _≤_, _<_, min, max}
 use native.Mathlib.Nat.{mul-one, mul-le-mul-left}
 use native.Mathlib.Numerals.{add-one}
 use native.Mathlib.Decide.{ℕ-discrete, decLt}
@@ -32,23 +32,32 @@ use Rattle.cell_counts.specs.Inner.Cells.{countCell, HasCells}
 
 -- 1. One edge more.
 
+-- a place is two digits, the lower degree and the higher
+digits : (m n p q : ℕ) → n < mostClasses → q < mostClasses → m * mostClasses + n ≡ p * mostClasses + q → (m ≡ p) × (n ≡ q)
+digits m n p q hn hq e = (omega arith, omega arith)
+
 -- where an edge counts, it counts as equation (1) has it
+same-pair : (a b k l : ℕ) → min k l ≡ min a b → max k l ≡ max a b → timesCounted a b ≡ atEdge a b k l
+same-pair a b k l lower higher = go (ℕ-discrete a b) (ℕ-discrete k a)
+  where
+    go : Dec (a ≡ b) → Dec (k ≡ a) → timesCounted a b ≡ atEdge a b k l
+    go (yes p) q =
+        let r : k ≡ b = omega arith in
+        let s : l ≡ b = omega arith in
+        rw (eq-eqb a b p, p, r, s, δ-self b)
+    go (no p) (yes q) =
+        let r : l ≡ b = omega arith in
+        rw (ne-eqb a b p, q, r) (sym (atEdge-here a b p))
+    go (no p) (no q) =
+        let r : k ≡ b = omega arith in
+        let s : l ≡ a = omega arith in
+        rw (ne-eqb a b p, r, s) (sym (atEdge-back a b p))
+
 module _ (a b k l : ℕ) (ha : a < mostClasses) (hb : b < mostClasses) (hk : k < mostClasses) (hl : l < mostClasses) where
   counted-here : place k l ≡ place a b → timesCounted a b ≡ atEdge a b k l
-  counted-here e = go (ℕ-discrete a b) (ℕ-discrete k a)
-    where
-      go : Dec (a ≡ b) → Dec (k ≡ a) → timesCounted a b ≡ atEdge a b k l
-      go (yes p) q =
-          let r : k ≡ b = omega arith in
-          let s : l ≡ b = omega arith in
-          rw (eq-eqb a b p, p, r, s, δ-self b)
-      go (no p) (yes q) =
-          let r : l ≡ b = omega arith in
-          rw (ne-eqb a b p, q, r) (sym (atEdge-here a b p))
-      go (no p) (no q) =
-          let r : k ≡ b = omega arith in
-          let s : l ≡ a = omega arith in
-          rw (ne-eqb a b p, r, s) (sym (atEdge-back a b p))
+  counted-here e =
+      let d = digits (min k l) (max k l) (min a b) (max a b) (omega arith) (omega arith) e in
+      same-pair a b k l (d .0) (d .1)
 
   counted-apart : place k l ≢ place a b → atEdge a b k l ≡ 0
   counted-apart h = go (placed a b k l)
