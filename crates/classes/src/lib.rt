@@ -1,7 +1,7 @@
 // The cells of the joint degree matrix as blocks of the adjacency matrix: the vertices of a class stand next to each other.
 ghost use mathlib.Core.Path.{_≡_};
 ghost use Prim.Native.Nat.{ℕ, _+_, _-_, _*_, _≤_, _<_};
-ghost use lib.ListN.{length, getD};
+ghost use lib.ListN.{length};
 ghost use Rattle.finite.specs.Range.{sumTo};
 ghost use Rattle.graph.specs.Numbering.{total};
 ghost use Rattle.graph.specs.Tests.{mostClasses};

@@ -55,7 +55,7 @@ use Rattle.graph6.specs.Format.{sizeOf, tooLarge, wellFormedText}
 use Rattle.graph6_write.specs.Write.{writeText, writeListed, writeAnswer, writeOutput}
 use Rattle.graph6_read.specs.Read.{readList, readAnswer, readOutput}
 use Rattle.join_records.specs.Record.{joinRecordSize}
-use Rattle.completion.specs.Complete.{Ran, completed, missing, ranLaid, ranAnswer, afterRan, ranAfter, outputRan, ranOutput}
+use Rattle.completion.specs.Complete.{Ran, completed, missing, ranLaid, ranAnswer, ranAfter, ranOutput}
 use Rattle.completion.proofs.Written.{refused-leaves, records-written}
 use Rattle.completion.proofs.Entry.{completed-facts}
 use Rattle.shuffled_completion.specs.Shuffle.{shuffled}

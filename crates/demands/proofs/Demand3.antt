@@ -19,7 +19,7 @@ use Rattle.answer.specs.declared.CompleteAnswer.{CompleteAnswer}
 use Rattle.answer.specs.declared.CompleteAnswer.the-variants.{Completed}
 use Rattle.answer.specs.declared.Choice.{Choice}
 use Rattle.layout.specs.Layout.{wanted}
-use Rattle.journal.specs.Journal.{phase, jdmOf, tableOf}
+use Rattle.journal.specs.Journal.{jdmOf, tableOf}
 use Rattle.journal.proofs.Table.{jdm-table}
 use Rattle.adjacency.specs.Adjacency.{edge}
 use Rattle.state.specs.State.{State, withMatrix, cleared}
@@ -35,7 +35,7 @@ use Rattle.completion.specs.Complete.{Ran, missing, afterRan}
 use Rattle.completion.proofs.Entry.{short-refused, CompleteWorks}
 use Rattle.shuffled_completion.specs.Outcome.{outcome, choiceAnswer}
 use Rattle.shuffled_completion.proofs.Works.{outcome-works}
-use Rattle.demands.specs.Calls.{Call, afterAll}
+use Rattle.demands.specs.Calls.{afterAll}
 use Rattle.demands.specs.Tally.{Tally, noTally, missingEdges, tallyAll}
 use Rattle.demands.specs.Matrix.{ShortFor}
 use Rattle.demands.specs.Demand3 as D

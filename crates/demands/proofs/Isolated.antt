@@ -1,7 +1,6 @@
 -- Isolated vertices are the first ones of a laid state, and are left alone (specs/Isolated.antt).
 -- Assumes nothing.
 use mathlib.Core.Path.{_≡_, _∙_}
-use mathlib.Core.List.{List}
 use mathlib.Core.Logic.{_↔_}
 use Prim.Native.Nat.{ℕ, _+_, _≤_, _<_}
 use native.Mathlib.Omega.{arith}

@@ -12,7 +12,7 @@ use Rattle.answer.specs.declared.Choice.{Choice}
 use Rattle.state.specs.State.{State}
 use Rattle.add_edge.specs.Add.{addAnswer, afterAdd, addAfter}
 use Rattle.remove_edge.specs.Remove.{removeAnswer, afterRemove, removeAfter}
-use Rattle.completion.specs.Complete.{Ran, afterRan}
+use Rattle.completion.specs.Complete.{afterRan}
 use Rattle.shuffled_completion.specs.Outcome.{outcome, choiceAnswer, choiceAfter}
 
 pub add-journal : (s : State) (v w : ℕ) → addAfter s v w .journal ≡ s .journal

@@ -1,7 +1,6 @@
 -- Listing a laid state and surveying the list with its N gives the table of its graph (specs/Listed.antt).
 -- Assumes nothing.
 use mathlib.Core.Path.{_≡_, refl, ap, _∙_}
-use mathlib.Core.List.{List}
 use Prim.Native.Nat.{ℕ, _≤_, _<_}
 use native.Mathlib.Omega.{arith}
 use lib.Dec.{ltb}

@@ -1,7 +1,6 @@
 -- Shuffled completing (specs/Shuffled.antt): the laws of completing by every choice, at the one that x picks, and the last x.
 -- Assumes nothing.
 use mathlib.Core.Path.{_≡_, refl, sym, ap, ap₂, _∙_}
-use mathlib.Core.Bool.{true}
 use mathlib.Core.List.{List}
 use Prim.Native.Nat.{ℕ, _*_, _≤_, _<_}
 use native.Mathlib.Omega.{arith}

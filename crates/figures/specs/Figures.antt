@@ -1,8 +1,6 @@
 -- Figures (document 01): phase, blocks, N, edges wanted, edges laid; the last three are 0 while blocks are taken.
 -- Assumes nothing.
 use mathlib.Core.Bool.{Bool, true, false}
-use mathlib.Core.List.{List}
-use Prim.Native.Nat.{ℕ}
 use lib.Dec.{eqb}
 use Rattle.answer.specs.Refusals.{unlessStopped}
 use Rattle.answer.specs.declared.Figures.{Figures}

@@ -1,6 +1,5 @@
 -- Laying out (document 01).
 -- Assumes nothing.
-use mathlib.Core.List.{List}
 use Prim.Native.Nat.{ℕ}
 use Rattle.answer.specs.Refusals.{unlessStopped}
 use Rattle.answer.specs.declared.Verdict.{Verdict}

@@ -6,14 +6,14 @@ use mathlib.Core.List.{List}
 use Prim.Native.Nat.{ℕ, zero, suc, _+_, _-_, _*_, _≤_, _<_}
 use native.Mathlib.Nat.{add-zero}
 use native.Mathlib.Omega.{arith}
-use lib.Dec.{leb, ltb}
+use lib.Dec.{leb}
 use lib.ListN.{length, getD}
 use borrow.Author.Tests.{leb-true, le-leb, lt-leb, lt-ltb, le-ltb}
 use Rattle.finite.specs.Range.{allTo, foldTo}
 use Rattle.finite.proofs.All.{and-left, and-right, and-false, allTo-fails}
 use Rattle.finite.proofs.Fold.{foldTo-more, foldTo-after}
 use Rattle.options.specs.declared.Number.the-variants.{Value, NoNumber}
-use Rattle.options.specs.Options.{isDigit, withDigit, valueOf, numberEnd, isNumber, wordNumber}
+use Rattle.options.specs.Options.{isDigit, withDigit, valueOf, numberEnd, wordNumber}
 
 pub digit-range : (b : ℕ) → isDigit b ≡ true → (48 ≤ b) × (b ≤ 57)
 digit-range b h = (leb-true 48 b (and-left (leb 48 b) (leb b 57) h), leb-true b 57 (and-right (leb 48 b) (leb b 57) h))

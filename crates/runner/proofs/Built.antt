@@ -24,7 +24,7 @@ use Rattle.journal.proofs.Laid.{phase-laid}
 use Rattle.state.specs.State.{State, withMatrix, cleared}
 use Rattle.state.specs.Valid.{ValidLaid}
 use Rattle.state.specs.Laid.{vertexCount}
-use Rattle.state.proofs.Facts.{lengths-journal, valid-facts}
+use Rattle.state.proofs.Facts.{lengths-journal}
 use Rattle.lay_out.specs.LayOut.{layOutAnswer, layOutAfter}
 use Rattle.lay_out.proofs.LayOut.{LaidOutFacts, lay-out-facts, lay-out-same-table, lay-out-lengths, lay-out-valid}
 use Rattle.clear.specs.Clear.{ClearedState}
@@ -78,7 +78,7 @@ module _ (choice : Choice) (s : State) (n joins switches written : ℕ) (count :
         simple = w .simple;
         has-table = w .table;
         has-isolated = w .no-edge;
-        outside = valid-facts x (w .state .lengths) (w .state .is-valid) .laid (w .state .phased) .outside;
+        outside = w .outside;
         says = ap (λ (n : ℕ). stateText form n switches x) count ∙ state-shown form switches x (w .simple);
       }
 

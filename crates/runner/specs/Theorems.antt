@@ -4,7 +4,7 @@ use mathlib.Core.Path.{_≡_}
 use mathlib.Core.Bool.{true}
 use mathlib.Core.List.{List}
 use mathlib.Core.Logic.{_⊎_}
-use Prim.Native.Nat.{ℕ, _+_, _≤_, _<_}
+use Prim.Native.Nat.{ℕ, _+_, _≤_}
 use lib.ListN.{take}
 use Rattle.graph.specs.Graph.{Simple, ownJdm, isolated, DegreeTable}
 use Rattle.graph.specs.Tests.{vertices}
@@ -18,7 +18,8 @@ use Rattle.answer.specs.declared.CompleteAnswer.the-variants.{Completed}
 use Rattle.answer.specs.declared.Choice.{Choice}
 use Rattle.table.specs.Block.{mostBlocks, wellFormed}
 use Rattle.journal.specs.Journal.{tableOf}
-use Rattle.adjacency.specs.Adjacency.{side, edge}
+use Rattle.adjacency.specs.Adjacency.{edge}
+use Rattle.adjacency.specs.Clauses.{ZeroOutside}
 use Rattle.state.specs.State.{State, cleared}
 use Rattle.lay_out.specs.LayOut.{layOutAnswer, layOutAfter}
 use Rattle.shuffled_completion.specs.Outcome.{choiceAnswer}
@@ -58,7 +59,7 @@ pub record Built (form : Form) (t : DegreeTable) (text : List ℕ) : Type 0 wher
   pub simple : Simple (vertices t) (edge (state .adjacency))
   pub has-table : (k l : ℕ) → ownJdm (vertices t) (edge (state .adjacency)) k l ≡ t .cells k l
   pub has-isolated : isolated (vertices t) (edge (state .adjacency)) ≡ t .isolated
-  pub outside : (v w : ℕ) → v < side → w < side → (vertices t ≤ v) ⊎ (vertices t ≤ w) → edge (state .adjacency) v w ≡ 0
+  pub outside : ZeroOutside (vertices t) (state .adjacency)
   pub says : text ≡ shown form (vertices t) switches (state .adjacency)
 
 -- every block is taken, and laying out then answers a

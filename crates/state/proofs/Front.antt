@@ -1,15 +1,15 @@
 -- The checks with which entries begin, cut where a laid matrix is looked at: what the front says, and what is left behind it.
 -- Assumes nothing.
-use mathlib.Core.Path.{_≡_, refl, sym, ap, _∙_}
+use mathlib.Core.Path.{_≡_, refl, ap, _∙_}
 use mathlib.Core.Bool.{Bool, true, false, _&&_, cond}
-use Prim.Native.Nat.{ℕ, _≤_}
+use Prim.Native.Nat.{_≤_}
 use native.Mathlib.Omega.{arith}
 use lib.Dec.{eqb, leb}
 use lib.ListN.{replicate}
 use borrow.Author.Tests.{eqb-true, eqb-false, eq-eqb, ne-eqb, leb-true}
 use Rattle.finite.proofs.All.{and-left}
 use Rattle.answer.specs.Refusals.{refuse, stopped, unless, unlessStopped}
-use Rattle.answer.specs.declared.Cause.the-variants.{WrongLength, InvalidState, WrongPhase}
+use Rattle.answer.specs.declared.Cause.the-variants.{WrongLength, InvalidState}
 use Rattle.answer.specs.declared.Refusal.{Refusal}
 use Rattle.answer.specs.declared.Verdict.{Verdict}
 use Rattle.answer.specs.declared.Verdict.the-variants.{Go, Stop}

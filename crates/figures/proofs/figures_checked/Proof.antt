@@ -1,6 +1,6 @@
 -- `figures::figures_checked` meets its contract.
 -- Assumes nothing.
-use mathlib.Core.Path.{refl, sym, ap, _∙_}
+use mathlib.Core.Path.{sym, ap, _∙_}
 use native.Mathlib.Omega.{arith}
 use borrow.Author.Tests.{not-true, not-false}
 use Rattle.answer.specs.declared.FiguresAnswer.the-variants.{Reported, Refused}

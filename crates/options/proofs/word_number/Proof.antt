@@ -1,6 +1,6 @@
 -- `options::word_number` meets its contract: so far there were digits alone, and their number is below 2^32.
 -- Assumes nothing.
-use mathlib.Core.Path.{_≡_, refl, sym, ap, _∙_}
+use mathlib.Core.Path.{_≡_, sym, _∙_}
 use mathlib.Core.Bool.{true}
 use Prim.Native.Nat.{_≤_, _<_, _-_, _+_}
 use native.Mathlib.Omega.{arith}
@@ -8,8 +8,8 @@ use borrow.Author.Tests.{not-true, not-false}
 use lib.ListN.{length, getD}
 use Rattle.finite.specs.Range.{allTo}
 use Rattle.finite.proofs.All.{allTo-none, allTo-more, and-both}
-use Rattle.finite.proofs.Fold.{foldTo-none, foldTo-more}
-use Rattle.options.specs.Options.{numberEnd, withDigit}
+use Rattle.finite.proofs.Fold.{foldTo-none}
+use Rattle.options.specs.Options.{numberEnd}
 use Rattle.options.proofs.Digits.{digit-range, digitAt, valueTo, value-next, none-empty, none-other, none-large, some}
 use Rattle.options.proofs.word_number.Statement.{statement}
 use Rattle.options.proofs.word_number.Tie as tie

@@ -1,7 +1,6 @@
 -- `progress::record_join` meets its contract.
 -- Assumes nothing.
 use mathlib.Core.Path.{refl}
-use native.Mathlib.Omega.{arith}
 use borrow.Author.Needs.{needs}
 use Rattle.progress.proofs.Output.{wrote-one}
 use Rattle.progress.proofs.record_join.Statement.{statement}
