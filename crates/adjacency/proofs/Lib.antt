@@ -1,5 +1,4 @@
 pub mod Mirrored
-pub mod Sums
 pub mod Classes
 pub mod Set
 pub mod Facts

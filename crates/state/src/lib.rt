@@ -13,7 +13,6 @@ ghost use Rattle.state.specs.Valid.{lengthsOk, laidOk, valid};
 ghost use Rattle.state.specs.Checks.{stateVerdict, phaseVerdict, pairVerdict};
 ghost use Rattle.state.specs.Inner.Opened.{frontVerdict, laidFront, Openable, Opened};
 use adjacency::ADJACENCY_BYTES;
-use adjacency::adjacency_ok;
 use answer::Cause;
 use answer::Verdict;
 use answer::stopped;
@@ -28,6 +27,7 @@ use layout::classes;
 use layout::count_classes;
 use layout::layout_check;
 use layout::vertex_count;
+use matrix_check::adjacency_ok;
 use table::cells::CELLS;
 use table::class::MAX_CLASSES;
 
