@@ -5,7 +5,7 @@ use comparison::call::{room, Call, Completing};
 use reference::journal::record;
 use reference::numbers::Numbers;
 use reference::refused_at as refused;
-use reference::{ADJACENCY_BYTES, JOURNAL_BYTES};
+use reference::{ADJACENCY_BYTES, JOURNAL_BYTES, MAX_DEGREE};
 
 const DONE: [u64; 6] = [0; 6];
 /// An edge added without a switch.
@@ -710,6 +710,24 @@ fn bounds_of_a_valid_state() {
     join(&mut adjacency, 4, 5);
     let answer = both.call_on(both.journal.clone(), adjacency, Call::Figures);
     assert_eq!(answer, refused(2, 0, 0));
+}
+
+/// Each cell that a table lacks, the highest one among them: four vertices of degrees k and l, whose
+/// edges are all to vertices of degree 1, and one edge between two of them.
+#[test]
+fn an_edge_in_each_cell_that_the_table_lacks() {
+    for k in 2..=MAX_DEGREE {
+        for l in k..=MAX_DEGREE {
+            let cells = [(1, k, 2 * k as u64), (1, l, 2 * l as u64)];
+            let mut both = laid("a cell that the table lacks", &cells);
+            let first = 2 * (k + l);
+            let second = if k == l { first + 1 } else { first + 2 };
+            let mut adjacency = both.adjacency.clone();
+            reference::adjacency::insert(&mut adjacency, first, second);
+            let answer = both.call_on(both.journal.clone(), adjacency, Call::Figures);
+            assert_eq!(answer, refused(2, 0, 0), "{k} {l}");
+        }
+    }
 }
 
 /// An edge at an isolated vertex, to another one or not, is in no valid state.
