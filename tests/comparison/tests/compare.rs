@@ -67,18 +67,18 @@ impl jobs::Job for Job {
 /// All jobs, the long ones first.
 fn all_jobs() -> Vec<Job> {
     let mut jobs = table_jobs();
-    jobs.extend(seeds(60).map(|seed| Job::RandomTable(seed, 200)));
-    jobs.extend(seeds(60).map(|seed| Job::List(seed, Size::Large)));
-    jobs.extend(seeds(80).map(|seed| Job::Texts(seed, 200)));
+    jobs.extend(seeds(30).map(|seed| Job::RandomTable(seed, 200)));
+    jobs.extend(seeds(30).map(|seed| Job::List(seed, Size::Large)));
+    jobs.extend(seeds(40).map(|seed| Job::Texts(seed, 200)));
     let after = 1_000;
-    jobs.extend(seeds(400).map(|seed| Job::RandomTable(seed + after, 60)));
-    jobs.extend(seeds(1_000).map(|seed| Job::List(seed + after, Size::Medium)));
-    jobs.extend(seeds(400).map(|seed| Job::Texts(seed + after, 70)));
+    jobs.extend(seeds(200).map(|seed| Job::RandomTable(seed + after, 60)));
+    jobs.extend(seeds(500).map(|seed| Job::List(seed + after, Size::Medium)));
+    jobs.extend(seeds(200).map(|seed| Job::Texts(seed + after, 70)));
     let after = 10_000;
-    jobs.extend(seeds(1_000).map(|seed| Job::RandomTable(seed + after, 9)));
-    jobs.extend(seeds(3_000).map(|seed| Job::List(seed + after, Size::Small)));
-    jobs.extend(seeds(600).map(Job::Joins));
-    jobs.extend(seeds(600).map(|seed| Job::Texts(seed + after, 9)));
+    jobs.extend(seeds(500).map(|seed| Job::RandomTable(seed + after, 9)));
+    jobs.extend(seeds(1_500).map(|seed| Job::List(seed + after, Size::Small)));
+    jobs.extend(seeds(300).map(Job::Joins));
+    jobs.extend(seeds(300).map(|seed| Job::Texts(seed + after, 9)));
     jobs
 }
 
