@@ -45,7 +45,7 @@ module _ (n : ℕ) (cls cls′ : ℕ → ℕ) (same : (v : ℕ) → v < n → cl
 
 -- the classes of a table's vertices, as the array has them
 module _ (t : DegreeTable) (small : vertices t ≤ mostVertices) {n : ℕ} {classes : List ℕ} (en : n ≡ vertices t) (ec : classes ≡ classesOf t) where
-  class-at : (v : ℕ) → v < n → classIn classes v ≡ vertexClass t v
+  pub class-at : (v : ℕ) → v < n → classIn classes v ≡ vertexClass t v
   class-at v h = rw ec (fillTo-at (vertexClass t) (replicate mostVertices 0) (vertices t) v (rw length-replicate small) (rw en at h))
 
   pub class-below : (v : ℕ) → v < n → classIn classes v < mostClasses

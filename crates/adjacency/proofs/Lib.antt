@@ -4,3 +4,4 @@ pub mod Set
 pub mod Facts
 pub mod Empty
 pub mod Degrees
+pub mod Bytes

@@ -6,7 +6,7 @@ use Prim.Native.Nat.{ℕ}
 use lib.Dec.{eqb}
 use Rattle.answer.specs.Switches.{switchCount, firstSwitch, secondSwitch}
 use Rattle.answer.specs.declared.Cause.{Cause}
-use Rattle.answer.specs.declared.Cause.the-variants.{WrongLength, InvalidState, WrongPhase, BlockLength, BadRecord, BlockNumber, BlockDiffers, JournalFull, OddDiagonal, RowNotDivisible, CellTooLarge, TooManyVertices, NoSuchVertex, SameVertex, EdgePresent, CellNotShort, EdgeAbsent, OutputTooShort, BadEdgeList, DegreeTooHigh, Graph6Text, Graph6Size}
+use Rattle.answer.specs.declared.Cause.the-variants.{WrongLength, InvalidState, WrongPhase, BlockLength, BadRecord, BlockNumber, BlockDiffers, JournalFull, OddDiagonal, RowNotDivisible, CellTooLarge, TooManyVertices, NoSuchVertex, SameVertex, EdgePresent, CellNotShort, EdgeAbsent, OutputTooShort, BadEdgeList, DegreeTooHigh, Graph6Text, Graph6Size, SwapNotAllowed, LogFull, LogEmpty}
 use Rattle.answer.specs.declared.Refusal.{Refusal}
 use Rattle.answer.specs.declared.ClearAnswer.{ClearAnswer}
 use Rattle.answer.specs.declared.ClearAnswer.the-variants as Clear
@@ -22,6 +22,10 @@ use Rattle.answer.specs.declared.AddAnswer.{AddAnswer}
 use Rattle.answer.specs.declared.AddAnswer.the-variants as Add
 use Rattle.answer.specs.declared.RemoveAnswer.{RemoveAnswer}
 use Rattle.answer.specs.declared.RemoveAnswer.the-variants as Remove
+use Rattle.answer.specs.declared.SwapAnswer.{SwapAnswer}
+use Rattle.answer.specs.declared.SwapAnswer.the-variants as Swap
+use Rattle.answer.specs.declared.UndoAnswer.{UndoAnswer}
+use Rattle.answer.specs.declared.UndoAnswer.the-variants as Undo
 use Rattle.answer.specs.declared.CompleteAnswer.{CompleteAnswer}
 use Rattle.answer.specs.declared.CompleteAnswer.the-variants as Complete
 use Rattle.answer.specs.declared.ShuffleAnswer.{ShuffleAnswer}
@@ -55,6 +59,9 @@ numberOf BadEdgeList = 19
 numberOf DegreeTooHigh = 20
 numberOf Graph6Text = 21
 numberOf Graph6Size = 22
+numberOf SwapNotAllowed = 23
+numberOf LogFull = 24
+numberOf LogEmpty = 25
 
 -- n is one of the numbers
 abbrev pub oneOf : ℕ → List ℕ → Bool
@@ -134,6 +141,14 @@ addNumbers (Add.Refused r) =
 abbrev pub removeNumbers : RemoveAnswer → Numbers
 removeNumbers Remove.Removed = done 0 0
 removeNumbers (Remove.Refused r) = refused r
+
+abbrev pub swapNumbers : SwapAnswer → Numbers
+swapNumbers Swap.Swapped = done 0 0
+swapNumbers (Swap.Refused r) = refused r
+
+abbrev pub undoNumbers : UndoAnswer → Numbers
+undoNumbers Undo.Undone = done 0 0
+undoNumbers (Undo.Refused r) = refused r
 
 -- first: the edges added (document 01: joins); second: the switches; third: the written length
 abbrev pub completeNumbers : CompleteAnswer → Numbers

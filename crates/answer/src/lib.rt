@@ -31,6 +31,9 @@ pub enum Cause {
     DegreeTooHigh,
     Graph6Text,
     Graph6Size,
+    SwapNotAllowed,
+    LogFull,
+    LogEmpty,
 }
 
 // A cause with two places, 0 where none is named.
@@ -91,6 +94,17 @@ pub enum AddAnswer {
 
 pub enum RemoveAnswer {
     Removed,
+    Refused(Refusal),
+}
+
+pub enum SwapAnswer {
+    Swapped,
+    Refused(Refusal),
+}
+
+// Taking the last swap back.
+pub enum UndoAnswer {
+    Undone,
     Refused(Refusal),
 }
 
@@ -170,5 +184,8 @@ pub fn number_of(cause: Cause) -> usize
         Cause::DegreeTooHigh => 20,
         Cause::Graph6Text => 21,
         Cause::Graph6Size => 22,
+        Cause::SwapNotAllowed => 23,
+        Cause::LogFull => 24,
+        Cause::LogEmpty => 25,
     }
 }
