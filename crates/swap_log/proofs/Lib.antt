@@ -1,0 +1,4 @@
+pub mod Records
+pub mod Undo
+pub mod Valid
+pub mod Clauses

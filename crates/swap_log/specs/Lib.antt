@@ -1,0 +1,3 @@
+pub mod Log
+pub mod Clauses
+pub mod Theorems
