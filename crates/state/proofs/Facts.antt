@@ -78,7 +78,7 @@ module _ (s : State) where
         and-right (passes (jdmOf (s .journal)) && leb (vertexCount s) mostVertices) (adjacencyOk (vertexCount s) (classAt s) (jdmOf (s .journal)) (s .adjacency)) h,
       )
 
-  laid-facts : journalOk (s .journal) ≡ true → laidOk (tableOf (s .journal)) (s .adjacency) ≡ true → Laid s
+  pub laid-facts : journalOk (s .journal) ≡ true → laidOk (tableOf (s .journal)) (s .adjacency) ≡ true → Laid s
   laid-facts ok h =
       let t = laid-tests h in
       let a = adjacency-facts (vertexCount s) (classAt s) (jdmOf (s .journal)) (s .adjacency) (t .2) in

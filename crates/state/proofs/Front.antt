@@ -73,7 +73,7 @@ module _ (s : State) where
       }
 
   -- a journal that passes is taking or laid
-  two-phases : journalOk (s .journal) ≡ true → phase (s .journal) ≤ phaseLaid
+  pub two-phases : journalOk (s .journal) ≡ true → phase (s .journal) ≤ phaseLaid
   two-phases ok =
       leb-true (phase (s .journal)) phaseLaid
       (and-left (leb (phase (s .journal)) phaseLaid) (leb (blocks (s .journal)) mostBlocks)

@@ -1,0 +1,4 @@
+pub mod Laid
+pub mod Front
+pub mod Swapped
+pub mod Clauses
