@@ -18,24 +18,27 @@ use Rattle.graph.specs.Tests.{mostClasses, classDegree}
 use Rattle.graph.specs.Switch.{Joined}
 use Rattle.graph.specs.Theorems.{AfterJoin}
 use Rattle.graph.proofs.Join.{join-works}
-use Rattle.journal.specs.Journal.{phaseLaid, jdmOf}
+use Rattle.journal.specs.Journal.{jdmOf}
 use Rattle.adjacency.specs.Adjacency.{adjacencySize, edge}
 use Rattle.adjacency.specs.Clauses.{ZeroOutside}
 use Rattle.state.specs.State.{State, withMatrix}
-use Rattle.state.specs.Checks.{phaseVerdict, pairVerdict}
-use Rattle.state.specs.Valid.{ValidLaid}
+use Rattle.state.specs.Checks.{pairVerdict}
 use Rattle.state.specs.Laid.{vertexCount, classAt, shortAt}
-use Rattle.state.proofs.Facts.{edgeTotal, cellAt, StateFacts, Laid, valid-facts, lengths-both}
-use Rattle.state.proofs.Checks.{laid-passed, laid-goes, pair-passed, pair-goes}
+use Rattle.state.proofs.Facts.{edgeTotal, cellAt, StateFacts, Laid, lengths-both}
+use Rattle.state.proofs.Checks.{pair-passed, pair-goes}
 use Rattle.state.proofs.Graph.{laid-valid}
+use Rattle.loan.specs.Loan.{Loan, altered}
+use Rattle.loan.specs.Valid.{LaidLoan}
+use Rattle.loan.specs.Checks.{laidVerdict}
+use Rattle.loan.proofs.Laid.{laid-passed, laid-go, laid-facts, laid-laid, altered-laid}
 use Rattle.join_bytes.specs.Join.{joinBytes, joinSwitches}
 use Rattle.join_bytes.proofs.Bytes.{join-bytes, join-length, join-outside}
 use Rattle.add_edge.specs.Add.{addAnswer}
 
 -- what the checks of an added edge said
-pub record AddFacts (s : State) (v w : ℕ) : Type 0 where
-  pub state : ValidLaid s
-  pub pair : Open (vertexCount s) (classAt s) (jdmOf (s .journal)) (edge (s .adjacency)) v w
+pub record AddFacts (b : Loan) (v w : ℕ) : Type 0 where
+  pub loan : LaidLoan b
+  pub pair : Open (vertexCount (b .state)) (classAt (b .state)) (jdmOf (b .state .journal)) (edge (b .state .adjacency)) v w
 
 abbrev IsAdded : AddAnswer → Type 0
 IsAdded (Added x) = Unit {0}
@@ -44,18 +47,21 @@ IsAdded (Refused r) = ⊥
 refused-not-added : (x : Switches) (r : Refusal) → Refused r ≡ Added x → ⊥
 refused-not-added x r e = subst IsAdded (sym e) tt
 
-module _ (s : State) (v w : ℕ) where
-  pub added-facts : (x : Switches) → addAnswer s v w ≡ Added x
-      → AddFacts s v w × (x ≡ joinSwitches (vertexCount s) (classAt s) (s .adjacency) v w)
+module _ (b : Loan) (v w : ℕ) where
+  abbrev s : State
+  s = b .state
+
+  pub added-facts : (x : Switches) → addAnswer b v w ≡ Added x
+      → AddFacts b v w × (x ≡ joinSwitches (vertexCount s) (classAt s) (s .adjacency) v w)
   added-facts x e =
       let no = refused-not-added x in
-      let p = unless-stopped-passed (phaseVerdict phaseLaid s) Refused _ (Added x) no e in
+      let p = unless-stopped-passed (laidVerdict b) Refused _ (Added x) no e in
       let q = unless-stopped-passed (pairVerdict (vertexCount s) v w) Refused _ (Added x) no (p .1) in
       let d = pair-passed (vertexCount s) v w (q .0) in
       let u = unless-passed (eqb (edge (s .adjacency) v w) 0) _ _ (Added x) (no _) (q .1) in
       let h = unless-passed (shortAt s (classAt s v) (classAt s w)) _ _ (Added x) (no _) (u .1) in (
         record {
-          state = laid-passed s (p .0);
+          loan = laid-passed b (p .0);
           pair =
               record {
                 first = d .0;
@@ -72,43 +78,44 @@ module _ (s : State) (v w : ℕ) where
       made (Added y) = y
       made (Refused r) = None
 
-  pub facts-added : AddFacts s v w → addAnswer s v w ≡ Added (joinSwitches (vertexCount s) (classAt s) (s .adjacency) v w)
+  pub facts-added : AddFacts b v w → addAnswer b v w ≡ Added (joinSwitches (vertexCount s) (classAt s) (s .adjacency) v w)
   facts-added f =
       rw (
-        laid-goes s (f .state),
+        laid-go b (f .loan),
         pair-goes (vertexCount s) v w (f .pair .first) (f .pair .second) (f .pair .distinct),
         eq-eqb (edge (s .adjacency) v w) 0 (f .pair .unlinked),
         lt-ltb (cellAt s (classAt s v) (classAt s w)) (jdmOf (s .journal) (classAt s v) (classAt s w)) (f .pair .short),
       )
 
   -- after it
-  pub record AddWorks (s′ : State) : Type 0 where
-    pub state : ValidLaid s′
-    pub linked : edge (s′ .adjacency) v w ≡ 1
-    pub one-more : edgeTotal s′ ≡ edgeTotal s + 1
-    pub cells : (k l : ℕ) → cellAt s′ k l ≡ cellAt s k l + atEdge (classAt s v) (classAt s w) k l
+  pub record AddWorks (b′ : Loan) : Type 0 where
+    pub loan : LaidLoan b′
+    pub linked : edge (b′ .state .adjacency) v w ≡ 1
+    pub one-more : edgeTotal (b′ .state) ≡ edgeTotal s + 1
+    pub cells : (k l : ℕ) → cellAt (b′ .state) k l ≡ cellAt s k l + atEdge (classAt s v) (classAt s w) k l
 
-  -- An unlinked pair whose cell is short is added: the state stays valid, the pair is linked, there is exactly one edge more, and every other
+  -- An unlinked pair whose cell is short is added: the loan stays valid, the pair is linked, there is exactly one edge more, and every other
   -- cell is as it was.
-  pub add-works : AddFacts s v w → AddWorks (withMatrix s (joinBytes (vertexCount s) (classAt s) (s .adjacency) v w))
+  pub add-works : AddFacts b v w → AddWorks (altered b (joinBytes (vertexCount s) (classAt s) (s .adjacency) v w))
   add-works f =
       record {
-        state =
-            record {
+        loan =
+            altered-laid b g′
+            (record {
               lengths = lengths-both (withMatrix s g′) (facts .journal-length) sized;
-              is-valid = laid-valid s laid g′ (f .state .phased) (facts .journal-ok) sized (a .partial) outside;
-              phased = f .state .phased;
-            };
+              is-valid = laid-valid s laid g′ (f .loan .phased) (facts .journal-ok) sized (a .partial) outside;
+              phased = f .loan .phased;
+            });
         linked = a .linked;
         one-more = a .one-more;
         cells = a .cells;
       }
     where
       facts : StateFacts s
-      facts = valid-facts s (f .state .lengths) (f .state .is-valid)
+      facts = laid-facts b (f .loan)
 
       laid : Laid s
-      laid = facts .laid (f .state .phased)
+      laid = laid-laid b (f .loan)
 
       g′ : List ℕ
       g′ = joinBytes (vertexCount s) (classAt s) (s .adjacency) v w

@@ -1,4 +1,5 @@
--- What the code of adding has in its arrays is what the definitions speak of: the classes of the two ends, their cell, the join.
+-- What the code of adding has in its arrays is what the definitions speak of: the classes of the two ends, their cell, the join; and the loan
+-- behind its checks.
 -- Assumes nothing.
 use mathlib.Core.Path.{_≡_, refl, sym, ap, ap₂, _∙_}
 use mathlib.Core.Bool.{Bool, true}
@@ -8,8 +9,11 @@ use native.Mathlib.Omega.{arith}
 use lib.Dec.{ltb}
 use lib.ListN.{length, getD}
 use borrow.Author.Tests.{ltb-true}
+use Rattle.answer.specs.Refusals.{unlessStopped}
 use Rattle.answer.specs.declared.AddAnswer.{AddAnswer}
 use Rattle.answer.specs.declared.AddAnswer.the-variants.{Added, Refused}
+use Rattle.answer.specs.declared.Verdict.{Verdict}
+use Rattle.answer.specs.declared.Verdict.the-variants.{Go}
 use Rattle.graph.specs.Graph.{jdm, DegreeTable}
 use Rattle.graph.specs.Target.{isShort}
 use Rattle.graph.specs.Numbering.{total}
@@ -20,14 +24,16 @@ use Rattle.layout.proofs.Counted.{counted-total}
 use Rattle.journal.specs.Journal.{tableOf}
 use Rattle.adjacency.specs.Adjacency.{adjacencySize, edge}
 use Rattle.adjacency.specs.Inner.Degrees.{degreesOf}
-use Rattle.state.specs.State.{State}
+use Rattle.state.specs.State.{withMatrix}
+use Rattle.loan.specs.Loan.{Loan}
+use Rattle.loan.specs.Checks.{laidVerdict}
 use Rattle.classes.specs.Inner.Block.{startsOf, Numbered, classFrom, blockSum, BlockOf}
 use Rattle.join_bytes.specs.Join.{joinBytes, joinSwitches}
 use Rattle.join_bytes.specs.Inner.Joinable.{Joinable}
 use Rattle.switching.specs.Inner.Work.{Placed}
 use Rattle.switching.specs.declared.End.{End}
 use Rattle.classes.proofs.Blocks.{start-rises, start-most, class-below, class-only, block-cell, table-numbered, table-classes}
-use Rattle.add_edge.specs.Add.{afterAdd}
+use Rattle.add_edge.specs.Add.{addLaid, addAnswer, afterAdd, addAfter}
 use Rattle.add_edge.specs.Inner.Work.{Unlinked, endIn, addedAdjacency}
 
 pub starts-few : (c : List ℕ) {counts : List ℕ} → Counts c counts → vertices (tableIn c (countIn counts 0)) ≤ mostVertices
@@ -147,7 +153,30 @@ module _ {c counts s g degrees : List ℕ} {v w : ℕ} {x y : End} (e : Ends c c
     pub switches-read : joinSwitches n (classFrom s) g (x .at) (y .at) ≡ joinSwitches (vertices t) (vertexClass t) g v w
     switches-read = rw (e .first, e .second, en) (ap (λ (cls : ℕ → ℕ). joinSwitches (vertices t) cls g v w) same-classes)
 
--- on the table of a state's journal
-pub adjacency-of : (a : AddAnswer) (s : State) (v w : ℕ) → addedAdjacency a (tableOf (s .journal)) (s .adjacency) v w ≡ afterAdd a s v w .adjacency
-adjacency-of (Added x) s v w = refl
-adjacency-of (Refused r) s v w = refl
+-- Behind the checks 1, 2, 3, on a matrix g that is still the loan's: what is answered, and what is left.
+module _ (b : Loan) (v w : ℕ) (go : laidVerdict b ≡ Go) {g g′ : List ℕ} {r a : AddAnswer} (same : g ≡ b .state .adjacency)
+    (said : r ≡ addLaid (withMatrix (b .state) g) v w)
+    (left : g′ ≡ addedAdjacency (addLaid (withMatrix (b .state) g) v w) (tableOf (b .state .journal)) g v w) (told : r ≡ a) where
+  on-state : addLaid (b .state) v w ≡ a
+  on-state = ap (λ (h : List ℕ). addLaid (withMatrix (b .state) h) v w) (sym same) ∙ sym said ∙ told
+
+  answered : addAnswer b v w ≡ a
+  answered = ap (λ (q : Verdict). unlessStopped q Refused (addLaid (b .state) v w)) go ∙ on-state
+
+  matrix-of : (x : AddAnswer) → addedAdjacency x (tableOf (b .state .journal)) (b .state .adjacency) v w ≡ afterAdd x b v w .state .adjacency
+  matrix-of (Added y) = refl
+  matrix-of (Refused q) = refl
+
+  pub answer-is : a ≡ addAnswer b v w
+  answer-is = sym answered
+
+  pub matrix-is : g′ ≡ addAfter b v w .state .adjacency
+  matrix-is =
+      left
+      ∙ ap (λ (h : List ℕ). addedAdjacency (addLaid (withMatrix (b .state) h) v w) (tableOf (b .state .journal)) h v w) same
+      ∙ ap (λ (x : AddAnswer). addedAdjacency x (tableOf (b .state .journal)) (b .state .adjacency) v w) on-state
+      ∙ matrix-of a
+      ∙ ap (λ (x : AddAnswer). afterAdd x b v w .state .adjacency) answer-is
+
+  pub log-is : afterAdd a b v w .log ≡ addAfter b v w .log
+  log-is = ap (λ (x : AddAnswer). afterAdd x b v w .log) answer-is

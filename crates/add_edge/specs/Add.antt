@@ -10,11 +10,13 @@ use Rattle.answer.specs.declared.AddAnswer.the-variants.{Added, Refused}
 use Rattle.graph.specs.Graph.{DegreeTable}
 use Rattle.graph.specs.Target.{isShort}
 use Rattle.graph.specs.Tests.{vertices, vertexClass}
-use Rattle.journal.specs.Journal.{phaseLaid, tableOf}
+use Rattle.journal.specs.Journal.{tableOf}
 use Rattle.adjacency.specs.Adjacency.{edge}
-use Rattle.state.specs.State.{State, withMatrix}
-use Rattle.state.specs.Checks.{phaseVerdict, pairVerdict}
+use Rattle.state.specs.State.{State}
+use Rattle.state.specs.Checks.{pairVerdict}
 use Rattle.state.specs.Laid.{vertexCount, classAt}
+use Rattle.loan.specs.Loan.{Loan, altered}
+use Rattle.loan.specs.Checks.{laidVerdict}
 use Rattle.join_bytes.specs.Join.{joinBytes, joinSwitches}
 
 -- on two different vertices that the matrix g of the table t does not link: the check 16, whose places are their classes, the lower first
@@ -31,17 +33,18 @@ addPair s v w =
     unless (eqb (edge (s .adjacency) v w) 0) (Refused (refuse EdgePresent 0 0))
     (addUnlinked (tableOf (s .journal)) (s .adjacency) v w)
 
--- the checks 1, 2, 3, then 13, 14, then 15, 16
-abbrev pub addAnswer : State → ℕ → ℕ → AddAnswer
-addAnswer s v w =
-    unlessStopped (phaseVerdict phaseLaid s) Refused
-    (unlessStopped (pairVerdict (vertexCount s) v w) Refused
-    (addPair s v w))
+-- on a valid laid state: the checks 13, 14, then these
+abbrev pub addLaid : State → ℕ → ℕ → AddAnswer
+addLaid s v w = unlessStopped (pairVerdict (vertexCount s) v w) Refused (addPair s v w)
 
--- the state afterwards
-abbrev pub afterAdd : AddAnswer → State → ℕ → ℕ → State
-afterAdd (Added switches) s v w = withMatrix s (joinBytes (vertexCount s) (classAt s) (s .adjacency) v w)
-afterAdd (Refused r) s v w = s
+-- the checks 1, 2, 3 before them
+abbrev pub addAnswer : Loan → ℕ → ℕ → AddAnswer
+addAnswer b v w = unlessStopped (laidVerdict b) Refused (addLaid (b .state) v w)
 
-abbrev pub addAfter : State → ℕ → ℕ → State
-addAfter s v w = afterAdd (addAnswer s v w) s v w
+-- what was lent, afterwards: the vertices are joined, and the log is empty
+abbrev pub afterAdd : AddAnswer → Loan → ℕ → ℕ → Loan
+afterAdd (Added switches) b v w = altered b (joinBytes (vertexCount (b .state)) (classAt (b .state)) (b .state .adjacency) v w)
+afterAdd (Refused r) b v w = b
+
+abbrev pub addAfter : Loan → ℕ → ℕ → Loan
+addAfter b v w = afterAdd (addAnswer b v w) b v w

@@ -9,13 +9,15 @@ ghost use Rattle.graph.specs.Tests.{mostClasses, vertices};
 ghost use Rattle.table.specs.Inner.Cells.{matrixOf, AtMost, cellSumMost};
 ghost use Rattle.answer.specs.declared.Verdict.the-variants.{Go};
 ghost use Rattle.layout.specs.Inner.Arrays.{countIn, tableIn, Counts};
-ghost use Rattle.journal.specs.Journal.{phaseLaid};
+ghost use Rattle.journal.specs.Journal.{phaseLaid, tableOf};
 ghost use Rattle.adjacency.specs.Adjacency.{adjacencySize, edge};
 ghost use Rattle.state.specs.State.{stateOf};
 ghost use Rattle.state.specs.Checks.{phaseVerdict};
-ghost use Rattle.state.specs.Inner.Opened.{laidFront, Opened};
+ghost use Rattle.state.specs.Inner.Opened.{Opened};
+ghost use Rattle.loan.specs.Loan.{loanOf};
+ghost use Rattle.loan.specs.Inner.Opened.{loanFront};
 ghost use Rattle.classes.specs.Inner.Block.{blockSum, BlockOf};
-ghost use Rattle.add_edge.specs.Add.{addUnlinked, addAnswer, addAfter};
+ghost use Rattle.add_edge.specs.Add.{addUnlinked, addLaid, addAnswer, addAfter};
 ghost use Rattle.add_edge.specs.Inner.Work.{Unlinked, endIn, addedAdjacency};
 use adjacency::edge_at;
 use answer::AddAnswer;
@@ -31,9 +33,10 @@ use joining::both_reliefs;
 use joining::join;
 use layout::MAX_VERTICES;
 use layout::vertex_count;
-use state::laid_check;
-use state::open;
+use loan::loan_check;
+use loan::open_loan;
 use state::pair_check;
+use swap_log::empty_log;
 use switching::End;
 use table::cells::CELLS;
 use table::cells::cell;
@@ -114,8 +117,8 @@ fn add_laid(
     w: usize,
 ) -> AddAnswer
     requires { ⌜ (phaseVerdict phaseLaid (stateOf (now journal) (now adjacency)) ≡ Go) × Opened (stateOf (now journal) (now adjacency)) (now cells) (now counts) (now degrees) ⌝ }
-    ensures { λ r. ⌜ r ≡ addAnswer (stateOf (now (journal .entry)) (now (adjacency .entry))) v w ⌝ }
-    ensures { λ _. ⌜ now (adjacency .exit) ≡ addAfter (stateOf (now (journal .entry)) (now (adjacency .entry))) v w .adjacency ⌝ }
+    ensures { λ r. ⌜ r ≡ addLaid (stateOf (now (journal .entry)) (now (adjacency .entry))) v w ⌝ }
+    ensures { λ _. ⌜ now (adjacency .exit) ≡ addedAdjacency (addLaid (stateOf (now (journal .entry)) (now (adjacency .entry))) v w) (tableOf (now (journal .entry))) (now (adjacency .entry)) v w ⌝ }
 {
     let n = vertex_count(cells, counts);
     let verdict = pair_check(n, v, w);
@@ -130,28 +133,56 @@ fn add_laid(
     }
 }
 
-// Behind the front: the laid matrix, then the pair.
-fn add_checked(journal: &[u8], adjacency: &mut [u8], v: usize, w: usize) -> AddAnswer
-    requires { ⌜ laidFront (stateOf (now journal) (now adjacency)) ≡ Go ⌝ }
-    ensures { λ r. ⌜ r ≡ addAnswer (stateOf (now (journal .entry)) (now (adjacency .entry))) v w ⌝ }
-    ensures { λ _. ⌜ now (adjacency .exit) ≡ addAfter (stateOf (now (journal .entry)) (now (adjacency .entry))) v w .adjacency ⌝ }
+// Behind the front: the laid matrix and its log, then the pair. A join empties the log.
+fn add_checked(
+    journal: &[u8],
+    adjacency: &mut [u8],
+    log: &mut [u8],
+    v: usize,
+    w: usize,
+) -> AddAnswer
+    requires { ⌜ loanFront (loanOf (now journal) (now adjacency) (now log)) ≡ Go ⌝ }
+    ensures { λ r. ⌜ r ≡ addAnswer (loanOf (now (journal .entry)) (now (adjacency .entry)) (now (log .entry))) v w ⌝ }
+    ensures { λ _. ⌜ now (adjacency .exit) ≡ addAfter (loanOf (now (journal .entry)) (now (adjacency .entry)) (now (log .entry))) v w .state .adjacency ⌝ }
+    ensures { λ _. ⌜ now (log .exit) ≡ addAfter (loanOf (now (journal .entry)) (now (adjacency .entry)) (now (log .entry))) v w .log ⌝ }
 {
     let mut cells = [0u32; CELLS];
     let mut counts = [0usize; MAX_CLASSES];
     let mut degrees = [0usize; MAX_VERTICES];
-    if !open(journal, adjacency, &mut cells, &mut counts, &mut degrees) {
+    if !open_loan(
+        journal,
+        adjacency,
+        log,
+        &mut cells,
+        &mut counts,
+        &mut degrees,
+    ) {
         return AddAnswer::Refused(refuse(Cause::InvalidState, 0, 0));
     }
-    add_laid(journal, adjacency, &cells, &counts, &mut degrees, v, w)
+    let answer = add_laid(journal, adjacency, &cells, &counts, &mut degrees, v, w);
+    match answer {
+        AddAnswer::Refused(r) => AddAnswer::Refused(r),
+        AddAnswer::Added(x) => {
+            empty_log(log);
+            AddAnswer::Added(x)
+        }
+    }
 }
 
-pub fn add_edge(journal: &[u8], adjacency: &mut [u8], v: usize, w: usize) -> AddAnswer
-    ensures { λ r. ⌜ r ≡ addAnswer (stateOf (now (journal .entry)) (now (adjacency .entry))) v w ⌝ }
-    ensures { λ _. ⌜ now (adjacency .exit) ≡ addAfter (stateOf (now (journal .entry)) (now (adjacency .entry))) v w .adjacency ⌝ }
+pub fn add_edge(
+    journal: &[u8],
+    adjacency: &mut [u8],
+    log: &mut [u8],
+    v: usize,
+    w: usize,
+) -> AddAnswer
+    ensures { λ r. ⌜ r ≡ addAnswer (loanOf (now (journal .entry)) (now (adjacency .entry)) (now (log .entry))) v w ⌝ }
+    ensures { λ _. ⌜ now (adjacency .exit) ≡ addAfter (loanOf (now (journal .entry)) (now (adjacency .entry)) (now (log .entry))) v w .state .adjacency ⌝ }
+    ensures { λ _. ⌜ now (log .exit) ≡ addAfter (loanOf (now (journal .entry)) (now (adjacency .entry)) (now (log .entry))) v w .log ⌝ }
 {
-    let verdict = laid_check(journal, adjacency);
+    let verdict = loan_check(journal, adjacency, log);
     match verdict {
         Verdict::Stop(r) => AddAnswer::Refused(r),
-        Verdict::Go => add_checked(journal, adjacency, v, w),
+        Verdict::Go => add_checked(journal, adjacency, log, v, w),
     }
 }

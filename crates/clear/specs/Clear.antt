@@ -1,4 +1,5 @@
--- Clearing (document 01): it looks only at the two lengths and sets every byte to zero.
+-- Clearing (document 01): it looks only at the lengths, of journal, matrix and log, and sets every byte to zero (document 02, P8: "clearing is given it and
+-- empties it always").
 -- Assumes nothing.
 use mathlib.Core.Path.{_≡_}
 use mathlib.Core.Bool.{true}
@@ -9,19 +10,22 @@ use Rattle.answer.specs.declared.Cause.the-variants.{WrongLength}
 use Rattle.answer.specs.declared.ClearAnswer.{ClearAnswer}
 use Rattle.answer.specs.declared.ClearAnswer.the-variants.{Cleared, Refused}
 use Rattle.journal.specs.Journal.{phaseTaking, phase, blocks, tableOf}
-use Rattle.state.specs.State.{State, cleared}
+use Rattle.state.specs.State.{State}
 use Rattle.state.specs.Valid.{lengthsOk, valid}
+use Rattle.loan.specs.Loan.{Loan, loanOf, clearedLoan}
+use Rattle.loan.specs.Valid.{loanLengthsOk, ValidLoan}
 
-abbrev pub clearAnswer : State → ClearAnswer
-clearAnswer s = unless (lengthsOk s) (Refused (refuse WrongLength 0 0)) Cleared
+abbrev pub clearAnswer : Loan → ClearAnswer
+clearAnswer b = unless (loanLengthsOk b) (Refused (refuse WrongLength 0 0)) Cleared
 
--- the state afterwards
-abbrev pub afterClear : ClearAnswer → State → State
-afterClear Cleared s = record { journal = replicate (length (s .journal)) 0; adjacency = replicate (length (s .adjacency)) 0 }
-afterClear (Refused r) s = s
+-- what was lent, afterwards
+abbrev pub afterClear : ClearAnswer → Loan → Loan
+afterClear Cleared b =
+    loanOf (replicate (length (b .state .journal)) 0) (replicate (length (b .state .adjacency)) 0) (replicate (length (b .log)) 0)
+afterClear (Refused r) b = b
 
-abbrev pub clearAfter : State → State
-clearAfter s = afterClear (clearAnswer s) s
+abbrev pub clearAfter : Loan → Loan
+clearAfter b = afterClear (clearAnswer b) b
 
 -- a state just cleared
 pub record ClearedState (s : State) : Type 0 where
@@ -31,6 +35,9 @@ pub record ClearedState (s : State) : Type 0 where
   pub no-blocks : blocks (s .journal) ≡ 0
   pub no-table : tableOf (s .journal) ≡ noTable
 
--- What is proved of clearing (proofs/Cleared.antt): any two lists of the right lengths become the same valid state, with no blocks.
+-- What is proved of clearing (proofs/Cleared.antt): any three lists of the right lengths become the same valid loan, with no blocks and an empty log.
 abbrev pub ClearingClears : Type 0
-ClearingClears = ((s : State) → lengthsOk s ≡ true → (clearAnswer s ≡ Cleared) × (clearAfter s ≡ cleared)) × ClearedState cleared
+ClearingClears =
+    ((b : Loan) → loanLengthsOk b ≡ true → (clearAnswer b ≡ Cleared) × (clearAfter b ≡ clearedLoan))
+    × ClearedState (clearedLoan .state)
+    × ValidLoan clearedLoan

@@ -17,26 +17,29 @@ use Rattle.graph.specs.Target.{Partial}
 use Rattle.graph.specs.Tests.{mostClasses, classDegree}
 use Rattle.graph.specs.Theorems.{Updated}
 use Rattle.graph.proofs.Update.{removing-updates}
-use Rattle.journal.specs.Journal.{phaseLaid, jdmOf}
+use Rattle.journal.specs.Journal.{jdmOf}
 use Rattle.adjacency.specs.Adjacency.{adjacencySize, side, edge, setEdge}
 use Rattle.adjacency.specs.Clauses.{ZeroOutside}
 use Rattle.adjacency.proofs.Set.{set-length, set-removes, set-outside}
 use Rattle.state.specs.State.{State, withMatrix}
-use Rattle.state.specs.Checks.{phaseVerdict, pairVerdict}
-use Rattle.state.specs.Valid.{ValidLaid}
+use Rattle.state.specs.Checks.{pairVerdict}
 use Rattle.state.specs.Laid.{vertexCount, classAt}
-use Rattle.state.proofs.Facts.{edgeTotal, StateFacts, Laid, valid-facts, lengths-both}
-use Rattle.state.proofs.Checks.{laid-passed, laid-goes, pair-passed, pair-goes}
+use Rattle.state.proofs.Facts.{edgeTotal, StateFacts, Laid, lengths-both}
+use Rattle.state.proofs.Checks.{pair-passed, pair-goes}
 use Rattle.state.proofs.Graph.{laid-valid}
+use Rattle.loan.specs.Loan.{Loan, altered}
+use Rattle.loan.specs.Valid.{LaidLoan}
+use Rattle.loan.specs.Checks.{laidVerdict}
+use Rattle.loan.proofs.Laid.{laid-passed, laid-go, laid-facts, laid-laid, altered-laid}
 use Rattle.remove_edge.specs.Remove.{removeAnswer}
 
 -- what the checks of a removed edge said
-pub record RemoveFacts (s : State) (v w : ℕ) : Type 0 where
-  pub state : ValidLaid s
-  pub first : v < vertexCount s
-  pub second : w < vertexCount s
+pub record RemoveFacts (b : Loan) (v w : ℕ) : Type 0 where
+  pub loan : LaidLoan b
+  pub first : v < vertexCount (b .state)
+  pub second : w < vertexCount (b .state)
   pub distinct : v ≢ w
-  pub linked : edge (s .adjacency) v w ≡ 1
+  pub linked : edge (b .state .adjacency) v w ≡ 1
 
 abbrev IsRemoved : RemoveAnswer → Type 0
 IsRemoved Removed = Unit {0}
@@ -45,55 +48,59 @@ IsRemoved (Refused r) = ⊥
 refused-not-removed : (r : Refusal) → Refused r ≡ Removed → ⊥
 refused-not-removed r e = subst IsRemoved (sym e) tt
 
-module _ (s : State) (v w : ℕ) where
-  pub removed-facts : removeAnswer s v w ≡ Removed → RemoveFacts s v w
+module _ (b : Loan) (v w : ℕ) where
+  abbrev s : State
+  s = b .state
+
+  pub removed-facts : removeAnswer b v w ≡ Removed → RemoveFacts b v w
   removed-facts e =
       let no = refused-not-removed in
-      let p = unless-stopped-passed (phaseVerdict phaseLaid s) Refused _ Removed no e in
+      let p = unless-stopped-passed (laidVerdict b) Refused _ Removed no e in
       let q = unless-stopped-passed (pairVerdict (vertexCount s) v w) Refused _ Removed no (p .1) in
       let d = pair-passed (vertexCount s) v w (q .0) in
       let u = unless-passed (eqb (edge (s .adjacency) v w) 1) _ _ Removed (no _) (q .1) in
       record {
-        state = laid-passed s (p .0);
+        loan = laid-passed b (p .0);
         first = d .0;
         second = d .1;
         distinct = d .2;
         linked = eqb-true (edge (s .adjacency) v w) 1 (u .0);
       }
 
-  pub facts-removed : RemoveFacts s v w → removeAnswer s v w ≡ Removed
+  pub facts-removed : RemoveFacts b v w → removeAnswer b v w ≡ Removed
   facts-removed f =
       rw (
-        laid-goes s (f .state),
+        laid-go b (f .loan),
         pair-goes (vertexCount s) v w (f .first) (f .second) (f .distinct),
         eq-eqb (edge (s .adjacency) v w) 1 (f .linked),
       )
 
   -- after it
-  pub record RemoveWorks (s′ : State) : Type 0 where
-    pub state : ValidLaid s′
-    pub unlinked : edge (s′ .adjacency) v w ≡ 0
-    pub one-less : edgeTotal s ≡ edgeTotal s′ + 1
+  pub record RemoveWorks (b′ : Loan) : Type 0 where
+    pub loan : LaidLoan b′
+    pub unlinked : edge (b′ .state .adjacency) v w ≡ 0
+    pub one-less : edgeTotal s ≡ edgeTotal (b′ .state) + 1
 
-  -- A linked pair is removed: the state stays valid, with exactly one edge less.
-  pub remove-works : RemoveFacts s v w → RemoveWorks (withMatrix s (setEdge (s .adjacency) v w 0))
+  -- A linked pair is removed: the loan stays valid, with exactly one edge less.
+  pub remove-works : RemoveFacts b v w → RemoveWorks (altered b (setEdge (s .adjacency) v w 0))
   remove-works f =
       record {
-        state =
-            record {
+        loan =
+            altered-laid b g′
+            (record {
               lengths = lengths-both (withMatrix s g′) (facts .journal-length) sized;
-              is-valid = laid-valid s laid g′ (f .state .phased) (facts .journal-ok) sized partial outside;
-              phased = f .state .phased;
-            };
+              is-valid = laid-valid s laid g′ (f .loan .phased) (facts .journal-ok) sized partial outside;
+              phased = f .loan .phased;
+            });
         unlinked = u .1;
         one-less = u .2 .count;
       }
     where
       facts : StateFacts s
-      facts = valid-facts s (f .state .lengths) (f .state .is-valid)
+      facts = laid-facts b (f .loan)
 
       laid : Laid s
-      laid = facts .laid (f .state .phased)
+      laid = laid-laid b (f .loan)
 
       before : Partial (vertexCount s) mostClasses (classAt s) classDegree (jdmOf (s .journal)) (edge (s .adjacency))
       before = laid .partial

@@ -7,14 +7,13 @@ use borrow.Author.Needs.{needs}
 use borrow.Author.Tests.{eq-eqb, ne-eqb}
 use Rattle.answer.specs.declared.AddAnswer.the-variants.{Refused}
 use Rattle.graph.specs.Graph.{DegreeTable}
-use Rattle.journal.specs.Journal.{phaseLaid, tableOf}
+use Rattle.journal.specs.Journal.{phaseLaid}
 use Rattle.state.specs.State.{stateOf}
 use Rattle.state.specs.Checks.{pairVerdict}
 use Rattle.state.proofs.Checks.{phase-facts, pair-passed}
 use Rattle.state.proofs.Opened.{opened-vertices}
 use Rattle.add_edge.specs.Add.{addUnlinked}
 use Rattle.add_edge.specs.Inner.Work.{Unlinked, addedAdjacency}
-use Rattle.add_edge.proofs.Unlinked.{adjacency-of}
 use Rattle.add_edge.proofs.add_laid.Statement.{statement}
 use Rattle.add_edge.proofs.add_laid.Tie as tie
 
@@ -48,7 +47,6 @@ add-laid-spec =
     let st = stateOf (s .args .journal .now) (s .args .adjacency .now) in
     let f = phase-facts phaseLaid st (s .pre .0) in
     rw (
-      s .pre .0,
       ← (opened-vertices st (s .pre .1) (f .0 .laid (f .1)) (q .vertex-count .ensures)),
       ← (p .pair-check .ensures),
       m .enum-told .given .1,
@@ -91,7 +89,6 @@ add-laid-spec =
     let st = stateOf (s .args .journal .now) (s .args .adjacency .now) in
     let f = phase-facts phaseLaid st (s .pre .0) in
     rw (
-      s .pre .0,
       ← (opened-vertices st (s .pre .1) (f .0 .laid (f .1)) (q .vertex-count .ensures)),
       ← (p .pair-check .ensures),
       v .verdict .given .1,
@@ -112,9 +109,8 @@ add-laid-spec =
     let T = s .pre .1 .said in
     let g = a .adjacency .now in
     let go = ap (λ (x : ℕ). pairVerdict x (a .v) (a .w)) (sym n) ∙ sym (p .pair-check .ensures) ∙ m .enum-told .given .1 in
-    rw (s .pre .0, go, eq-eqb _ _ (rw (i .before .edge-at .ensures .0) at (i .if1 .left))) (
+    rw (go, eq-eqb _ _ (rw (i .before .edge-at .ensures .0) at (i .if1 .left))) (
       u .add-unlinked .ensures .0 ∙ ap (λ (t : DegreeTable). addUnlinked t g (a .v) (a .w)) T,
       u .add-unlinked .ensures .1
-          ∙ ap (λ (t : DegreeTable). addedAdjacency (addUnlinked t g (a .v) (a .w)) t g (a .v) (a .w)) T
-          ∙ adjacency-of (addUnlinked (tableOf (a .journal .now)) g (a .v) (a .w)) st (a .v) (a .w),
+          ∙ ap (λ (t : DegreeTable). addedAdjacency (addUnlinked t g (a .v) (a .w)) t g (a .v) (a .w)) T,
     )))  -- returns-3

@@ -34,7 +34,6 @@ remove-laid-spec =
     let p = m .before .before in
     let s = p .before .before .before in
     rw (
-      s .pre .0,
       ← (s .pre .1),
       ← (p .pair-check .ensures),
       m .enum-told .given .1,
@@ -54,7 +53,7 @@ remove-laid-spec =
     let v = c .before in
     let p = v .before .before in
     let s = p .before .before .before in
-    rw (s .pre .0, ← (s .pre .1), ← (p .pair-check .ensures), v .verdict .given .1) (refl, refl))  -- returns-2
+    rw (← (s .pre .1), ← (p .pair-check .ensures), v .verdict .given .1) (refl, refl))  -- returns-2
     (λ c. search needs)  -- same-length-2
     (λ c.
     let q = c .before .before in
@@ -63,7 +62,6 @@ remove-laid-spec =
     let p = m .before .before in
     let s = p .before .before .before in
     rw (
-      s .pre .0,
       ← (s .pre .1),
       ← (p .pair-check .ensures),
       m .enum-told .given .1,
