@@ -20,11 +20,12 @@ use Rattle.state.specs.Inner.Opened.{Opened}
 use Rattle.classes.specs.Inner.Block.{startsOf, classFrom}
 use Rattle.classes.proofs.Blocks.{table-classes}
 use Rattle.join_records.specs.Record.{joinRecordSize}
-use Rattle.completion.specs.Complete.{fresh, mostEdges, missing}
+use Rattle.completion.specs.Complete.{fresh, mostEdges, missing, ranLaid, outputRan}
+use Rattle.completion.specs.Inner.Laid.{adjacencyRan}
 use Rattle.progress.specs.Inner.Work.{Working, Started, WroteRecords}
 use Rattle.progress.specs.declared.Start.{Start}
 use Rattle.progress.proofs.Whole.{vertices-few, wanted-enough, missing-is, lacks-missing, lacks-few, working-start, joins-few, work-done}
-use Rattle.shuffled_completion.specs.Shuffle.{Shuffled, runShuffled, shuffled, withX, shuffleAnswer, shuffleAfter, shuffleOutput}
+use Rattle.shuffled_completion.specs.Shuffle.{Shuffled, runShuffled, shuffled, withX}
 use Rattle.tracking.specs.Inner.Track.{ClassArray}
 use Rattle.complete_shuffled.specs.Inner.Work.{Lacks, begins}
 use Rattle.shuffled_completion.proofs.Works.{shuffled-works}
@@ -69,9 +70,10 @@ module _ (s : State) {cells counts degrees : List ℕ} (passed : phaseVerdict ph
     -- the records stand at the start of the output out′
     pub end-done : (out out′ : List ℕ) → joinRecordSize * missing s ≤ length out → WroteRecords 0 (r .ran .joins) out out′
         → take (joinRecordSize * r .ran .joins) out′ ≡ r .ran .records
-        → (Completed (r .ran .joins) (r .ran .switches) (joinRecordSize * r .ran .joins) (r .x) ≡ shuffleAnswer s x (length out))
-        × ((r .ran .adjacency ≡ shuffleAfter s x (length out) .adjacency)
-        × (out′ ≡ shuffleOutput s x out))
+        → (Completed (r .ran .joins) (r .ran .switches) (joinRecordSize * r .ran .joins) (r .x)
+        ≡ withX (shuffled s x .x) (ranLaid (shuffled s x .ran) s (length out)))
+        × ((r .ran .adjacency ≡ adjacencyRan (ranLaid (shuffled s x .ran) s (length out)) (shuffled s x .ran) (s .adjacency))
+        × (out′ ≡ outputRan (ranLaid (shuffled s x .ran) s (length out)) (shuffled s x .ran) out))
     end-done out out′ fits wrote records =
         let done = work-done s (laid-passed s passed) (shuffled-works s x (laid-passed s passed)) ran-is out out′ fits wrote records in (
           ap (λ (y : ℕ). Completed (r .ran .joins) (r .ran .switches) (joinRecordSize * r .ran .joins) y) (ap (λ (y : Shuffled). y .x) shuffled-is)

@@ -3,3 +3,4 @@ pub mod Onward
 pub mod Beginning
 pub mod Counting
 pub mod Entry
+pub mod Checked

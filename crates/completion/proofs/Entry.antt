@@ -21,17 +21,19 @@ use Rattle.graph.specs.Tests.{mostClasses, rowSum, Table, classDegree, Passed}
 use Rattle.graph.proofs.Complete.{complete-is-exact}
 use Rattle.graph.proofs.Passes.{passes-passed}
 use Rattle.graph.proofs.Realizability.{has-table, has-isolated}
-use Rattle.journal.specs.Journal.{phaseLaid, jdmOf, isolatedOf, tableOf}
+use Rattle.journal.specs.Journal.{jdmOf, isolatedOf, tableOf}
 use Rattle.journal.proofs.Table.{jdm-table}
 use Rattle.adjacency.specs.Clauses.{ZeroOutside}
 use Rattle.adjacency.specs.Adjacency.{edge}
 use Rattle.state.specs.State.{State, withMatrix}
-use Rattle.state.specs.Checks.{phaseVerdict}
 use Rattle.state.specs.Valid.{ValidLaid}
 use Rattle.state.specs.Laid.{vertexCount, classAt}
 use Rattle.state.proofs.Facts.{edgeTotal, StateFacts, Laid, valid-facts, lengths-both}
-use Rattle.state.proofs.Checks.{laid-passed, laid-goes}
 use Rattle.state.proofs.Graph.{laid-valid}
+use Rattle.loan.specs.Loan.{Loan}
+use Rattle.loan.specs.Valid.{LaidLoan}
+use Rattle.loan.specs.Checks.{laidVerdict}
+use Rattle.loan.proofs.Laid.{laid-passed, laid-go}
 use Rattle.join_records.specs.Record.{joinRecordSize}
 use Rattle.completion.specs.Complete.{Ran, mostEdges, fresh, completed, missing, ranLaid, ranAnswer}
 use Rattle.completion.proofs.Works.{few-edges, Good, CompletedRun, completes}
@@ -44,45 +46,49 @@ IsCompleted (Refused r) = ⊥
 pub refused-not-completed : (joins switches n : ℕ) (r : Refusal) → Refused r ≡ Completed joins switches n → ⊥
 refused-not-completed joins switches n r e = subst IsCompleted (sym e) tt
 
-module _ (s : State) where
-  -- the work ends in r, whichever pairs it joins
+-- the work ends in r, whichever pairs it joins; by the room that an output of m bytes has
+module _ (s : State) (r : Ran) (m : ℕ) where
+  pub laid-roomy : joinRecordSize * missing s ≤ m → ranLaid r s m ≡ Completed (r .joins) (r .switches) (length (r .records))
+  laid-roomy h = rw (le-leb (joinRecordSize * missing s) m h)
+
+  pub laid-short : m < joinRecordSize * missing s → ranLaid r s m ≡ Refused (refuse OutputTooShort 0 0)
+  laid-short h = rw (lt-leb (joinRecordSize * missing s) m h)
+
+module _ (b : Loan) where
   module _ (r : Ran) where
+    abbrev lent : State
+    lent = b .state
+
     -- what an answer Completed for an output of m bytes says
     pub record CompletedFacts (m joins switches n : ℕ) : Type 0 where
-      pub facts : ValidLaid s
-      pub room : joinRecordSize * missing s ≤ m
+      pub loan : LaidLoan b
+      pub room : joinRecordSize * missing lent ≤ m
       pub joins-are : joins ≡ r .joins
       pub switches-are : switches ≡ r .switches
       pub length-is : n ≡ length (r .records)
 
-    pub completed-facts : (m joins switches n : ℕ) → ranAnswer r s m ≡ Completed joins switches n → CompletedFacts m joins switches n
+    pub completed-facts : (m joins switches n : ℕ) → ranAnswer r b m ≡ Completed joins switches n → CompletedFacts m joins switches n
     completed-facts m joins switches n e =
         let no = refused-not-completed joins switches n in
-        let p = unless-stopped-passed (phaseVerdict phaseLaid s) Refused _ (Completed joins switches n) no e in
-        let h = unless-passed (leb (joinRecordSize * missing s) m) _ _ (Completed joins switches n) (no _) (p .1) in
+        let p = unless-stopped-passed (laidVerdict b) Refused _ (Completed joins switches n) no e in
+        let h = unless-passed (leb (joinRecordSize * missing lent) m) _ _ (Completed joins switches n) (no _) (p .1) in
         record {
-          facts = laid-passed s (p .0);
-          room = leb-true (joinRecordSize * missing s) m (h .0);
+          loan = laid-passed b (p .0);
+          room = leb-true (joinRecordSize * missing lent) m (h .0);
           joins-are = cc (h .1);
           switches-are = cc (h .1);
           length-is = cc (h .1);
         }
 
-    -- by the room that an output of m bytes has
     module _ (m : ℕ) where
-      pub laid-roomy : joinRecordSize * missing s ≤ m → ranLaid r s m ≡ Completed (r .joins) (r .switches) (length (r .records))
-      laid-roomy h = rw (le-leb (joinRecordSize * missing s) m h)
+      pub facts-completed : LaidLoan b → joinRecordSize * missing lent ≤ m
+          → ranAnswer r b m ≡ Completed (r .joins) (r .switches) (length (r .records))
+      facts-completed f h = rw (laid-go b f) (laid-roomy lent r m h)
 
-      pub laid-short : m < joinRecordSize * missing s → ranLaid r s m ≡ Refused (refuse OutputTooShort 0 0)
-      laid-short h = rw (lt-leb (joinRecordSize * missing s) m h)
+      pub short-refused : LaidLoan b → m < joinRecordSize * missing lent → ranAnswer r b m ≡ Refused (refuse OutputTooShort 0 0)
+      short-refused f h = rw (laid-go b f) (laid-short lent r m h)
 
-      pub facts-completed : ValidLaid s → joinRecordSize * missing s ≤ m
-          → ranAnswer r s m ≡ Completed (r .joins) (r .switches) (length (r .records))
-      facts-completed f h = rw (laid-goes s f) (laid-roomy h)
-
-      pub short-refused : ValidLaid s → m < joinRecordSize * missing s → ranAnswer r s m ≡ Refused (refuse OutputTooShort 0 0)
-      short-refused f h = rw (laid-goes s f) (laid-short h)
-
+module _ (s : State) where
   -- a valid laid state is where a run may begin
   pub good-start : ValidLaid s → Good (vertexCount s) (classAt s) (jdmOf (s .journal)) (fresh (s .adjacency))
   good-start f =

@@ -1,9 +1,9 @@
 -- Completing (document 01: finish): while a cell is short, the pair of specs/Choice.antt is joined, and its record (join_records/specs/Record.antt) written.
 -- Assumes nothing.
-use mathlib.Core.Bool.{Bool}
+use mathlib.Core.Bool.{Bool, cond}
 use mathlib.Core.List.{List, [], _++_}
 use Prim.Native.Nat.{ℕ, _+_, _-_, _*_, _/_}
-use lib.Dec.{ltb}
+use lib.Dec.{ltb, eqb}
 use lib.ListN.{length}
 use lib.Seq.{sets}
 use Rattle.finite.specs.Range.{iterate}
@@ -14,11 +14,13 @@ use Rattle.answer.specs.declared.CompleteAnswer.the-variants.{Completed, Refuse
 use Rattle.graph.specs.Graph.{edges}
 use Rattle.graph.specs.Tests.{mostDegree, mostClasses}
 use Rattle.layout.specs.Layout.{mostVertices, wanted}
-use Rattle.journal.specs.Journal.{phaseLaid, jdmOf}
+use Rattle.journal.specs.Journal.{jdmOf}
 use Rattle.adjacency.specs.Adjacency.{edge}
 use Rattle.state.specs.State.{State, withMatrix}
-use Rattle.state.specs.Checks.{phaseVerdict}
 use Rattle.state.specs.Laid.{vertexCount, classAt}
+use Rattle.swap_log.specs.Log.{emptyLog}
+use Rattle.loan.specs.Loan.{Loan}
+use Rattle.loan.specs.Checks.{laidVerdict}
 use Rattle.join_bytes.specs.Join.{joinBytes, joinSwitches}
 use Rattle.completion.specs.Choice.{shortK, shortL, openV, openW}
 use Rattle.join_records.specs.Record.{joinRecordSize, joinRecord}
@@ -80,32 +82,36 @@ ranLaid r s m =
     unlessTooShort (joinRecordSize * missing s) m Refused
     (Completed (r .joins) (r .switches) (length (r .records)))
 
--- the checks 1, 2, 3, then 18
-abbrev pub ranAnswer : Ran → State → ℕ → CompleteAnswer
-ranAnswer r s m = unlessStopped (phaseVerdict phaseLaid s) Refused (ranLaid r s m)
+-- the checks 1, 2, 3 before it
+abbrev pub ranAnswer : Ran → Loan → ℕ → CompleteAnswer
+ranAnswer r b m = unlessStopped (laidVerdict b) Refused (ranLaid r (b .state) m)
 
--- the state afterwards
-abbrev pub afterRan : CompleteAnswer → Ran → State → State
-afterRan (Completed joins switches n) r s = withMatrix s (r .adjacency)
-afterRan (Refused x) r s = s
+-- the log after so many joins: emptied by the first
+abbrev pub logAfter : ℕ → List ℕ → List ℕ
+logAfter joins l = cond (eqb joins 0) l emptyLog
 
-abbrev pub ranAfter : Ran → State → ℕ → State
-ranAfter r s m = afterRan (ranAnswer r s m) r s
+-- what was lent, afterwards
+abbrev pub afterRan : CompleteAnswer → Ran → Loan → Loan
+afterRan (Completed joins switches n) r b = record { state = withMatrix (b .state) (r .adjacency); log = logAfter joins (b .log) }
+afterRan (Refused x) r b = b
+
+abbrev pub ranAfter : Ran → Loan → ℕ → Loan
+ranAfter r b m = afterRan (ranAnswer r b m) r b
 
 -- the output afterwards: the records, and behind them what was there
 abbrev pub outputRan : CompleteAnswer → Ran → List ℕ → List ℕ
 outputRan (Completed joins switches n) r out = sets out 0 (r .records)
 outputRan (Refused x) r out = out
 
-abbrev pub ranOutput : Ran → State → List ℕ → List ℕ
-ranOutput r s out = outputRan (ranAnswer r s (length out)) r out
+abbrev pub ranOutput : Ran → Loan → List ℕ → List ℕ
+ranOutput r b out = outputRan (ranAnswer r b (length out)) r out
 
 -- completing, for an output of m bytes, or for one that is lent as `out`
-abbrev pub completeAnswer : State → ℕ → CompleteAnswer
-completeAnswer s m = ranAnswer (completed s) s m
+abbrev pub completeAnswer : Loan → ℕ → CompleteAnswer
+completeAnswer b m = ranAnswer (completed (b .state)) b m
 
-abbrev pub completeAfter : State → ℕ → State
-completeAfter s m = ranAfter (completed s) s m
+abbrev pub completeAfter : Loan → ℕ → Loan
+completeAfter b m = ranAfter (completed (b .state)) b m
 
-abbrev pub completeOutput : State → List ℕ → List ℕ
-completeOutput s out = ranOutput (completed s) s out
+abbrev pub completeOutput : Loan → List ℕ → List ℕ
+completeOutput b out = ranOutput (completed (b .state)) b out

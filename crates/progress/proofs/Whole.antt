@@ -29,14 +29,15 @@ use Rattle.state.proofs.Opened.{opened-edges}
 use Rattle.classes.specs.Inner.Block.{startsOf, classFrom}
 use Rattle.classes.proofs.Blocks.{table-numbered, table-classes}
 use Rattle.join_records.specs.Record.{joinRecordSize}
-use Rattle.completion.specs.Complete.{Ran, fresh, run, mostEdges, completed, missing, ranAnswer, ranAfter, ranOutput}
+use Rattle.completion.specs.Complete.{Ran, fresh, run, mostEdges, completed, missing, ranLaid, outputRan}
 use Rattle.completion.specs.Inner.Cellwise.{Filling, fillAll}
+use Rattle.completion.specs.Inner.Laid.{adjacencyRan}
 use Rattle.progress.specs.Inner.Work.{WroteRecords, Working, Started}
 use Rattle.progress.specs.declared.Start.{Start}
 use Rattle.completion.proofs.Cellwise.{edges-within, fill-all}
 use Rattle.progress.proofs.Output.{wrote-all}
 use Rattle.completion.proofs.Works.{few-edges, completes}
-use Rattle.completion.proofs.Entry.{CompleteWorks, facts-completed, missing-most}
+use Rattle.completion.proofs.Entry.{CompleteWorks, laid-roomy, missing-most}
 use Rattle.state.specs.Valid.{ValidLaid}
 
 module _ (s : State) {cells counts degrees : List ℕ} (passed : phaseVerdict phaseLaid s ≡ Go) (o : Opened s cells counts degrees) where
@@ -128,12 +129,12 @@ module _ (s : State) (facts : ValidLaid s) {q : Ran} (works : CompleteWorks s q)
   -- its records stand at the start of the output out′
   pub work-done : (out out′ : List ℕ) → joinRecordSize * missing s ≤ length out → WroteRecords 0 (r .joins) out out′
       → take (joinRecordSize * r .joins) out′ ≡ r .records
-      → (Completed (r .joins) (r .switches) (joinRecordSize * r .joins) ≡ ranAnswer q s (length out))
-      × ((r .adjacency ≡ ranAfter q s (length out) .adjacency)
-      × (out′ ≡ ranOutput q s out))
+      → (Completed (r .joins) (r .switches) (joinRecordSize * r .joins) ≡ ranLaid q s (length out))
+      × ((r .adjacency ≡ adjacencyRan (ranLaid q s (length out)) q (s .adjacency))
+      × (out′ ≡ outputRan (ranLaid q s (length out)) q out))
   work-done out out′ fits recorded records =
       let whole = wrote-all (r .joins) out out′ (r .records) recorded (omega (arith, made, fits)) records in
-      rw (facts-completed s q (length out) facts fits) (
+      rw (laid-roomy s q (length out) fits) (
         ap (Completed (r .joins) (r .switches)) (whole .1) ∙ ap (λ (x : Ran). Completed (x .joins) (x .switches) (length (x .records))) e,
         (
           ap (λ (x : Ran). x .adjacency) e,

@@ -1,6 +1,7 @@
 // The progress of completing, whichever pairs it joins: what is missing at its beginning, where the search for an unsaturated vertex goes on, and the
-// record and the totals of each join.
+// record and the totals of each join; and what becomes of the log.
 ghost use mathlib.Core.Path.{_≡_};
+ghost use mathlib.Core.Bool.{true};
 ghost use Prim.Native.Nat.{_*_, _≤_};
 ghost use lib.Dec.{ltb};
 ghost use lib.ListN.{length, getD};
@@ -8,6 +9,8 @@ ghost use lib.Seq.{sets};
 ghost use Rattle.finite.specs.Range.{lowest};
 ghost use Rattle.adjacency.specs.Adjacency.{side};
 ghost use Rattle.join_records.specs.Record.{joinRecordSize, joinRecord};
+ghost use Rattle.swap_log.specs.Log.{logSize, zeroAfter};
+ghost use Rattle.completion.specs.Complete.{logAfter};
 ghost use Rattle.progress.specs.Inner.Work.{OpenArrays, Started, WroteRecords, Recordable, withJoin};
 use adjacency::edge_total;
 use answer::switches::Switches;
@@ -17,6 +20,7 @@ use join_records::put_record;
 use layout::MAX_VERTICES;
 use layout::edges_wanted;
 use layout::vertex_count;
+use swap_log::empty_log;
 use table::cells::CELLS;
 use table::class::MAX_CLASSES;
 
@@ -78,4 +82,15 @@ pub fn record_join(output: &mut [u8], totals: Totals, v: usize, w: usize, made: 
         joins: totals.joins + 1,
         switches: totals.switches + switch_count(made),
     }
+}
+
+// The log after so many joins: the first empties it.
+pub fn log_after(log: &mut [u8], joins: usize)
+    requires { ⌜ (length (now log) ≡ logSize) × (zeroAfter (now log) ≡ true) ⌝ }
+    ensures { λ _. ⌜ now (log .exit) ≡ logAfter joins (now (log .entry)) ⌝ }
+{
+    if joins == 0 {
+        return;
+    }
+    empty_log(log);
 }

@@ -13,6 +13,7 @@ use Rattle.answer.specs.declared.ShuffleAnswer.the-variants.{Completed, Refused
 use Rattle.journal.specs.Journal.{jdmOf}
 use Rattle.state.specs.State.{State}
 use Rattle.state.specs.Laid.{vertexCount, classAt}
+use Rattle.loan.specs.Loan.{Loan}
 use Rattle.completion.specs.Complete.{Ran, fresh, joined, isIncomplete, mostEdges, ranAnswer, ranAfter, ranOutput}
 use Rattle.shuffled_completion.specs.Choice.{nextX, pairV, pairW, position}
 
@@ -48,12 +49,12 @@ withX x (Complete.Completed joins switches n) = Completed joins switches n x
 withX x (Complete.Refused r) = Refused r
 
 -- for an output of m bytes
-abbrev pub shuffleAnswer : State → ℕ → ℕ → ShuffleAnswer
-shuffleAnswer s x m = withX (shuffled s x .x) (ranAnswer (shuffled s x .ran) s m)
+abbrev pub shuffleAnswer : Loan → ℕ → ℕ → ShuffleAnswer
+shuffleAnswer b x m = withX (shuffled (b .state) x .x) (ranAnswer (shuffled (b .state) x .ran) b m)
 
-abbrev pub shuffleAfter : State → ℕ → ℕ → State
-shuffleAfter s x m = ranAfter (shuffled s x .ran) s m
+abbrev pub shuffleAfter : Loan → ℕ → ℕ → Loan
+shuffleAfter b x m = ranAfter (shuffled (b .state) x .ran) b m
 
 -- the output afterwards, for one that is lent as `out`
-abbrev pub shuffleOutput : State → ℕ → List ℕ → List ℕ
-shuffleOutput s x out = ranOutput (shuffled s x .ran) s out
+abbrev pub shuffleOutput : Loan → ℕ → List ℕ → List ℕ
+shuffleOutput b x out = ranOutput (shuffled (b .state) x .ran) b out

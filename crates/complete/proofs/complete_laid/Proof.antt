@@ -7,7 +7,7 @@ use Rattle.answer.specs.declared.CompleteAnswer.the-variants.{Refused}
 use Rattle.state.specs.State.{stateOf}
 use Rattle.completion.specs.Complete.{completed}
 use Rattle.progress.proofs.Whole.{total-few, lacks-missing, lacks-few, working-start, working-end, joins-few, work-done}
-use Rattle.completion.proofs.Entry.{complete-works, short-refused}
+use Rattle.completion.proofs.Entry.{laid-short, complete-works}
 use Rattle.complete.proofs.complete_laid.Statement.{statement}
 use Rattle.state.proofs.Checks.{laid-passed}
 use Rattle.complete.proofs.complete_laid.Tie as tie
@@ -29,7 +29,7 @@ complete-laid-spec =
     let f = b .before .before .before .before .before in
     let s = stateOf (f .args .journal .now) (f .args .adjacency .now) in
     let short = rw (lacks-missing s (f .pre .0) (f .pre .1) (b .begin .ensures)) at (i .if1 .taken) in
-    rw (short-refused s (completed s) _ (laid-passed s (f .pre .0)) short) (ap Refused (c .refuse .ensures), (refl, refl)))  -- returns
+    rw (laid-short s (completed s) _ short) (ap Refused (c .refuse .ensures), (refl, refl)))  -- returns
     (λ c κs.
     let f = c .before .before .before .before .before .before .before in
     total-few (stateOf (f .args .journal .now) (f .args .adjacency .now)) (f .pre .0) (f .pre .1))  -- starts-requires
@@ -62,4 +62,5 @@ complete-laid-spec =
     let facts = laid-passed s (f .pre .0) in
     let end = working-end s (f .pre .0) (f .pre .1) (b .begin .ensures .total) (t .starts .ensures) _ (r .fill-all .ensures .0) in
     let fits = rw (lacks-missing s (f .pre .0) (f .pre .1) (b .begin .ensures)) at (i .if1 .left) in
-    work-done s facts (complete-works s facts) end (f .args .output .now) _ fits (r .fill-all .ensures .1) refl))  -- returns-2
+    let done = work-done s facts (complete-works s facts) end (f .args .output .now) _ fits (r .fill-all .ensures .1) refl in
+    (done .0, done .1)))  -- returns-2

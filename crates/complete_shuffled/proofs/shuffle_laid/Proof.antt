@@ -6,11 +6,10 @@ use borrow.Author.Needs.{needs}
 use Rattle.answer.specs.declared.ShuffleAnswer.the-variants.{Refused}
 use Rattle.state.specs.State.{stateOf}
 use Rattle.progress.proofs.Whole.{vertices-few, total-few, lacks-missing, lacks-few}
-use Rattle.completion.proofs.Entry.{short-refused}
+use Rattle.completion.proofs.Entry.{laid-short}
 use Rattle.shuffled_completion.specs.Shuffle.{shuffled}
 use Rattle.complete_shuffled.proofs.Entry.{begin-working, begin-classes, begin-lacks, end-few, end-done}
 use Rattle.complete_shuffled.proofs.shuffle_laid.Statement.{statement}
-use Rattle.state.proofs.Checks.{laid-passed}
 use Rattle.complete_shuffled.proofs.shuffle_laid.Tie as tie
 
 pub shuffle-laid-spec : {M : Type 1} → statement M
@@ -29,7 +28,7 @@ shuffle-laid-spec =
     let f = b .before .before .before .before .before in
     let s = stateOf (f .args .journal .now) (f .args .adjacency .now) in
     let short = rw (lacks-missing s (f .pre .0) (f .pre .1) (b .begin .ensures)) at (i .if1 .taken) in
-    rw (short-refused s (shuffled s (f .args .x) .ran) _ (laid-passed s (f .pre .0)) short) (ap Refused (c .refuse .ensures), (refl, refl)))  -- returns
+    rw (laid-short s (shuffled s (f .args .x) .ran) _ short) (ap Refused (c .refuse .ensures), (refl, refl)))  -- returns
     (λ c κs.
     let f = c .before .before .before .before .before .before in
     total-few (stateOf (f .args .journal .now) (f .args .adjacency .now)) (f .pre .0) (f .pre .1))  -- starts-requires
@@ -67,5 +66,7 @@ shuffle-laid-spec =
     let s = stateOf (f .args .journal .now) (f .args .adjacency .now) in
     let u = b .begin .ensures in
     let fits = rw (lacks-missing s (f .pre .0) (f .pre .1) u) at (i .if1 .left) in
+    let done =
     end-done s (f .pre .0) (f .pre .1) u (t .starts .ensures) (f .args .x) (r .shuffle-cells .ensures .0) (f .args .output .now) _ fits
-    (r .shuffle-cells .ensures .1) refl))  -- returns-2
+    (r .shuffle-cells .ensures .1) refl in
+    (done .0, done .1)))  -- returns-2
