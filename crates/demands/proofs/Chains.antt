@@ -8,7 +8,7 @@ use lib.Dec.{leb, ltb, eqb}
 use lib.ListN.{length}
 use Rattle.answer.specs.Refusals.{refuse, stopped, unless, unlessStopped}
 use Rattle.answer.specs.Numbers.{numberOf, oneOf}
-use Rattle.answer.specs.declared.Cause.the-variants.{WrongLength, InvalidState, WrongPhase, BlockLength, BadRecord, BlockNumber, BlockDiffers, JournalFull, OddDiagonal, RowNotDivisible, CellTooLarge, TooManyVertices, NoSuchVertex, SameVertex, EdgePresent, CellNotShort, EdgeAbsent, OutputTooShort, BadEdgeList, DegreeTooHigh, Graph6Text, Graph6Size}
+use Rattle.answer.specs.declared.Cause.the-variants.{WrongLength, InvalidState, WrongPhase, BlockLength, BadRecord, BlockNumber, BlockDiffers, JournalFull, OddDiagonal, RowNotDivisible, CellTooLarge, TooManyVertices, NoSuchVertex, SameVertex, EdgePresent, CellNotShort, EdgeAbsent, OutputTooShort, BadEdgeList, DegreeTooHigh, Graph6Text, Graph6Size, SwapNotAllowed, LogFull, LogEmpty}
 use Rattle.answer.specs.declared.Refusal.{Refusal}
 use Rattle.answer.specs.declared.Verdict.{Verdict}
 use Rattle.answer.specs.declared.Verdict.the-variants.{Go, Stop}
@@ -27,6 +27,10 @@ use Rattle.answer.specs.declared.AddAnswer.{AddAnswer}
 use Rattle.answer.specs.declared.AddAnswer.the-variants as Add
 use Rattle.answer.specs.declared.RemoveAnswer.{RemoveAnswer}
 use Rattle.answer.specs.declared.RemoveAnswer.the-variants as Remove
+use Rattle.answer.specs.declared.SwapAnswer.{SwapAnswer}
+use Rattle.answer.specs.declared.SwapAnswer.the-variants as Swap
+use Rattle.answer.specs.declared.UndoAnswer.{UndoAnswer}
+use Rattle.answer.specs.declared.UndoAnswer.the-variants as Undo
 use Rattle.answer.specs.declared.CompleteAnswer.{CompleteAnswer}
 use Rattle.answer.specs.declared.CompleteAnswer.the-variants as Complete
 use Rattle.answer.specs.declared.WrittenAnswer.{WrittenAnswer}
@@ -37,10 +41,13 @@ use Rattle.graph.specs.Graph.{DegreeTable}
 use Rattle.graph.specs.Tests.{mostClasses, firstOdd, firstUneven, firstOverfull, firstOverfullIn, vertices}
 use Rattle.layout.specs.Layout.{mostVertices, layoutVerdict}
 use Rattle.table.specs.Block.{mostBlocks, records, firstBad}
-use Rattle.journal.specs.Journal.{phaseTaking, phase, blocks, sameBlock}
+use Rattle.journal.specs.Journal.{phaseTaking, phaseLaid, phase, blocks, sameBlock}
 use Rattle.state.specs.State.{State}
 use Rattle.state.specs.Checks.{stateVerdict, phaseVerdict, pairVerdict}
 use Rattle.state.specs.Valid.{lengthsOk, valid}
+use Rattle.loan.specs.Loan.{Loan}
+use Rattle.loan.specs.Valid.{loanLengthsOk, loanValid}
+use Rattle.loan.specs.Checks.{loanVerdict, laidVerdict}
 use Rattle.edge_lists.specs.EdgeList.{listed, firstBadEdge, listVerdict}
 use Rattle.take_block.specs.Take.{takeNumbered}
 use Rattle.demands.specs.Demand1.{CarriesOneOf}
@@ -79,6 +86,14 @@ abbrev pub OfRemove : List ℕ → RemoveAnswer → Type 0
 OfRemove ns Remove.Removed = Unit {0}
 OfRemove ns (Remove.Refused r) = CarriesOneOf r ns
 
+abbrev pub OfSwap : List ℕ → SwapAnswer → Type 0
+OfSwap ns Swap.Swapped = Unit {0}
+OfSwap ns (Swap.Refused r) = CarriesOneOf r ns
+
+abbrev pub OfUndo : List ℕ → UndoAnswer → Type 0
+OfUndo ns Undo.Undone = Unit {0}
+OfUndo ns (Undo.Refused r) = CarriesOneOf r ns
+
 abbrev pub OfComplete : List ℕ → CompleteAnswer → Type 0
 OfComplete ns (Complete.Completed i s n) = Unit {0}
 OfComplete ns (Complete.Refused r) = CarriesOneOf r ns
@@ -97,22 +112,27 @@ pub behind : {A : Type 0} (Of : List ℕ → A → Type 0) (ns : List ℕ) (v : 
 behind Of ns Go refused rest f h x = x
 behind Of ns (Stop r) refused rest f h x = f r h
 
--- the checks 1 and 2, and 3
+-- the checks 1 and 2, and 3: of a state, and of a loan
+first-chain : (ns : List ℕ) (a b : Bool) → OfVerdict (1 ∷ 2 ∷ ns) (unless a (stopped WrongLength) (unless b (stopped InvalidState) Go))
+first-chain ns false b = refl
+first-chain ns true false = refl
+first-chain ns true true = tt
+
+phase-chain : (ns : List ℕ) (c : Bool) → OfVerdict (1 ∷ 2 ∷ 3 ∷ ns) (unless c (stopped WrongPhase) Go)
+phase-chain ns false = refl
+phase-chain ns true = tt
+
 pub state-numbers : (s : State) (ns : List ℕ) → OfVerdict (1 ∷ 2 ∷ ns) (stateVerdict s)
-state-numbers s ns = go (lengthsOk s) (valid s)
-  where
-    go : (a b : Bool) → OfVerdict (1 ∷ 2 ∷ ns) (unless a (stopped WrongLength) (unless b (stopped InvalidState) Go))
-    go false b = refl
-    go true false = refl
-    go true true = tt
+state-numbers s ns = first-chain ns (lengthsOk s) (valid s)
 
 pub phase-numbers : (p : ℕ) (s : State) (ns : List ℕ) → OfVerdict (1 ∷ 2 ∷ 3 ∷ ns) (phaseVerdict p s)
 phase-numbers p s ns =
-    behind OfVerdict (1 ∷ 2 ∷ 3 ∷ ns) (stateVerdict s) Stop _ (λ r h. h) (state-numbers s (3 ∷ ns)) (go (eqb (phase (s .journal)) p))
-  where
-    go : (c : Bool) → OfVerdict (1 ∷ 2 ∷ 3 ∷ ns) (unless c (stopped WrongPhase) Go)
-    go false = refl
-    go true = tt
+    behind OfVerdict (1 ∷ 2 ∷ 3 ∷ ns) (stateVerdict s) Stop _ (λ r h. h) (state-numbers s (3 ∷ ns)) (phase-chain ns (eqb (phase (s .journal)) p))
+
+pub laid-numbers : (s : Loan) (ns : List ℕ) → OfVerdict (1 ∷ 2 ∷ 3 ∷ ns) (laidVerdict s)
+laid-numbers s ns =
+    behind OfVerdict (1 ∷ 2 ∷ 3 ∷ ns) (loanVerdict s) Stop _ (λ r h. h) (first-chain (3 ∷ ns) (loanLengthsOk s) (loanValid s))
+    (phase-chain ns (eqb (phase (s .state .journal)) phaseLaid))
 
 -- Each entry's own checks, test by test: whatever the tests say, what comes out is one of its answers.
 pub clear-chain : (a : Bool) → OfClear (1 ∷ []) (unless a (Clear.Refused (refuse WrongLength 0 0)) Clear.Cleared)
@@ -204,6 +224,21 @@ pub remove-chain : (g : Bool)
     → OfRemove (1 ∷ 2 ∷ 3 ∷ 13 ∷ 14 ∷ 17 ∷ []) (unless g (Remove.Refused (refuse EdgeAbsent 0 0)) Remove.Removed)
 remove-chain false = refl
 remove-chain true = tt
+
+pub swap-chain : (a b c : Bool)
+    → OfSwap (1 ∷ 2 ∷ 3 ∷ 13 ∷ 23 ∷ 24 ∷ [])
+    (unless a (Swap.Refused (refuse NoSuchVertex 0 0))
+    (unless b (Swap.Refused (refuse SwapNotAllowed 0 0))
+    (unless c (Swap.Refused (refuse LogFull 0 0))
+    Swap.Swapped)))
+swap-chain false b c = refl
+swap-chain true false c = refl
+swap-chain true true false = refl
+swap-chain true true true = tt
+
+pub undo-chain : (a : Bool) → OfUndo (1 ∷ 2 ∷ 3 ∷ 25 ∷ []) (unless a (Undo.Refused (refuse LogEmpty 0 0)) Undo.Undone)
+undo-chain false = refl
+undo-chain true = tt
 
 pub complete-chain : (d : Bool) (i s n : ℕ)
     → OfComplete (1 ∷ 2 ∷ 3 ∷ 18 ∷ []) (unless d (Complete.Refused (refuse OutputTooShort 0 0)) (Complete.Completed i s n))

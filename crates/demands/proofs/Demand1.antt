@@ -24,6 +24,10 @@ use Rattle.answer.specs.declared.AddAnswer.{AddAnswer}
 use Rattle.answer.specs.declared.AddAnswer.the-variants as Add
 use Rattle.answer.specs.declared.RemoveAnswer.{RemoveAnswer}
 use Rattle.answer.specs.declared.RemoveAnswer.the-variants as Remove
+use Rattle.answer.specs.declared.SwapAnswer.{SwapAnswer}
+use Rattle.answer.specs.declared.SwapAnswer.the-variants as Swap
+use Rattle.answer.specs.declared.UndoAnswer.{UndoAnswer}
+use Rattle.answer.specs.declared.UndoAnswer.the-variants as Undo
 use Rattle.answer.specs.declared.CompleteAnswer.{CompleteAnswer}
 use Rattle.answer.specs.declared.CompleteAnswer.the-variants as Complete
 use Rattle.answer.specs.declared.WrittenAnswer.{WrittenAnswer}
@@ -38,15 +42,22 @@ use Rattle.journal.specs.Journal.{phaseTaking, phaseLaid, blocks, slotLength, t
 use Rattle.adjacency.specs.Adjacency.{edge}
 use Rattle.state.specs.State.{State}
 use Rattle.state.specs.Checks.{stateVerdict, phaseVerdict, pairVerdict}
-use Rattle.state.specs.Valid.{lengthsOk}
+use Rattle.swapping.specs.Swap.{areVertices, isAllowed}
+use Rattle.swap_log.specs.Log.{mostSwaps, swapCount}
+use Rattle.loan.specs.Loan.{Loan}
+use Rattle.loan.specs.Valid.{loanLengthsOk}
+use Rattle.loan.specs.Checks.{laidVerdict}
+use Rattle.loan.proofs.Laid.{laid-state}
 use Rattle.state.specs.Laid.{vertexCount, classAt, shortAt}
 use Rattle.join_bytes.specs.Join.{joinSwitches}
 use Rattle.clear.specs.Clear.{afterClear}
 use Rattle.take_block.specs.Take.{takeOnValid, afterTake}
 use Rattle.held_block.specs.Held.{partHeld}
 use Rattle.lay_out.specs.LayOut.{afterLayOut}
-use Rattle.add_edge.specs.Add.{addPair, afterAdd}
+use Rattle.add_edge.specs.Add.{addPair, addLaid, afterAdd}
 use Rattle.remove_edge.specs.Remove.{afterRemove}
+use Rattle.swap_edges.specs.Swap.{afterSwap}
+use Rattle.undo_swap.specs.Undo.{afterUndo}
 use Rattle.edge_list.specs.List.{listBytes, listLaid, listAnswer, outputListed}
 use Rattle.edge_lists.specs.EdgeList.{listVerdict}
 use Rattle.degree_counts.specs.Above.{firstAbove}
@@ -63,7 +74,7 @@ use Rattle.shuffled_completion.proofs.Answers.{with-x-refused, with-x-completed
 use Rattle.shuffled_completion.specs.Outcome.{outcome, choiceAnswer, choiceOutput}
 use Rattle.shuffled_completion.proofs.Works.{outcome-works}
 use Rattle.demands.specs.Demand1.{CarriesOneOf, SamePast, Demand1}
-use Rattle.demands.proofs.Chains.{OfClear, OfTake, OfLength, OfLayOut, OfFigures, OfAdd, OfRemove, OfComplete, OfWritten, OfRead, behind, state-numbers, phase-numbers, layout-numbers, clear-chain, takeLater, later-numbers, take-chain, length-chain, pair-numbers, add-chain, remove-chain, complete-chain, fits-chain, list-numbers, survey-chain, read-chain}
+use Rattle.demands.proofs.Chains.{OfClear, OfTake, OfLength, OfLayOut, OfFigures, OfAdd, OfRemove, OfSwap, OfUndo, OfComplete, OfWritten, OfRead, behind, state-numbers, phase-numbers, laid-numbers, layout-numbers, clear-chain, takeLater, later-numbers, take-chain, length-chain, pair-numbers, add-chain, remove-chain, swap-chain, undo-chain, complete-chain, fits-chain, list-numbers, survey-chain, read-chain}
 
 -- what was written stands at the start, and nothing behind it changes
 past : (out bytes : List ℕ) (n : ℕ) → n ≡ length bytes → length bytes ≤ length out → SamePast n out (sets out 0 bytes)
@@ -107,33 +118,40 @@ read-numbers t m =
     read-chain (not (tooLarge t)) (wellFormedText t) (leb n m) n (sizeOf t) m (leb-true n m)
 
 -- completing, whichever pairs it joins
-complete-refused : (s : State) (r : Ran) (out : List ℕ) (q : Refusal) → ranAnswer r s (length out) ≡ Complete.Refused q
+complete-refused : (s : Loan) (r : Ran) (out : List ℕ) (q : Refusal) → ranAnswer r s (length out) ≡ Complete.Refused q
     → CarriesOneOf q (1 ∷ 2 ∷ 3 ∷ 18 ∷ []) × (ranAfter r s (length out) ≡ s) × (ranOutput r s out ≡ out)
 complete-refused s r out q e = (
   subst (OfComplete (1 ∷ 2 ∷ 3 ∷ 18 ∷ [])) e
-      (behind OfComplete _ (phaseVerdict phaseLaid s) Complete.Refused (ranLaid r s (length out)) (λ r h. h) (phase-numbers phaseLaid s _)
-      (complete-chain (leb (joinRecordSize * missing s) (length out)) (r .joins) (r .switches) (length (r .records)))),
+      (behind OfComplete _ (laidVerdict s) Complete.Refused (ranLaid r (s .state) (length out)) (λ r h. h) (laid-numbers s _)
+      (complete-chain (leb (joinRecordSize * missing (s .state)) (length out)) (r .joins) (r .switches) (length (r .records)))),
   refused-leaves s r out q e .0,
   refused-leaves s r out q e .1,
 )
 
-complete-written : (f : Choice) (s : State) (out : List ℕ) (joins switches n : ℕ)
+complete-written : (f : Choice) (s : Loan) (out : List ℕ) (joins switches n : ℕ)
     → choiceAnswer f s (length out) ≡ Complete.Completed joins switches n
     → (n ≡ joinRecordSize * joins) × SamePast n out (choiceOutput f s out)
 complete-written f s out joins switches n e =
-    let r = outcome f s in
+    let r = outcome f (s .state) in
     let c = completed-facts s r (length out) joins switches n e in
-    let x = outcome-works f s (c .facts) in (
+    let x = outcome-works f (s .state) (laid-state s (c .loan)) in (
       omega (arith, c .length-is, c .joins-are, x .written),
       subst (SamePast n out) (sym (records-written s r out joins switches n e))
           (past out (r .records) n (c .length-is) (omega (arith, c .room, x .made, x .written))),
     )
 
+-- adding, behind the checks 1 to 3
+add-numbers : (s : State) (v w : ℕ) → OfAdd (1 ∷ 2 ∷ 3 ∷ 13 ∷ 14 ∷ 15 ∷ 16 ∷ []) (addLaid s v w)
+add-numbers s v w =
+    behind OfAdd _ (pairVerdict (vertexCount s) v w) Add.Refused (addPair s v w) (λ r h. h) (pair-numbers (vertexCount s) v w _)
+    (add-chain (eqb (edge (s .adjacency) v w) 0) (shortAt s (classAt s v) (classAt s w))
+    (min (classAt s v) (classAt s w)) (max (classAt s v) (classAt s w)) (joinSwitches (vertexCount s) (classAt s) (s .adjacency) v w))
+
 pub demand-1 : Demand1
 demand-1 =
     record {
       clear = λ s r e. (
-        subst (OfClear (1 ∷ [])) e (clear-chain (lengthsOk s)),
+        subst (OfClear (1 ∷ [])) e (clear-chain (loanLengthsOk s)),
         ap (λ (a : ClearAnswer). afterClear a s) e,
       );
       take = λ s number b r e. (
@@ -157,24 +175,34 @@ demand-1 =
       );
       add = λ s v w r e. (
         subst (OfAdd (1 ∷ 2 ∷ 3 ∷ 13 ∷ 14 ∷ 15 ∷ 16 ∷ [])) e
-            (behind OfAdd _ (phaseVerdict phaseLaid s) Add.Refused _ (λ r h. h) (phase-numbers phaseLaid s _)
-            (behind OfAdd _ (pairVerdict (vertexCount s) v w) Add.Refused (addPair s v w) (λ r h. h) (pair-numbers (vertexCount s) v w _)
-            (add-chain (eqb (edge (s .adjacency) v w) 0) (shortAt s (classAt s v) (classAt s w))
-            (min (classAt s v) (classAt s w)) (max (classAt s v) (classAt s w)) (joinSwitches (vertexCount s) (classAt s) (s .adjacency) v w)))),
+            (behind OfAdd _ (laidVerdict s) Add.Refused (addLaid (s .state) v w) (λ r h. h) (laid-numbers s _) (add-numbers (s .state) v w)),
         ap (λ (a : AddAnswer). afterAdd a s v w) e,
       );
       remove = λ s v w r e. (
         subst (OfRemove (1 ∷ 2 ∷ 3 ∷ 13 ∷ 14 ∷ 17 ∷ [])) e
-            (behind OfRemove _ (phaseVerdict phaseLaid s) Remove.Refused _ (λ r h. h) (phase-numbers phaseLaid s _)
-            (behind OfRemove _ (pairVerdict (vertexCount s) v w) Remove.Refused _ (λ r h. h) (pair-numbers (vertexCount s) v w _)
-            (remove-chain (eqb (edge (s .adjacency) v w) 1)))),
+            (behind OfRemove _ (laidVerdict s) Remove.Refused _ (λ r h. h) (laid-numbers s _)
+            (behind OfRemove _ (pairVerdict (vertexCount (s .state)) v w) Remove.Refused _ (λ r h. h) (pair-numbers (vertexCount (s .state)) v w _)
+            (remove-chain (eqb (edge (s .state .adjacency) v w) 1)))),
         ap (λ (a : RemoveAnswer). afterRemove a s v w) e,
       );
-      complete = λ s. complete-refused s (completed s);
+      swap = λ s x r e. (
+        subst (OfSwap (1 ∷ 2 ∷ 3 ∷ 13 ∷ 23 ∷ 24 ∷ [])) e
+            (behind OfSwap _ (laidVerdict s) Swap.Refused _ (λ r h. h) (laid-numbers s _)
+            (swap-chain (areVertices (vertexCount (s .state)) x) (isAllowed (classAt (s .state)) (s .state .adjacency) x)
+            (ltb (swapCount (s .log)) mostSwaps))),
+        ap (λ (a : SwapAnswer). afterSwap a s x) e,
+      );
+      undo = λ s r e. (
+        subst (OfUndo (1 ∷ 2 ∷ 3 ∷ 25 ∷ [])) e
+            (behind OfUndo _ (laidVerdict s) Undo.Refused _ (λ r h. h) (laid-numbers s _) (undo-chain (ltb 0 (swapCount (s .log))))),
+        ap (λ (a : UndoAnswer). afterUndo a s) e,
+      );
+      complete = λ s. complete-refused s (completed (s .state));
       complete-written = λ s. complete-written Lowest s;
-      shuffle = λ s x out q e. complete-refused s (shuffled s x .ran) out q (with-x-refused (shuffled s x .x) _ q e);
+      shuffle = λ s x out q e.
+          complete-refused s (shuffled (s .state) x .ran) out q (with-x-refused (shuffled (s .state) x .x) _ q e);
       shuffle-written = λ s x out joins switches n y e.
-          complete-written (Picked x) s out joins switches n (with-x-completed (shuffled s x .x) _ joins switches n y e .0);
+          complete-written (Picked x) s out joins switches n (with-x-completed (shuffled (s .state) x .x) _ joins switches n y e .0);
       list = λ s out r e. (
         subst (OfWritten (1 ∷ 2 ∷ 3 ∷ 18 ∷ []) (length (listBytes (vertexCount s) (s .adjacency))) (length out)) e (edges-numbers s (length out)),
         ap (λ (a : WrittenAnswer). outputListed a s out) e,

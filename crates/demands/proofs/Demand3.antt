@@ -22,10 +22,13 @@ use Rattle.layout.specs.Layout.{wanted}
 use Rattle.journal.specs.Journal.{jdmOf, tableOf}
 use Rattle.journal.proofs.Table.{jdm-table}
 use Rattle.adjacency.specs.Adjacency.{edge}
-use Rattle.state.specs.State.{State, withMatrix, cleared}
-use Rattle.state.specs.Valid.{lengthsOk, valid, ValidLaid}
+use Rattle.state.specs.State.{State, withMatrix}
 use Rattle.state.specs.Laid.{vertexCount, classAt}
-use Rattle.state.proofs.Facts.{edgeTotal, StateFacts, Laid, valid-facts}
+use Rattle.state.proofs.Facts.{edgeTotal, StateFacts, Laid}
+use Rattle.swap_log.specs.Log.{emptyLog}
+use Rattle.loan.specs.Loan.{Loan, altered, clearedLoan}
+use Rattle.loan.specs.Valid.{loanLengthsOk, loanValid, LaidLoan}
+use Rattle.loan.proofs.Laid.{laid-state, laid-facts, laid-laid}
 use Rattle.lay_out.proofs.LayOut.{lay-out-honest}
 use Rattle.add_edge.specs.Add.{addAnswer, afterAdd, addAfter}
 use Rattle.add_edge.proofs.Add.{AddFacts, facts-added, AddWorks, add-works}
@@ -39,17 +42,20 @@ use Rattle.demands.specs.Calls.{afterAll}
 use Rattle.demands.specs.Tally.{Tally, noTally, missingEdges, tallyAll}
 use Rattle.demands.specs.Matrix.{ShortFor}
 use Rattle.demands.specs.Demand3 as D
-use Rattle.demands.proofs.Choices.{outcome-answer, after-choice, choice-has}
+use Rattle.demands.proofs.Choices.{outcome-answer, after-choice, choice-has, choice-log}
 use Rattle.demands.specs.Reach.{Reach}
-use Rattle.demands.proofs.Reach.{reach, phase-0, phase-1}
+use Rattle.demands.proofs.Reach.{reach, phase-0, reached-lengths, reached-valid, reached-laid}
 
 -- Everything is first said of the journal's own table, which is the tally's.
-module _ (s : State) (checked : ValidLaid s) where
+module _ (b : Loan) (checked : LaidLoan b) where
+  abbrev s : State
+  s = b .state
+
   facts : StateFacts s
-  facts = valid-facts s (checked .lengths) (checked .is-valid)
+  facts = laid-facts b checked
 
   laid : Laid s
-  laid = facts .laid (checked .phased)
+  laid = laid-laid b checked
 
   simple : Simple (vertexCount s) (edge (s .adjacency))
   simple = laid .partial .simple
@@ -82,27 +88,28 @@ module _ (s : State) (checked : ValidLaid s) where
             );
       }
 
-  joins : (v w : ℕ) → D.OpenPair (tableOf (s .journal)) s v w → D.CanBeJoined (tableOf (s .journal)) s v w
-  joins v w o = go (facts-added s v w f) (add-works s v w f)
+  joins : (v w : ℕ) → D.OpenPair (tableOf (s .journal)) s v w → D.CanBeJoined (tableOf (s .journal)) b v w
+  joins v w o = go (facts-added b v w f) (add-works b v w f)
     where
-      f : AddFacts s v w
-      f = record { state = checked; pair = open-pair v w o }
+      f : AddFacts b v w
+      f = record { loan = checked; pair = open-pair v w o }
 
-      to : addAnswer s v w ≡ Added (joinSwitches (vertexCount s) (classAt s) (s .adjacency) v w)
-          → addAfter s v w ≡ withMatrix s (joinBytes (vertexCount s) (classAt s) (s .adjacency) v w)
-      to e = ap (λ (a : AddAnswer). afterAdd a s v w) e
+      to : addAnswer b v w ≡ Added (joinSwitches (vertexCount s) (classAt s) (s .adjacency) v w)
+          → addAfter b v w ≡ altered b (joinBytes (vertexCount s) (classAt s) (s .adjacency) v w)
+      to e = ap (λ (a : AddAnswer). afterAdd a b v w) e
 
-      go : addAnswer s v w ≡ Added (joinSwitches (vertexCount s) (classAt s) (s .adjacency) v w)
-          → AddWorks s v w (withMatrix s (joinBytes (vertexCount s) (classAt s) (s .adjacency) v w))
-          → D.CanBeJoined (tableOf (s .journal)) s v w
+      go : addAnswer b v w ≡ Added (joinSwitches (vertexCount s) (classAt s) (s .adjacency) v w)
+          → AddWorks b v w (altered b (joinBytes (vertexCount s) (classAt s) (s .adjacency) v w))
+          → D.CanBeJoined (tableOf (s .journal)) b v w
       go e x =
           record {
             switches = joinSwitches (vertexCount s) (classAt s) (s .adjacency) v w;
             answer = e;
-            lengths = subst (λ (y : State). lengthsOk y ≡ true) (sym (to e)) (x .state .lengths);
-            is-valid = subst (λ (y : State). valid y ≡ true) (sym (to e)) (x .state .is-valid);
-            linked = subst (λ (y : State). edge (y .adjacency) v w ≡ 1) (sym (to e)) (x .linked);
-            one-more = subst (λ (y : State). D.edgesLaid (tableOf (s .journal)) y ≡ edgeTotal s + 1) (sym (to e)) (x .one-more);
+            lengths = subst (λ (y : Loan). loanLengthsOk y ≡ true) (sym (to e)) (x .loan .lengths);
+            is-valid = subst (λ (y : Loan). loanValid y ≡ true) (sym (to e)) (x .loan .is-valid);
+            linked = subst (λ (y : Loan). edge (y .state .adjacency) v w ≡ 1) (sym (to e)) (x .linked);
+            one-more = subst (λ (y : Loan). D.edgesLaid (tableOf (s .journal)) (y .state) ≡ edgeTotal s + 1) (sym (to e)) (x .one-more);
+            no-log = ap (λ (y : Loan). y .log) (to e);
           }
 
   -- a short cell has an open pair; no cell past the classes is short
@@ -145,15 +152,15 @@ module _ (s : State) (checked : ValidLaid s) where
     same-missing : missingEdges t ≡ missing s
     same-missing = rw (← counted) (ap (λ (u : DegreeTable). wanted (u .cells) - edgeTotal s) (sym same))
 
-    completes : D.HasRoom t out → D.Completes t s f out
+    completes : D.HasRoom t out → D.Completes t b f out
     completes room =
-        subst (λ (u : DegreeTable). D.Completes (record { blocks = t .blocks; table = u; laid = t .laid; edges = t .edges }) s f out) same
-        (own (outcome-works f s checked)
-        (outcome-answer s f checked (length out) (omega (arith, same-missing, room))))
+        subst (λ (u : DegreeTable). D.Completes (record { blocks = t .blocks; table = u; laid = t .laid; edges = t .edges }) b f out) same
+        (own (outcome-works f s (laid-state b checked))
+        (outcome-answer b f checked (length out) (omega (arith, same-missing, room))))
       where
         own : CompleteWorks s r
-            → choiceAnswer f s (length out) ≡ Completed (r .joins) (r .switches) (joinRecordSize * r .joins)
-            → D.Completes (record { blocks = t .blocks; table = tableOf (s .journal); laid = t .laid; edges = t .edges }) s f out
+            → choiceAnswer f b (length out) ≡ Completed (r .joins) (r .switches) (joinRecordSize * r .joins)
+            → D.Completes (record { blocks = t .blocks; table = tableOf (s .journal); laid = t .laid; edges = t .edges }) b f out
         own x a =
             record {
               joins = r .joins;
@@ -161,56 +168,57 @@ module _ (s : State) (checked : ValidLaid s) where
               answer = a;
               missing = omega (arith, x .all, x .more, counted);
               more =
-                  subst (λ (s′ : State). D.edgesLaid (tableOf (s .journal)) s′ ≡ edgeTotal s + r .joins)
-                  (sym (after-choice s f out (r .joins) (r .switches) (joinRecordSize * r .joins) a)) (x .more);
-              has-table = choice-has s f out (r .joins) (r .switches) (joinRecordSize * r .joins) checked a;
+                  subst (λ (y : Loan). D.edgesLaid (tableOf (s .journal)) (y .state) ≡ edgeTotal s + r .joins)
+                  (sym (after-choice b f out (r .joins) (r .switches) (joinRecordSize * r .joins) a)) (x .more);
+              has-table = choice-has b f out (r .joins) (r .switches) (joinRecordSize * r .joins) a (laid-state b checked);
+              log-after = choice-log b f out (r .joins) (r .switches) (joinRecordSize * r .joins) a;
             }
 
-    refuses : (D.HasRoom t out → ⊥) → D.RefusedShort s f out
+    refuses : (D.HasRoom t out → ⊥) → D.RefusedShort b f out
     refuses no-room =
-        let e = short-refused s r (length out) checked (omega (arith, same-missing, no-room)) in
+        let e = short-refused b r (length out) checked (omega (arith, same-missing, no-room)) in
         record {
           answer = e;
-          unchanged = ap (λ (a : CompleteAnswer). afterRan a r s) e;
+          unchanged = ap (λ (a : CompleteAnswer). afterRan a r b) e;
         }
 
 pub demand-3 : D.Demand3
 demand-3 calls = (not-laid, laid-out)
   where
-    s : State
-    s = afterAll cleared calls
+    s : Loan
+    s = afterAll clearedLoan calls
 
     t : Tally
-    t = tallyAll cleared noTally calls
+    t = tallyAll clearedLoan noTally calls
 
-    r : Reach (afterAll cleared calls) (tallyAll cleared noTally calls)
+    r : Reach (afterAll clearedLoan calls) (tallyAll clearedLoan noTally calls)
     r = reach calls
 
-    not-laid : tallyAll cleared noTally calls .laid ≡ false → D.NotLaid (tallyAll cleared noTally calls) (afterAll cleared calls)
+    not-laid : tallyAll clearedLoan noTally calls .laid ≡ false → D.NotLaid (tallyAll clearedLoan noTally calls) (afterAll clearedLoan calls .state)
     not-laid e =
         record {
           honest =
-              subst (λ (u : DegreeTable). D.RefusedForWantOfAGraph (afterAll cleared calls) ↔ (Realized (u .cells) → ⊥)) (r .table)
-              (lay-out-honest (afterAll cleared calls) (r .lengths) (r .is-valid) (phase-0 _ _ r e));
+              subst (λ (u : DegreeTable). D.RefusedForWantOfAGraph (afterAll clearedLoan calls .state) ↔ (Realized (u .cells) → ⊥)) (r .table)
+              (lay-out-honest (afterAll clearedLoan calls .state) (reached-lengths s t r) (reached-valid s t r) (phase-0 s t r e));
         }
 
-    laid-out : tallyAll cleared noTally calls .laid ≡ true → D.Laid (tallyAll cleared noTally calls) (afterAll cleared calls)
+    laid-out : tallyAll clearedLoan noTally calls .laid ≡ true → D.Laid (tallyAll clearedLoan noTally calls) (afterAll clearedLoan calls)
     laid-out e =
         record {
           joinable = λ v w o.
-              let p = subst (λ (u : DegreeTable). D.OpenPair u (afterAll cleared calls) v w) (sym (r .table)) o in (
-                subst (λ (u : DegreeTable). D.CanBeJoined u (afterAll cleared calls) v w) (r .table)
-                    (joins (afterAll cleared calls) valid-laid v w p),
-                subst (λ (u : DegreeTable). D.CanBeJoined u (afterAll cleared calls) w v) (r .table)
-                    (joins (afterAll cleared calls) valid-laid w v (turn (afterAll cleared calls) valid-laid v w p)),
+              let p = subst (λ (u : DegreeTable). D.OpenPair u (afterAll clearedLoan calls .state) v w) (sym (r .table)) o in (
+                subst (λ (u : DegreeTable). D.CanBeJoined u (afterAll clearedLoan calls) v w) (r .table)
+                    (joins (afterAll clearedLoan calls) laid-loan v w p),
+                subst (λ (u : DegreeTable). D.CanBeJoined u (afterAll clearedLoan calls) w v) (r .table)
+                    (joins (afterAll clearedLoan calls) laid-loan w v (turn (afterAll clearedLoan calls) laid-loan v w p)),
               );
           pair = λ k l h.
-              let q = some-pair (afterAll cleared calls) valid-laid k l
-              (subst (λ (u : DegreeTable). ShortFor u (afterAll cleared calls) k l) (sym (r .table)) h) in
-              (q .0, q .1, subst (λ (u : DegreeTable). D.OpenPair u (afterAll cleared calls) (q .0) (q .1)) (r .table) (q .2));
-          completes = completes (afterAll cleared calls) valid-laid (tallyAll cleared noTally calls) (r .table) (r .counted);
-          refuses = refuses (afterAll cleared calls) valid-laid (tallyAll cleared noTally calls) (r .table) (r .counted);
+              let q = some-pair (afterAll clearedLoan calls) laid-loan k l
+              (subst (λ (u : DegreeTable). ShortFor u (afterAll clearedLoan calls .state) k l) (sym (r .table)) h) in
+              (q .0, q .1, subst (λ (u : DegreeTable). D.OpenPair u (afterAll clearedLoan calls .state) (q .0) (q .1)) (r .table) (q .2));
+          completes = completes (afterAll clearedLoan calls) laid-loan (tallyAll clearedLoan noTally calls) (r .table) (r .counted);
+          refuses = refuses (afterAll clearedLoan calls) laid-loan (tallyAll clearedLoan noTally calls) (r .table) (r .counted);
         }
       where
-        valid-laid : ValidLaid (afterAll cleared calls)
-        valid-laid = record { lengths = r .lengths; is-valid = r .is-valid; phased = phase-1 _ _ r e }
+        laid-loan : LaidLoan (afterAll clearedLoan calls)
+        laid-loan = reached-laid (afterAll clearedLoan calls) (tallyAll clearedLoan noTally calls) (reach calls) e

@@ -1,7 +1,7 @@
 -- Isolated vertices are the first ones of a laid state, and are left alone (specs/Isolated.antt).
 -- Assumes nothing.
-use mathlib.Core.Path.{_≡_, _∙_}
-use mathlib.Core.Logic.{_↔_}
+use mathlib.Core.Path.{_≡_, refl, _∙_}
+use mathlib.Core.Logic.{_↔_, _≢_}
 use Prim.Native.Nat.{ℕ, _+_, _≤_, _<_}
 use native.Mathlib.Omega.{arith}
 use lib.Dec.{eqb}
@@ -19,6 +19,7 @@ use Rattle.adjacency.specs.Adjacency.{edge}
 use Rattle.state.specs.State.{State}
 use Rattle.state.specs.Laid.{vertexCount, classAt}
 use Rattle.state.proofs.Facts.{cellAt, StateFacts, Laid, valid-facts}
+use Rattle.swapping.proofs.Rule.{rule-met}
 use Rattle.demands.specs.Isolated.{Alone, IsolatedAlone}
 
 -- class 0 comes first
@@ -38,16 +39,31 @@ module _ (s : State) (facts : StateFacts s) (laid : Laid s) (v : ℕ) (h : v < v
   table : Table (jdmOf (s .journal))
   table = jdm-table (s .journal) (facts .journal-ok)
 
+  no-edge : (u w : ℕ) → u ≡ v → w < vertexCount s → edge (s .adjacency) u w ≡ 0
+  no-edge u w same l = rw same (omega (arith, sumTo-term (vertexCount s) (edge (s .adjacency) v) w l, laid .partial .room v h, e))
+
+  -- it is no end of an edge, and every vertex of a swap is one
+  no-end : (u w : ℕ) → u < vertexCount s → w < vertexCount s → edge (s .adjacency) u w ≡ 1 → (u ≢ v) × (w ≢ v)
+  no-end u w p q linked = (
+    λ same. omega (arith, linked, no-edge u w same q),
+    λ same. omega (arith, linked, laid .partial .simple .symmetric u w p q, no-edge w u same p),
+  )
+
   alone : Alone s v
   alone =
       record {
-        no-edge = λ w l. omega (arith, sumTo-term (vertexCount s) (edge (s .adjacency) v) w l, laid .partial .room v h, e);
+        no-edge = λ w l. no-edge v w refl l;
         no-cell = λ w. (
           le-ltb (cellAt s (classAt s v) (classAt s w)) _ (rw (e, table .none-of-0 (classAt s w)) (omega arith)),
           le-ltb (cellAt s (classAt s w) (classAt s v)) _ (rw (e, table .symmetric (classAt s w) 0, table .none-of-0 (classAt s w)) (omega arith)),
         );
         no-substitute = λ a other.
             rw (le-ltb (degree (vertexCount s) (edge (s .adjacency)) v) (classDegree (classAt s v)) (rw e (omega arith)), and-false (eqb (classAt s v) (classAt s a)));
+        no-swap = λ x can.
+            let c = rule-met x (vertexCount s) (classAt s) (s .adjacency) can in
+            let p = no-end (x .a) (x .b) (c .a-vertex) (c .b-vertex) (c .first) in
+            let q = no-end (x .c) (x .d) (c .c-vertex) (c .d-vertex) (c .second) in
+            (p .0, p .1, q .0, q .1);
       }
 
 pub isolated-alone : IsolatedAlone

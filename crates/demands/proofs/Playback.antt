@@ -19,9 +19,12 @@ use Rattle.answer.specs.declared.CompleteAnswer.the-variants.{Completed}
 use Rattle.answer.specs.declared.Choice.{Choice}
 use Rattle.journal.specs.Journal.{jdmOf}
 use Rattle.state.specs.State.{State}
-use Rattle.state.specs.Valid.{ValidLaid}
 use Rattle.state.specs.Laid.{vertexCount, classAt}
-use Rattle.state.proofs.Facts.{StateFacts, Laid, valid-facts}
+use Rattle.state.proofs.Facts.{StateFacts, Laid}
+use Rattle.swap_log.specs.Log.{emptyLog}
+use Rattle.loan.specs.Loan.{Loan}
+use Rattle.loan.specs.Valid.{LaidLoan}
+use Rattle.loan.proofs.Laid.{laid-state, laid-facts, laid-laid}
 use Rattle.join_bytes.specs.Join.{joinSwitches}
 use Rattle.join_records.specs.Record.{joinRecordSize}
 use Rattle.add_edge.specs.Add.{addAnswer, afterAdd, addAfter}
@@ -33,7 +36,7 @@ use Rattle.completion.proofs.Entry.{good-start, CompleteWorks}
 use Rattle.shuffled_completion.specs.Outcome.{outcome, choiceAnswer}
 use Rattle.shuffled_completion.proofs.Works.{outcome-works}
 use Rattle.demands.specs.Playback.{play, CompletingPlays, addedRecord, Playback}
-use Rattle.demands.proofs.Choices.{By, by, outcome-answer}
+use Rattle.demands.proofs.Choices.{By, by, outcome-answer, choice-log}
 use Rattle.demands.proofs.Playing.{fits, playJoin, join-plays, play-none, play-more}
 
 -- a run's records, played onto the matrix it began with, give the matrix it has come to, whichever pairs are chosen
@@ -60,8 +63,8 @@ module _ (n : ℕ) (cls : ℕ → ℕ) (T : ℕ → ℕ → ℕ) {S : Type 0} (c
                 ∙ join-plays n cls T (r .adjacency) (c .v s) (c .w s) (f .sized) (f .few) (f .target) (f .partial) (c .pair s (h .0) t)),
           )
 
-completing-plays : (f : Choice) (s : State) (out : List ℕ) → ValidLaid s → joinRecordSize * missing s ≤ length out → CompletingPlays f s out
-completing-plays f s out checked room =
+completing-plays : (f : Choice) (b : Loan) (out : List ℕ) → LaidLoan b → joinRecordSize * missing (b .state) ≤ length out → CompletingPlays f b out
+completing-plays f b out checked room =
     record {
       joins = r .joins;
       switches = r .switches;
@@ -71,51 +74,64 @@ completing-plays f s out checked room =
           ap (λ (a : CompleteAnswer). play (take (joinRecordSize * r .joins) (outputRan a r out)) (s .adjacency)) e
           ∙ ap (λ (k : ℕ). play (take k (sets out 0 (r .records))) (s .adjacency)) (sym (x .written))
           ∙ ap (λ (l : List ℕ). play l (s .adjacency)) (take-sets out (r .records) (omega (arith, x .written, x .made)))
-          ∙ rw (b .ends)
-          (run-plays (vertexCount s) (classAt s) (jdmOf (s .journal)) (b .way) (s .adjacency) mostEdges (b .start) (b .begins) (good-start s checked))
-          ∙ sym (ap (λ (a : CompleteAnswer). fits (afterRan a r s .adjacency)) e);
+          ∙ rw (way .ends)
+          (run-plays (vertexCount s) (classAt s) (jdmOf (s .journal)) (way .way) (s .adjacency) mostEdges (way .start) (way .begins)
+          (good-start s (laid-state b checked)))
+          ∙ sym (ap (λ (a : CompleteAnswer). fits (afterRan a r b .state .adjacency)) e);
+      log-after = choice-log b f out (r .joins) (r .switches) (joinRecordSize * r .joins) e;
       rising = λ i l. rw (e, there (joinRecordSize * i) (omega (arith, x .written)), there (joinRecordSize * i + 1) (omega (arith, x .written))) (rising i l);
     }
   where
+    s : State
+    s = b .state
+
     r : Ran
-    r = outcome f s
+    r = outcome f (b .state)
 
-    b : By s (outcome f s)
-    b = by s f
+    way : By (b .state) (outcome f (b .state))
+    way = by (b .state) f
 
-    x : CompleteWorks s (outcome f s)
-    x = outcome-works f s checked
+    x : CompleteWorks (b .state) (outcome f (b .state))
+    x = outcome-works f (b .state) (laid-state b checked)
 
     -- a byte of the records, in the output
     there : (p : ℕ) → p < length (r .records) → getD (sets out 0 (r .records)) p 0 ≡ getD (r .records) p 0
     there p h = rw zero-add at (getD-sets-in out 0 (r .records) p (omega (arith, x .written, x .made)) h)
 
-    rising : Rising (vertexCount s) (outcome f s)
+    rising : Rising (vertexCount (b .state)) (outcome f (b .state))
     rising =
-        rw (b .ends)
-        (records-rising (vertexCount s) (classAt s) (jdmOf (s .journal)) (b .way) (b .rises) mostEdges (b .start) (s .adjacency) (b .begins)
-        (good-start s checked))
+        rw (way .ends)
+        (records-rising (vertexCount s) (classAt s) (jdmOf (s .journal)) (way .way) (way .rises) mostEdges (way .start) (s .adjacency) (way .begins)
+        (good-start s (laid-state b checked)))
 
-    e : choiceAnswer f s (length out) ≡ Completed (outcome f s .joins) (outcome f s .switches) (joinRecordSize * outcome f s .joins)
-    e = outcome-answer s f checked (length out) room
+    e : choiceAnswer f b (length out)
+        ≡ Completed (outcome f (b .state) .joins) (outcome f (b .state) .switches) (joinRecordSize * outcome f (b .state) .joins)
+    e = outcome-answer b f checked (length out) room
 
-adding-plays : (s : State) (v w : ℕ) (x : Switches) → addAnswer s v w ≡ Added x
-    → play (addedRecord v w x) (s .adjacency) ≡ fits (addAfter s v w .adjacency)
-adding-plays s v w x e =
+adding-plays : (b : Loan) (v w : ℕ) (x : Switches) → addAnswer b v w ≡ Added x
+    → play (addedRecord v w x) (b .state .adjacency) ≡ fits (addAfter b v w .state .adjacency)
+adding-plays b v w x e =
     play-more [] 0 v w x (s .adjacency) refl
     ∙ ap (playJoin v w x) (play-none (s .adjacency))
-    ∙ ap (λ (y : Switches). playJoin v w y (fits (s .adjacency))) (added-facts s v w x e .1)
+    ∙ ap (λ (y : Switches). playJoin v w y (fits (s .adjacency))) (added-facts b v w x e .1)
     ∙ join-plays (vertexCount s) (classAt s) (jdmOf (s .journal)) (s .adjacency) v w (facts .adjacency-length) (laid .vertices-le) (laid .target) (laid .partial) (f .pair)
-    ∙ sym (ap (λ (a : AddAnswer). fits (afterAdd a s v w .adjacency)) e)
+    ∙ sym (ap (λ (a : AddAnswer). fits (afterAdd a b v w .state .adjacency)) e)
   where
-    f : AddFacts s v w
-    f = added-facts s v w x e .0
+    s : State
+    s = b .state
 
-    facts : StateFacts s
-    facts = valid-facts s (f .state .lengths) (f .state .is-valid)
+    f : AddFacts b v w
+    f = added-facts b v w x e .0
 
-    laid : Laid s
-    laid = facts .laid (f .state .phased)
+    facts : StateFacts (b .state)
+    facts = laid-facts b (f .loan)
+
+    laid : Laid (b .state)
+    laid = laid-laid b (f .loan)
 
 pub playback : Playback
-playback = record { completing = completing-plays; adding = adding-plays }
+playback =
+    record {
+      completing = completing-plays;
+      adding = λ b v w x e. (adding-plays b v w x e, ap (λ (a : AddAnswer). afterAdd a b v w .log) e);
+    }

@@ -30,8 +30,9 @@ use Rattle.add_edge.proofs.Add.{added-facts}
 use Rattle.join_records.specs.Record.{joinRecordSize}
 use Rattle.completion.proofs.Entry.{refused-not-completed}
 use Rattle.shuffled_completion.specs.Outcome.{choiceAnswer, choiceAfter}
-use Rattle.state.specs.State.{State, emptyMatrix, cleared}
-use Rattle.state.specs.Valid.{ValidLaid}
+use Rattle.state.specs.State.{emptyMatrix}
+use Rattle.loan.specs.Loan.{Loan, clearedLoan}
+use Rattle.loan.specs.Valid.{LaidLoan}
 use Rattle.demands.specs.Calls.{take, complete, Call, changes, afterAll}
 use Rattle.demands.specs.Accepted.{accepted, AcceptedIn}
 use Rattle.demands.specs.Tally.{Tally, noTally, missingEdges, toldTake, addsBlock, withBlock, tally, tallyAll}
@@ -44,45 +45,45 @@ use Rattle.demands.proofs.WithinReach.{every-replica-within-reach}
 
 module _ (calls : List Call) where
   -- where laying out is refused with 9, 10 or 11, no simple graph has the table ..
-  pub refused-none : tallyAll cleared noTally calls .laid ≡ false → RefusedForWantOfAGraph (afterAll cleared calls)
-      → Realized (tallyAll cleared noTally calls .table .cells) → ⊥
+  pub refused-none : tallyAll clearedLoan noTally calls .laid ≡ false → RefusedForWantOfAGraph (afterAll clearedLoan calls .state)
+      → Realized (tallyAll clearedLoan noTally calls .table .cells) → ⊥
   refused-none e = demand-3 calls .0 e .honest .0
 
   -- .. and where none has it, laying out is refused so
-  pub none-refused : tallyAll cleared noTally calls .laid ≡ false → (Realized (tallyAll cleared noTally calls .table .cells) → ⊥)
-      → RefusedForWantOfAGraph (afterAll cleared calls)
+  pub none-refused : tallyAll clearedLoan noTally calls .laid ≡ false → (Realized (tallyAll clearedLoan noTally calls .table .cells) → ⊥)
+      → RefusedForWantOfAGraph (afterAll clearedLoan calls .state)
   none-refused e = demand-3 calls .0 e .honest .1
 
   -- each open pair can be joined, named in either order
-  pub every-pair : tallyAll cleared noTally calls .laid ≡ true → (v w : ℕ) → OpenPair (tallyAll cleared noTally calls .table) (afterAll cleared calls) v w
-      → CanBeJoined (tallyAll cleared noTally calls .table) (afterAll cleared calls) w v
+  pub every-pair : tallyAll clearedLoan noTally calls .laid ≡ true → (v w : ℕ) → OpenPair (tallyAll clearedLoan noTally calls .table) (afterAll clearedLoan calls .state) v w
+      → CanBeJoined (tallyAll clearedLoan noTally calls .table) (afterAll clearedLoan calls) w v
   every-pair e v w o = demand-3 calls .1 e .joinable v w o .1
 
   -- an output of as many bytes as the tally's missing edges need is room enough: completing into it is not refused, whichever pairs are joined ..
-  pub room-enough : tallyAll cleared noTally calls .laid ≡ true → (f : Choice) (out : List ℕ)
-      → length out ≡ joinRecordSize * missingEdges (tallyAll cleared noTally calls) → (r : Refusal)
-      → let s = afterAll cleared calls in
+  pub room-enough : tallyAll clearedLoan noTally calls .laid ≡ true → (f : Choice) (out : List ℕ)
+      → length out ≡ joinRecordSize * missingEdges (tallyAll clearedLoan noTally calls) → (r : Refusal)
+      → let s = afterAll clearedLoan calls in
       choiceAnswer f s (length out) ≡ Refused r → ⊥
   room-enough l f out h r e =
       let c = demand-3 calls .1 l .completes f out (omega arith) in
       refused-not-completed (c .joins) (c .switches) (joinRecordSize * c .joins) r (sym e ∙ c .answer)
 
   -- .. and with one byte less nothing changes
-  pub short-unchanged : tallyAll cleared noTally calls .laid ≡ true → (f : Choice) (out : List ℕ)
-      → length out + 1 ≡ joinRecordSize * missingEdges (tallyAll cleared noTally calls) → choiceAfter f (afterAll cleared calls) (length out) ≡ afterAll cleared calls
+  pub short-unchanged : tallyAll clearedLoan noTally calls .laid ≡ true → (f : Choice) (out : List ℕ)
+      → length out + 1 ≡ joinRecordSize * missingEdges (tallyAll clearedLoan noTally calls) → choiceAfter f (afterAll clearedLoan calls) (length out) ≡ afterAll clearedLoan calls
   short-unchanged l f out h = demand-3 calls .1 l .refuses f out (λ room. omega arith) .unchanged
 
   -- once completed, exactly as many vertices have no edge as the blocks taken or held add up to
   pub isolated-exact : (f : Choice) (out : List ℕ) (joins switches n : ℕ)
-      → let s = afterAll cleared calls in
+      → let s = afterAll clearedLoan calls in
       choiceAnswer f s (length out) ≡ Completed joins switches n
-      → isolated (vertices (answeredSum (calls ++ changes (complete f out) ∷ []))) (edge (choiceAfter f s (length out) .adjacency))
-      ≡ answered blockIsolated [] cleared (calls ++ changes (complete f out) ∷ [])
+      → isolated (vertices (answeredSum (calls ++ changes (complete f out) ∷ []))) (edge (choiceAfter f s (length out) .state .adjacency))
+      ≡ answered blockIsolated [] clearedLoan (calls ++ changes (complete f out) ∷ [])
   isolated-exact f out joins switches n e = demand-2 .completed calls [] f out joins switches n e refl .exact-isolated
 
   -- once a block was taken or held, no other bytes are, under its number
   pub other-bytes-refused : (number : ℕ) (b b′ : List ℕ) → AcceptedIn calls number b
-      → accepted (takeAnswer (afterAll cleared calls) number b′) ≡ true → b ≡ b′
+      → accepted (takeAnswer (afterAll clearedLoan calls .state) number b′) ≡ true → b ≡ b′
   other-bytes-refused number b b′ a h =
       demand-2 .once (calls ++ changes (take number b′) ∷ []) number b b′
       (record {
@@ -109,7 +110,7 @@ resent-once t number b h = rw h (ap (λ (c : Bool). cond c (withBlock (withBlock
     again = rw (ne-eqb number (t .blocks + 1) (λ e. omega (arith, number-is, e)), and-false (wellFormed b))
 
 -- of each pair of a list that is all added alone, the answer has no triples
-added-at : (before : List Pair) (p : Pair) (rest : List Pair) (s : State) → AllAdded s (before ++ p ∷ rest)
+added-at : (before : List Pair) (p : Pair) (rest : List Pair) (s : Loan) → AllAdded s (before ++ p ∷ rest)
     → addAnswer (afterAll s (adds before)) (p .0) (p .1) ≡ Added None
 added-at [] p rest s a = alone (addAnswer s (p .0) (p .1)) (a .0)
   where
@@ -119,11 +120,11 @@ added-at [] p rest s a = alone (addAnswer s (p .0) (p .1)) (a .0)
 added-at (x ∷ before) p rest s a = added-at before p rest (addAfter s (x .0) (x .1)) (a .1)
 
 -- While a drawing is laid onto the empty matrix, no edge that lies is ever moved: each call sets the bytes of its own edge and no others.
-pub nothing-moves : (s : State) → ValidLaid s → s .adjacency ≡ emptyMatrix → (H : Graph) → Replica (tableOf (s .journal)) H
-    → (before : List Pair) (p : Pair) (rest : List Pair) → Order (vertexCount s) H (before ++ p ∷ rest)
-    → addAfter (afterAll s (adds before)) (p .0) (p .1) .adjacency ≡ setEdge (afterAll s (adds before) .adjacency) (p .0) (p .1) 1
+pub nothing-moves : (s : Loan) → LaidLoan s → s .state .adjacency ≡ emptyMatrix → (H : Graph) → Replica (tableOf (s .state .journal)) H
+    → (before : List Pair) (p : Pair) (rest : List Pair) → Order (vertexCount (s .state)) H (before ++ p ∷ rest)
+    → addAfter (afterAll s (adds before)) (p .0) (p .1) .state .adjacency ≡ setEdge (afterAll s (adds before) .state .adjacency) (p .0) (p .1) 1
 nothing-moves s v e H d before p rest o =
     let x = afterAll s (adds before) in
     let a = added-at before p rest s (every-replica-within-reach .from-empty s v e H d (before ++ p ∷ rest) o .added) in
-    ap (λ (a : AddAnswer). afterAdd a x (p .0) (p .1) .adjacency) a
-    ∙ none-alone (vertexCount x) (classAt x) (x .adjacency) (p .0) (p .1) (sym (added-facts x (p .0) (p .1) None a .1))
+    ap (λ (a : AddAnswer). afterAdd a x (p .0) (p .1) .state .adjacency) a
+    ∙ none-alone (vertexCount (x .state)) (classAt (x .state)) (x .state .adjacency) (p .0) (p .1) (sym (added-facts x (p .0) (p .1) None a .1))

@@ -7,7 +7,7 @@ use Prim.Native.Nat.{ℕ}
 use Rattle.answer.specs.declared.TakeAnswer.{TakeAnswer}
 use Rattle.answer.specs.declared.TakeAnswer.the-variants.{Taken, Held, Refused}
 use Rattle.take_block.specs.Take.{takeAnswer}
-use Rattle.state.specs.State.{cleared}
+use Rattle.loan.specs.Loan.{clearedLoan}
 use Rattle.demands.specs.Calls.{Call, changes, take, afterAll}
 
 -- the block was taken, or held already
@@ -21,4 +21,4 @@ pub record AcceptedIn (calls : List Call) (number : ℕ) (b : List ℕ) : Type 0
   pub before : List Call
   pub rest : List Call
   pub offered : calls ≡ before ++ changes (take number b) ∷ rest
-  pub answer : accepted (takeAnswer (afterAll cleared before) number b) ≡ true
+  pub answer : accepted (takeAnswer (afterAll clearedLoan before .state) number b) ≡ true

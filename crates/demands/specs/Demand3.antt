@@ -18,11 +18,14 @@ use Rattle.answer.specs.declared.AddAnswer.the-variants.{Added}
 use Rattle.answer.specs.declared.CompleteAnswer.the-variants.{Completed, Refused}
 use Rattle.answer.specs.declared.Choice.{Choice}
 use Rattle.adjacency.specs.Adjacency.{edge}
-use Rattle.state.specs.State.{State, cleared}
-use Rattle.state.specs.Valid.{lengthsOk, valid}
+use Rattle.state.specs.State.{State}
+use Rattle.swap_log.specs.Log.{emptyLog}
+use Rattle.loan.specs.Loan.{Loan, clearedLoan}
+use Rattle.loan.specs.Valid.{loanLengthsOk, loanValid}
 use Rattle.lay_out.specs.LayOut.{layOutAnswer}
 use Rattle.add_edge.specs.Add.{addAnswer, addAfter}
 use Rattle.join_records.specs.Record.{joinRecordSize}
+use Rattle.completion.specs.Complete.{logAfter}
 use Rattle.shuffled_completion.specs.Outcome.{choiceAnswer, choiceAfter}
 use Rattle.demands.specs.Calls.{Call, afterAll}
 use Rattle.demands.specs.Matrix.{ShortFor, HasTable}
@@ -46,31 +49,34 @@ pub record OpenPair (t : DegreeTable) (s : State) (v w : ℕ) : Type 0 where
   pub unlinked : edge (s .adjacency) v w ≢ 1
   pub short : ShortFor t s (vertexClass t v) (vertexClass t w)
 
--- joining v and w is not refused; afterwards the state has its lengths and is valid, the pair is linked, and there is exactly one edge more
-pub record CanBeJoined (t : DegreeTable) (s : State) (v w : ℕ) : Type 0 where
+-- joining v and w is not refused; afterwards state and log have their lengths and are valid ("the bench is sound"), the pair is linked, there is exactly
+-- one edge more, and the log is empty
+pub record CanBeJoined (t : DegreeTable) (s : Loan) (v w : ℕ) : Type 0 where
   pub switches : Switches
   pub answer : addAnswer s v w ≡ Added switches
-  pub lengths : lengthsOk (addAfter s v w) ≡ true
-  pub is-valid : valid (addAfter s v w) ≡ true
-  pub linked : edge (addAfter s v w .adjacency) v w ≡ 1
-  pub one-more : edgesLaid t (addAfter s v w) ≡ edgesLaid t s + 1
+  pub lengths : loanLengthsOk (addAfter s v w) ≡ true
+  pub is-valid : loanValid (addAfter s v w) ≡ true
+  pub linked : edge (addAfter s v w .state .adjacency) v w ≡ 1
+  pub one-more : edgesLaid t (addAfter s v w .state) ≡ edgesLaid t (s .state) + 1
+  pub no-log : addAfter s v w .log ≡ emptyLog
 
 -- Completing into the output is not refused; its joins and the tally's edges together are half the sum of all cells of T; the matrix then holds
--- exactly that many edges more and, as a simple graph, has T in every cell and as many vertices without an edge as the tally's isolated ones.
-pub record Completes (t : Tally) (s : State) (f : Choice) (out : List ℕ) : Type 0 where
+-- exactly that many edges more and, as a simple graph, has T in every cell and as many vertices without an edge as the tally's isolated ones. Its first join empties the log.
+pub record Completes (t : Tally) (s : Loan) (f : Choice) (out : List ℕ) : Type 0 where
   pub joins : ℕ
   pub switches : ℕ
   pub answer : choiceAnswer f s (length out) ≡ Completed joins switches (joinRecordSize * joins)
   pub missing : 2 * (t .edges + joins) ≡ sumTo mostClasses (rowSum (t .table .cells))
-  pub more : edgesLaid (t .table) (choiceAfter f s (length out)) ≡ edgesLaid (t .table) s + joins
-  pub has-table : HasTable (t .table) (choiceAfter f s (length out))
+  pub more : edgesLaid (t .table) (choiceAfter f s (length out) .state) ≡ edgesLaid (t .table) (s .state) + joins
+  pub has-table : HasTable (t .table) (choiceAfter f s (length out) .state)
+  pub log-after : choiceAfter f s (length out) .log ≡ logAfter joins (s .log)
 
 -- the output has room for a record of each missing edge (document 02, P2: "the mission's finishing is one with that much room")
 abbrev pub HasRoom : Tally → List ℕ → Type 0
 HasRoom t out = joinRecordSize * missingEdges t ≤ length out
 
 -- completing into a shorter output is refused with 18, and nothing changes
-pub record RefusedShort (s : State) (f : Choice) (out : List ℕ) : Type 0 where
+pub record RefusedShort (s : Loan) (f : Choice) (out : List ℕ) : Type 0 where
   pub answer : choiceAnswer f s (length out) ≡ Refused (refuse OutputTooShort 0 0)
   pub unchanged : choiceAfter f s (length out) ≡ s
 
@@ -79,9 +85,9 @@ pub record NotLaid (t : Tally) (s : State) : Type 0 where
   pub honest : RefusedForWantOfAGraph s ↔ (Realized (t .table .cells) → ⊥)
 
 -- laid: no dead end
-pub record Laid (t : Tally) (s : State) : Type 0 where
-  pub joinable : (v w : ℕ) → OpenPair (t .table) s v w → CanBeJoined (t .table) s v w × CanBeJoined (t .table) s w v
-  pub pair : (k l : ℕ) → ShortFor (t .table) s k l → (v w : ℕ) × OpenPair (t .table) s v w
+pub record Laid (t : Tally) (s : Loan) : Type 0 where
+  pub joinable : (v w : ℕ) → OpenPair (t .table) (s .state) v w → CanBeJoined (t .table) s v w × CanBeJoined (t .table) s w v
+  pub pair : (k l : ℕ) → ShortFor (t .table) (s .state) k l → (v w : ℕ) × OpenPair (t .table) (s .state) v w
   pub completes : (f : Choice) (out : List ℕ) → HasRoom t out → Completes t s f out
   pub refuses : (f : Choice) (out : List ℕ) → (HasRoom t out → ⊥) → RefusedShort s f out
 
@@ -89,6 +95,6 @@ pub record Laid (t : Tally) (s : State) : Type 0 where
 abbrev pub Demand3 : Type 0
 Demand3 =
     (calls : List Call) →
-    let s = afterAll cleared calls in
-    let t = tallyAll cleared noTally calls in
-    (t .laid ≡ false → NotLaid t s) × (t .laid ≡ true → Laid t s)
+    let s = afterAll clearedLoan calls in
+    let t = tallyAll clearedLoan noTally calls in
+    (t .laid ≡ false → NotLaid t (s .state)) × (t .laid ≡ true → Laid t s)

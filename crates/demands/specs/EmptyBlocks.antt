@@ -13,10 +13,11 @@ use Rattle.answer.specs.declared.TakeAnswer.the-variants.{Taken, Held, Refused}
 use Rattle.answer.specs.declared.LengthAnswer.the-variants.{Length}
 use Rattle.table.specs.Block.{recordSize, blockMost, mostBlocks, wellFormed}
 use Rattle.journal.specs.Journal.{phaseTaking, phase, blocks, tableOf}
-use Rattle.state.specs.State.{State, withJournal, cleared}
+use Rattle.state.specs.State.{State, withJournal}
 use Rattle.state.specs.Valid.{lengthsOk, valid}
 use Rattle.take_block.specs.Take.{takeAnswer, takeAfter}
 use Rattle.held_block.specs.Held.{lengthAnswer, heldPart}
+use Rattle.loan.specs.Loan.{clearedLoan}
 use Rattle.demands.specs.Calls.{Call, afterAll}
 use Rattle.demands.specs.Accepted.{AcceptedIn}
 use Rattle.demands.specs.Tally.{Tally, toldTake, tally}
@@ -43,10 +44,10 @@ pub record EmptyBlocks : Type 0 where
   pub taken : (s : State) → lengthsOk s ≡ true → valid s ≡ true →
       phase (s .journal) ≡ phaseTaking → blocks (s .journal) < mostBlocks → TakesEmpty s
   -- once taken or held, it is held from then on, whatever calls came after it
-  pub held : (calls : List Call) (number : ℕ) → AcceptedIn calls number [] → HoldsEmpty (afterAll cleared calls) number
+  pub held : (calls : List Call) (number : ℕ) → AcceptedIn calls number [] → HoldsEmpty (afterAll clearedLoan calls .state) number
   -- over a block with bytes it is 7
   pub differs : (calls : List Call) (number : ℕ) (b : List ℕ) → AcceptedIn calls number b → 0 < length b →
-      let s = afterAll cleared calls in takeAnswer s number [] ≡ Refused (refuse BlockDiffers 0 0)
+      let s = afterAll clearedLoan calls .state in takeAnswer s number [] ≡ Refused (refuse BlockDiffers 0 0)
   -- "Only the other lengths remain under 4": over 64 bytes, or not whole records
   pub other-lengths : (s : State) → lengthsOk s ≡ true → valid s ≡ true →
       (number : ℕ) (b : List ℕ) →

@@ -15,3 +15,4 @@ pub mod Playback
 pub mod Isolated
 pub mod WithinReach
 pub mod Shuffled
+pub mod Swaps

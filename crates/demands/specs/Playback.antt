@@ -14,12 +14,13 @@ use Rattle.answer.specs.declared.AddAnswer.the-variants.{Added}
 use Rattle.answer.specs.declared.CompleteAnswer.the-variants.{Completed}
 use Rattle.answer.specs.declared.Choice.{Choice}
 use Rattle.adjacency.specs.Adjacency.{edge, setEdge}
-use Rattle.state.specs.State.{State}
-use Rattle.state.specs.Valid.{ValidLaid}
 use Rattle.state.specs.Laid.{vertexCount}
+use Rattle.swap_log.specs.Log.{emptyLog}
+use Rattle.loan.specs.Loan.{Loan}
+use Rattle.loan.specs.Valid.{LaidLoan}
 use Rattle.join_records.specs.Record.{joinRecordSize}
 use Rattle.add_edge.specs.Add.{addAnswer, addAfter}
-use Rattle.completion.specs.Complete.{missing}
+use Rattle.completion.specs.Complete.{missing, logAfter}
 use Rattle.shuffled_completion.specs.Outcome.{choiceAnswer, choiceAfter, choiceOutput}
 
 -- a matrix in play, and whether everything so far fitted it: an edge that was removed was there, one that was added was not
@@ -47,18 +48,19 @@ playRecord records i p =
 abbrev pub play : List ℕ → List ℕ → Played
 play records g = foldTo (length records / joinRecordSize) (playRecord records) (record { adjacency = g; fitted = true })
 
--- Completing a valid laid state into an output with room: it makes the missing joins, and its records, played onto the matrix of before, fit and give
--- the matrix of after. Each names two vertices, the lower one first.
-pub record CompletingPlays (f : Choice) (s : State) (out : List ℕ) : Type 0 where
+-- Completing a valid laid state, with any valid log, into an output with room: it makes the missing joins, and its records, played onto the matrix of before, fit and give
+-- the matrix of after. Each names two vertices, the lower one first. The first join empties the log.
+pub record CompletingPlays (f : Choice) (s : Loan) (out : List ℕ) : Type 0 where
   pub joins : ℕ
   pub switches : ℕ
   pub answer : choiceAnswer f s (length out) ≡ Completed joins switches (joinRecordSize * joins)
-  pub made : joins ≡ missing s
-  pub played : play (take (joinRecordSize * joins) (choiceOutput f s out)) (s .adjacency)
-      ≡ record { adjacency = choiceAfter f s (length out) .adjacency; fitted = true }
+  pub made : joins ≡ missing (s .state)
+  pub played : play (take (joinRecordSize * joins) (choiceOutput f s out)) (s .state .adjacency)
+      ≡ record { adjacency = choiceAfter f s (length out) .state .adjacency; fitted = true }
+  pub log-after : choiceAfter f s (length out) .log ≡ logAfter joins (s .log)
   pub rising : (i : ℕ) → i < joins →
       let r = choiceOutput f s out in
-      (getD r (joinRecordSize * i) 0 < getD r (joinRecordSize * i + 1) 0) × (getD r (joinRecordSize * i + 1) 0 < vertexCount s)
+      (getD r (joinRecordSize * i) 0 < getD r (joinRecordSize * i + 1) 0) × (getD r (joinRecordSize * i + 1) 0 < vertexCount (s .state))
 
 -- an added edge as a record: its ends, and the triples that its answer hands back
 abbrev pub addedRecord : ℕ → ℕ → Switches → List ℕ
@@ -67,6 +69,7 @@ addedRecord v w x =
     v ∷ w ∷ n .a1 ∷ n .b1 ∷ n .t1 ∷ n .a2 ∷ n .b2 ∷ n .t2 ∷ []
 
 pub record Playback : Type 0 where
-  pub completing : (f : Choice) (s : State) (out : List ℕ) → ValidLaid s → joinRecordSize * missing s ≤ length out → CompletingPlays f s out
-  pub adding : (s : State) (v w : ℕ) (x : Switches) → addAnswer s v w ≡ Added x →
-      play (addedRecord v w x) (s .adjacency) ≡ record { adjacency = addAfter s v w .adjacency; fitted = true }
+  pub completing : (f : Choice) (s : Loan) (out : List ℕ) → LaidLoan s → joinRecordSize * missing (s .state) ≤ length out → CompletingPlays f s out
+  pub adding : (s : Loan) (v w : ℕ) (x : Switches) → addAnswer s v w ≡ Added x →
+      (play (addedRecord v w x) (s .state .adjacency) ≡ record { adjacency = addAfter s v w .state .adjacency; fitted = true })
+      × (addAfter s v w .log ≡ emptyLog)

@@ -13,7 +13,8 @@ use Rattle.table.specs.Block.{wellFormed}
 use Rattle.journal.specs.Journal.{blocks}
 use Rattle.take_block.specs.Take.{takeAnswer}
 use Rattle.held_block.specs.Held.{lengthAnswer, heldPart}
-use Rattle.state.specs.State.{State, cleared}
+use Rattle.state.specs.State.{State}
+use Rattle.loan.specs.Loan.{clearedLoan}
 use Rattle.demands.specs.Calls.{Call, afterAll}
 use Rattle.demands.specs.Accepted.{AcceptedIn}
 
@@ -28,6 +29,6 @@ pub record Holds (s : State) (number : ℕ) (b : List ℕ) : Type 0 where
 
 pub record ReadsBack : Type 0 where
   -- every block answered as taken or held is held from then on, whatever calls came after it ..
-  pub accepted-held : (calls : List Call) (number : ℕ) (b : List ℕ) → AcceptedIn calls number b → Holds (afterAll cleared calls) number b
+  pub accepted-held : (calls : List Call) (number : ℕ) (b : List ℕ) → AcceptedIn calls number b → Holds (afterAll clearedLoan calls .state) number b
   -- .. and nothing else is: each block of the journal was answered so
-  pub held-accepted : (calls : List Call) (number : ℕ) → number < blocks (afterAll cleared calls .journal) → (b : List ℕ) × AcceptedIn calls number b
+  pub held-accepted : (calls : List Call) (number : ℕ) → number < blocks (afterAll clearedLoan calls .state .journal) → (b : List ℕ) × AcceptedIn calls number b

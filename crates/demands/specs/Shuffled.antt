@@ -11,10 +11,10 @@ use Rattle.answer.specs.declared.CompleteAnswer.the-variants as Complete
 use Rattle.answer.specs.declared.ShuffleAnswer.the-variants.{Completed, Refused}
 use Rattle.answer.specs.declared.Choice.the-variants.{Picked}
 use Rattle.journal.specs.Journal.{tableOf}
-use Rattle.state.specs.State.{State}
-use Rattle.state.specs.Valid.{ValidLaid}
+use Rattle.loan.specs.Loan.{Loan}
+use Rattle.loan.specs.Valid.{LaidLoan}
 use Rattle.join_records.specs.Record.{joinRecordSize}
-use Rattle.completion.specs.Complete.{missing}
+use Rattle.completion.specs.Complete.{missing, logAfter}
 use Rattle.shuffled_completion.specs.Choice.{stepsX}
 use Rattle.shuffled_completion.specs.Shuffle.{shuffleAnswer, shuffleAfter, shuffleOutput}
 use Rattle.shuffled_completion.specs.Outcome.{choiceAnswer}
@@ -22,27 +22,28 @@ use Rattle.demands.specs.Calls.{complete, changed}
 use Rattle.demands.specs.Matrix.{ShortFor, HasTable}
 use Rattle.demands.specs.Playback.{play}
 
--- a valid laid state, from x on, into an output with room: the records, played onto the matrix of before, fit it and give the matrix of after
-pub record Shuffles (s : State) (x : ℕ) (out : List ℕ) : Type 0 where
+-- a valid laid state, with any valid log, from x on, into an output with room: the records, played onto the matrix of before, fit it and give the matrix of after
+pub record Shuffles (s : Loan) (x : ℕ) (out : List ℕ) : Type 0 where
   pub joins : ℕ
   pub switches : ℕ
   pub answer : shuffleAnswer s x (length out) ≡ Completed joins switches (joinRecordSize * joins) (stepsX joins x)
-  pub made : joins ≡ missing s
-  pub has-table : HasTable (tableOf (s .journal)) (shuffleAfter s x (length out))
-  pub played : play (take (joinRecordSize * joins) (shuffleOutput s x out)) (s .adjacency)
-      ≡ record { adjacency = shuffleAfter s x (length out) .adjacency; fitted = true }
+  pub made : joins ≡ missing (s .state)
+  pub has-table : HasTable (tableOf (s .state .journal)) (shuffleAfter s x (length out) .state)
+  pub played : play (take (joinRecordSize * joins) (shuffleOutput s x out)) (s .state .adjacency)
+      ≡ record { adjacency = shuffleAfter s x (length out) .state .adjacency; fitted = true }
+  pub log-after : shuffleAfter s x (length out) .log ≡ logAfter joins (s .log)
 
--- x comes back as it came, and no byte changes
-pub record LeftAlone (s : State) (x : ℕ) (out : List ℕ) : Type 0 where
+-- x comes back as it came, and no byte changes, of the log neither
+pub record LeftAlone (s : Loan) (x : ℕ) (out : List ℕ) : Type 0 where
   pub answer : shuffleAnswer s x (length out) ≡ Completed 0 0 0 x
   pub same-state : shuffleAfter s x (length out) ≡ s
   pub same-output : shuffleOutput s x out ≡ out
 
 pub record ShuffledCompleting : Type 0 where
-  pub shuffles : (s : State) (x : ℕ) (out : List ℕ) → ValidLaid s → joinRecordSize * missing s ≤ length out → Shuffles s x out
+  pub shuffles : (s : Loan) (x : ℕ) (out : List ℕ) → LaidLoan s → joinRecordSize * missing (s .state) ≤ length out → Shuffles s x out
   -- a complete state, in which no cell is short, whatever the output
-  pub complete-already : (s : State) (x : ℕ) (out : List ℕ) → ValidLaid s → ((k l : ℕ) → ShortFor (tableOf (s .journal)) s k l → ⊥) → LeftAlone s x out
-  -- the entry is the completing of the list of calls that x picks: it is refused where that is, and leaves the state that that leaves
-  pub refused : (s : State) (x : ℕ) (out : List ℕ) (r : Refusal) →
+  pub complete-already : (s : Loan) (x : ℕ) (out : List ℕ) → LaidLoan s → ((k l : ℕ) → ShortFor (tableOf (s .state .journal)) (s .state) k l → ⊥) → LeftAlone s x out
+  -- the entry is the completing of the list of calls that x picks: it is refused where that is, and leaves what that leaves
+  pub refused : (s : Loan) (x : ℕ) (out : List ℕ) (r : Refusal) →
       shuffleAnswer s x (length out) ≡ Refused r → choiceAnswer (Picked x) s (length out) ≡ Complete.Refused r
-  pub same-state : (s : State) (x : ℕ) (out : List ℕ) → shuffleAfter s x (length out) ≡ changed s (complete (Picked x) out)
+  pub same-state : (s : Loan) (x : ℕ) (out : List ℕ) → shuffleAfter s x (length out) ≡ changed s (complete (Picked x) out)

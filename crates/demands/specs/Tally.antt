@@ -1,5 +1,5 @@
 -- The tally of document 01, "Demand 3, over a whole list of calls". It is told each call's arguments, and the answers of joins,
--- lifts and finishes, and nothing else.
+-- lifts and finishes, and nothing else. Swaps and takings-back alter nothing in it (document 02, P8).
 -- Assumes nothing.
 use mathlib.Core.Bool.{Bool, true, false, _&&_, not, cond}
 use mathlib.Core.List.{List, [], _∷_}
@@ -19,8 +19,8 @@ use Rattle.layout.specs.Layout.{mostVertices, wanted}
 use Rattle.add_edge.specs.Add.{addAnswer}
 use Rattle.remove_edge.specs.Remove.{removeAnswer}
 use Rattle.shuffled_completion.specs.Outcome.{choiceAnswer}
-use Rattle.state.specs.State.{State}
-use Rattle.demands.specs.Calls.{Change, take, layOut, add, remove, complete, Call, changes, reads, changed}
+use Rattle.loan.specs.Loan.{Loan}
+use Rattle.demands.specs.Calls.{Change, take, layOut, add, remove, complete, swap, undo, Call, changes, reads, changed}
 
 -- what the tally is told of a call; of one that reads, nothing
 pub data Told : Type 0 where
@@ -29,13 +29,16 @@ pub data Told : Type 0 where
   toldAdd : AddAnswer → Told
   toldRemove : RemoveAnswer → Told
   toldComplete : CompleteAnswer → Told
+  toldElse : Told
 
-abbrev pub told : State → Change → Told
+abbrev pub told : Loan → Change → Told
 told s (take number b) = toldTake number b
 told s layOut = toldLayOut
 told s (add v w) = toldAdd (addAnswer s v w)
 told s (remove v w) = toldRemove (removeAnswer s v w)
 told s (complete f out) = toldComplete (choiceAnswer f s (length out))
+told s (swap x) = toldElse
+told s undo = toldElse
 
 -- a block count, a table (T and, beside it, the isolated vertices), laid or not, and an edge count
 pub record Tally : Type 0 where
@@ -76,13 +79,14 @@ tally t (toldRemove Remove.Removed) = withEdges t (t .edges - 1)
 tally t (toldRemove (Remove.Refused r)) = t
 tally t (toldComplete (Complete.Completed joins switches n)) = withEdges t (t .edges + joins)
 tally t (toldComplete (Complete.Refused r)) = t
+tally t toldElse = t
 
 -- the missing edges: half the sum of all cells of T, less the edge count
 abbrev pub missingEdges : Tally → ℕ
 missingEdges t = wanted (t .table .cells) - t .edges
 
--- the tally after a list of calls from the state s
-abbrev pub tallyAll : State → Tally → List Call → Tally
+-- the tally after a list of calls from the loan s
+abbrev pub tallyAll : Loan → Tally → List Call → Tally
 tallyAll s t [] = t
 tallyAll s t (changes c ∷ cs) = tallyAll (changed s c) (tally t (told s c)) cs
 tallyAll s t (reads q ∷ cs) = tallyAll s t cs

@@ -1,6 +1,6 @@
 -- Every replica within reach (document 02, P6): "for every simple graph on the laid boards with the table and the boards' degrees, joining its
 -- links onto an empty grid in any order is never refused, makes no switch, and ends in that graph; and .. lifting all links first allows this
--- from every laid bench." A graph is any function with `Simple`; nothing is computed.
+-- from every laid bench." With any valid log, which the first of these calls empties. A graph is any function with `Simple`; nothing is computed.
 -- Assumes nothing.
 use mathlib.Core.Path.{_≡_}
 use mathlib.Core.Bool.{true, _&&_, cond}
@@ -20,9 +20,11 @@ use Rattle.answer.specs.declared.CompleteAnswer.the-variants.{Completed}
 use Rattle.answer.specs.declared.Choice.{Choice}
 use Rattle.journal.specs.Journal.{tableOf}
 use Rattle.adjacency.specs.Adjacency.{side, adjacencySize, edge}
-use Rattle.state.specs.State.{State, withMatrix, emptyMatrix, cleared}
-use Rattle.state.specs.Valid.{ValidLaid}
+use Rattle.state.specs.State.{withMatrix, emptyMatrix}
 use Rattle.state.specs.Laid.{vertexCount}
+use Rattle.swap_log.specs.Log.{emptyLog}
+use Rattle.loan.specs.Loan.{Loan, clearedLoan}
+use Rattle.loan.specs.Valid.{LaidLoan}
 use Rattle.edge_lists.specs.EdgeList.{listOf}
 use Rattle.add_edge.specs.Add.{addAnswer, addAfter}
 use Rattle.remove_edge.specs.Remove.{removeAnswer, removeAfter}
@@ -73,12 +75,12 @@ AddedAlone (Add.Added switches) = switches ≡ None
 AddedAlone (Add.Refused r) = ⊥
 
 -- so is every pair, one after the other
-abbrev pub AllAdded : State → List Pair → Type 0
+abbrev pub AllAdded : Loan → List Pair → Type 0
 AllAdded s [] = Unit {0}
 AllAdded s (p ∷ ps) = AddedAlone (addAnswer s (p .0) (p .1)) × AllAdded (addAfter s (p .0) (p .1)) ps
 
 -- no pair is refused when it is removed, one after the other
-abbrev pub AllRemoved : State → List Pair → Type 0
+abbrev pub AllRemoved : Loan → List Pair → Type 0
 AllRemoved s [] = Unit {0}
 AllRemoved s (p ∷ ps) = (removeAnswer s (p .0) (p .1) ≡ Removed) × AllRemoved (removeAfter s (p .0) (p .1)) ps
 
@@ -88,27 +90,36 @@ bytesOf n H =
     let byte : ℕ → ℕ → ℕ = λ v w. cond (ltb v n && ltb w n) (H v w) 0 in
     catTo adjacencySize (λ i. byte (i / side) (i % side) ∷ [])
 
+-- the log after one call a pair: the first empties it
+abbrev pub logBehind : List Pair → List ℕ → List ℕ
+logBehind [] l = l
+logBehind (p ∷ ps) l = emptyLog
+
+-- the loan with the matrix g, after one call a pair
+abbrev pub drawnLoan : Loan → List ℕ → List Pair → Loan
+drawnLoan s g ps = record { state = withMatrix (s .state) g; log = logBehind ps (s .log) }
+
 -- completing makes no join and changes nothing
-pub record NothingToComplete (s : State) : Type 0 where
+pub record NothingToComplete (s : Loan) : Type 0 where
   pub no-joins : (f : Choice) (out : List ℕ) → choiceAnswer f s (length out) ≡ Completed 0 0 0
   pub unchanged : (f : Choice) (out : List ℕ) → choiceAfter f s (length out) ≡ s
 
--- adding the pairs is never refused, makes no switch and ends in H
-pub record Drawn (s : State) (H : Graph) (ps : List Pair) : Type 0 where
+-- adding the pairs is never refused, makes no switch and ends in H; the log is then empty, unless there is no pair
+pub record Drawn (s : Loan) (H : Graph) (ps : List Pair) : Type 0 where
   pub added : AllAdded s ps
-  pub exactly : afterAll s (adds ps) ≡ withMatrix s (bytesOf (vertexCount s) H)
+  pub exactly : afterAll s (adds ps) ≡ drawnLoan s (bytesOf (vertexCount (s .state)) H) ps
   pub complete : NothingToComplete (afterAll s (adds ps))
 
 -- removing the pairs first, which is never refused either
-pub record Redrawn (s : State) (H : Graph) (qs ps : List Pair) : Type 0 where
+pub record Redrawn (s : Loan) (H : Graph) (qs ps : List Pair) : Type 0 where
   pub removed : AllRemoved s qs
   pub drawn : Drawn (afterAll s (removes qs)) H ps
-  pub exactly : afterAll s (removes qs ++ adds ps) ≡ withMatrix s (bytesOf (vertexCount s) H)
+  pub exactly : afterAll s (removes qs ++ adds ps) ≡ drawnLoan s (bytesOf (vertexCount (s .state)) H) (qs ++ ps)
 
 -- removing the pairs is never refused and ends in the empty matrix of the same journal
-pub record Emptied (s : State) (qs : List Pair) : Type 0 where
+pub record Emptied (s : Loan) (qs : List Pair) : Type 0 where
   pub removed : AllRemoved s qs
-  pub empty : afterAll s (removes qs) ≡ withMatrix s emptyMatrix
+  pub empty : afterAll s (removes qs) ≡ drawnLoan s emptyMatrix qs
 
 -- the edges of E that H does not have
 abbrev pub lacking : Graph → Graph → Graph
@@ -116,32 +127,34 @@ lacking H E v w = E v w - H v w
 
 pub record EveryReplicaWithinReach : Type 0 where
   -- There always is such a graph: what completing ends in is one.
-  pub some : (s : State) (f : Choice) (out : List ℕ) (joins switches m : ℕ) →
+  pub some : (s : Loan) (f : Choice) (out : List ℕ) (joins switches m : ℕ) →
       choiceAnswer f s (length out) ≡ Completed joins switches m →
-      Replica (tableOf (s .journal)) (edge (choiceAfter f s (length out) .adjacency))
+      Replica (tableOf (s .state .journal)) (edge (choiceAfter f s (length out) .state .adjacency))
   -- An order is as long as the graph has edges.
   pub order-length : (n : ℕ) (H : Graph) → Simple n H → (ps : List Pair) → Order n H ps → length ps ≡ edges n H
   -- 1. from the empty matrix ("an empty grid"), in any order
-  pub from-empty : (s : State) → ValidLaid s → s .adjacency ≡ emptyMatrix →
-      (H : Graph) → Replica (tableOf (s .journal)) H → (ps : List Pair) → Order (vertexCount s) H ps → Drawn s H ps
+  pub from-empty : (s : Loan) → LaidLoan s → s .state .adjacency ≡ emptyMatrix →
+      (H : Graph) → Replica (tableOf (s .state .journal)) H → (ps : List Pair) → Order (vertexCount (s .state)) H ps → Drawn s H ps
   -- 2. to the empty matrix, in any order; so H is reached from every valid laid state ..
-  pub to-empty : (s : State) → ValidLaid s → (qs : List Pair) → Order (vertexCount s) (edge (s .adjacency)) qs → Emptied s qs
-  pub from-anywhere : (s : State) → ValidLaid s → (H : Graph) → Replica (tableOf (s .journal)) H → (qs ps : List Pair) →
-      Order (vertexCount s) (edge (s .adjacency)) qs → Order (vertexCount s) H ps → Redrawn s H qs ps
+  pub to-empty : (s : Loan) → LaidLoan s → (qs : List Pair) → Order (vertexCount (s .state)) (edge (s .state .adjacency)) qs → Emptied s qs
+  pub from-anywhere : (s : Loan) → LaidLoan s → (H : Graph) → Replica (tableOf (s .state .journal)) H → (qs ps : List Pair) →
+      Order (vertexCount (s .state)) (edge (s .state .adjacency)) qs → Order (vertexCount (s .state)) H ps → Redrawn s H qs ps
   -- .. by these calls: remove the edges as they are listed, then add those of H as they would be
-  pub reached : (s : State) → ValidLaid s → (H : Graph) → Replica (tableOf (s .journal)) H →
-      let n = vertexCount s in
-      Order n (edge (s .adjacency)) (ascending n (edge (s .adjacency))) × Order n H (ascending n H)
-      × Redrawn s H (ascending n (edge (s .adjacency))) (ascending n H)
+  pub reached : (s : Loan) → LaidLoan s → (H : Graph) → Replica (tableOf (s .state .journal)) H →
+      let n = vertexCount (s .state) in
+      let E = edge (s .state .adjacency) in
+      Order n E (ascending n E) × Order n H (ascending n H) × Redrawn s H (ascending n E) (ascending n H)
   -- It is enough to remove what H lacks and to add what the matrix lacks.
-  pub differences : (s : State) → ValidLaid s → (H : Graph) → Replica (tableOf (s .journal)) H → (qs ps : List Pair) →
-      Order (vertexCount s) (lacking H (edge (s .adjacency))) qs → Order (vertexCount s) (lacking (edge (s .adjacency)) H) ps →
+  pub differences : (s : Loan) → LaidLoan s → (H : Graph) → Replica (tableOf (s .state .journal)) H → (qs ps : List Pair) →
+      let n = vertexCount (s .state) in
+      let E = edge (s .state .adjacency) in
+      Order n (lacking H E) qs → Order n (lacking E H) ps →
       Redrawn s H qs ps
   -- 3. After every list of calls from a cleared state that is laid out: the tally agrees that nothing is missing then.
   pub tallied : (calls : List Call) →
-      let s = afterAll cleared calls in
-      let t = tallyAll cleared noTally calls in
+      let s = afterAll clearedLoan calls in
+      let t = tallyAll clearedLoan noTally calls in
       t .laid ≡ true → (H : Graph) → Replica (t .table) H → (qs ps : List Pair) →
-      Order (vertices (t .table)) (edge (s .adjacency)) qs → Order (vertices (t .table)) H ps →
+      Order (vertices (t .table)) (edge (s .state .adjacency)) qs → Order (vertices (t .table)) H ps →
       let list = calls ++ (removes qs ++ adds ps) in
-      (missingEdges (tallyAll cleared noTally list) ≡ 0) × NothingToComplete (afterAll cleared list)
+      (missingEdges (tallyAll clearedLoan noTally list) ≡ 0) × NothingToComplete (afterAll clearedLoan list)

@@ -1,17 +1,18 @@
--- The way of trying a case: the entries' definitions run on its calls from a cleared state; what all calls hand back, in document 01's numbers and the
--- bytes of their outputs, and the edges in the end are compared.
+-- The way of trying a case: the entries' definitions run on its calls from a cleared state with an empty log; what all calls hand back, in document 01's
+-- numbers and the bytes of their outputs, and the edges in the end are compared, and of some cases the log too.
 -- Assumes nothing.
 use mathlib.Core.Path.{_≡_}
 use mathlib.Core.Bool.{Bool, true, false, _&&_}
 use mathlib.Core.List.{List, [], _∷_, _++_}
 use Prim.Native.Nat.{ℕ}
 use lib.Dec.{eqb}
-use lib.ListN.{length, replicate}
+use lib.ListN.{length, take as first, replicate}
 use Rattle.answer.specs.Numbers.{done}
 use Rattle.answer.specs.declared.Choice.{Choice}
 use Rattle.answer.specs.declared.Choice.the-variants.{Lowest}
-use Rattle.state.specs.State.{State, cleared}
 use Rattle.state.specs.Laid.{vertexCount}
+use Rattle.swapping.specs.Swap.{swapOf}
+use Rattle.loan.specs.Loan.{Loan, clearedLoan}
 use Rattle.edge_list.specs.List.{listBytes}
 use Rattle.demands.specs.Calls as Calls
 use Rattle.demands.specs.Calls.{Call, changes, reads, after}
@@ -32,6 +33,12 @@ remove v w = changes (Calls.remove v w)
 
 abbrev pub complete : Choice → List ℕ → Call
 complete f out = changes (Calls.complete f out)
+
+abbrev pub swap : ℕ → ℕ → ℕ → ℕ → Call
+swap a b c d = changes (Calls.swap (swapOf a b c d))
+
+abbrev pub undo : Call
+undo = changes Calls.undo
 
 abbrev pub readBack : ℕ → Call
 readBack number = reads (Calls.readBack number)
@@ -65,22 +72,42 @@ sameList [] (n ∷ ns) = false
 sameList (m ∷ ms) [] = false
 sameList (m ∷ ms) (n ∷ ns) = eqb m n && sameList ms ns
 
-abbrev pub edgesOf : State → List ℕ
-edgesOf s = listBytes (vertexCount s) (s .adjacency)
+abbrev pub edgesOf : Loan → List ℕ
+edgesOf s = listBytes (vertexCount (s .state)) (s .state .adjacency)
 
--- from the state s every call gets its answer, and these are the edges in the end
-abbrev pub holdsFrom : State → List Step → List ℕ → Bool
-holdsFrom s [] es = sameList (edgesOf s) es
-holdsFrom s (x ∷ xs) es = sameList (answerOf s (x .call)) (x .answer) && holdsFrom (after s (x .call)) xs es
+-- from the loan s every call gets its answer, and what is lent in the end passes a test
+abbrev pub runs : (Loan → Bool) → Loan → List Step → Bool
+runs ends s [] = ends s
+runs ends s (x ∷ xs) = sameList (answerOf s (x .call)) (x .answer) && runs ends (after s (x .call)) xs
+
+-- these are the edges in the end
+abbrev pub hasEdges : List ℕ → Loan → Bool
+hasEdges es s = sameList (edgesOf s) es
 
 abbrev pub holds : Case → Bool
-holds c = holdsFrom cleared (c .steps) (c .edges)
+holds c = runs (hasEdges (c .edges)) clearedLoan (c .steps)
 
 abbrev pub allHold : List Case → Bool
 allHold [] = true
 allHold (c ∷ cs) = holds c && allHold cs
 
--- answers by name: a block taken, with the number of the next; a block held; a block read back, with its length; N laid out; an edge removed; joins,
+-- a case, and the bytes with which the log begins in the end
+pub record LogCase : Type 0 where
+  pub case : Case
+  pub log : List ℕ
+
+abbrev pub beginsLog : List ℕ → Loan → Bool
+beginsLog ls s = sameList (first (length ls) (s .log)) ls
+
+abbrev pub logHolds : LogCase → Bool
+logHolds c = runs (λ s. hasEdges (c .case .edges) s && beginsLog (c .log) s) clearedLoan (c .case .steps)
+
+abbrev pub logsHold : List LogCase → Bool
+logsHold [] = true
+logsHold (c ∷ cs) = logHolds c && logsHold cs
+
+-- answers by name: a block taken, with the number of the next; a block held; a block read back, with its length; N laid out; an edge removed; edges swapped, and
+-- swapped back; joins,
 -- switches and output of a completing, and of one by x, with the last x; an output with its written length; the figures; a refusal, with the output as it was
 abbrev pub taken : ℕ → List ℕ
 taken next = six (done 0 next)
@@ -96,6 +123,12 @@ laidOut n = six (done n 0)
 
 abbrev pub removed : List ℕ
 removed = six (done 0 0)
+
+abbrev pub swapped : List ℕ
+swapped = six (done 0 0)
+
+abbrev pub undone : List ℕ
+undone = six (done 0 0)
 
 abbrev pub completed : ℕ → ℕ → ℕ → List ℕ → List ℕ
 completed joins switches n out = 0 ∷ joins ∷ switches ∷ n ∷ 0 ∷ 0 ∷ out
