@@ -1,7 +1,7 @@
 // Document 01's numbers of each answer, in the struct that the C interface hands back.
 ghost use mathlib.Core.Path.{_≡_};
 ghost use Prim.Native.Nat.{ℕ, _<_};
-ghost use Rattle.answer.specs.Numbers.{refused, clearNumbers, takeNumbers, layOutNumbers, figuresNumbers, addNumbers, removeNumbers, completeNumbers, shuffleNumbers, writtenNumbers, readNumbers};
+ghost use Rattle.answer.specs.Numbers.{refused, clearNumbers, takeNumbers, layOutNumbers, figuresNumbers, addNumbers, removeNumbers, swapNumbers, undoNumbers, completeNumbers, shuffleNumbers, writtenNumbers, readNumbers};
 ghost use Rattle.table.specs.Block.{mostBlocks};
 ghost use Rattle.numbers.specs.Flat.{flat, flatJoin, heldNumbers};
 use answer::AddAnswer;
@@ -14,7 +14,9 @@ use answer::ReadAnswer;
 use answer::Refusal;
 use answer::RemoveAnswer;
 use answer::ShuffleAnswer;
+use answer::SwapAnswer;
 use answer::TakeAnswer;
+use answer::UndoAnswer;
 use answer::WrittenAnswer;
 use answer::number_of;
 use answer::switches::Switches;
@@ -158,6 +160,24 @@ pub fn of_remove(answer: RemoveAnswer) -> ReplicaAnswer
     match answer {
         RemoveAnswer::Removed => two(0, 0, 0),
         RemoveAnswer::Refused(r) => of_refusal(r),
+    }
+}
+
+pub fn of_swap(answer: SwapAnswer) -> ReplicaAnswer
+    ensures { λ r. ⌜ r ≡ flat (swapNumbers answer) ⌝ }
+{
+    match answer {
+        SwapAnswer::Swapped => two(0, 0, 0),
+        SwapAnswer::Refused(r) => of_refusal(r),
+    }
+}
+
+pub fn of_undo(answer: UndoAnswer) -> ReplicaAnswer
+    ensures { λ r. ⌜ r ≡ flat (undoNumbers answer) ⌝ }
+{
+    match answer {
+        UndoAnswer::Undone => two(0, 0, 0),
+        UndoAnswer::Refused(r) => of_refusal(r),
     }
 }
 

@@ -30,7 +30,7 @@ use Rattle.lay_out.proofs.LayOut.{LaidOutFacts, lay-out-facts, lay-out-same-tab
 use Rattle.clear.specs.Clear.{ClearedState}
 use Rattle.clear.proofs.Cleared.{cleared-state}
 use Rattle.completion.specs.Complete.{Ran, afterRan}
-use Rattle.completion.proofs.Entry.{completed-facts, facts-completed, missing-most}
+use Rattle.completion.proofs.Entry.{facts-completed, missing-most}
 use Rattle.shuffled_completion.specs.Outcome.{outcome, choiceAnswer}
 use Rattle.shuffled_completion.proofs.Works.{outcome-works}
 use Rattle.text.specs.Text.{refusedLine}
@@ -40,15 +40,15 @@ use Rattle.input_blocks.specs.Taken.{stateAfter, AllTaken}
 use Rattle.input_blocks.proofs.Sent.{Sent, reached, sent, full-refused}
 use Rattle.state_text.specs.StateText.{stateText}
 use Rattle.state_text.proofs.Shown.{state-shown}
-use Rattle.runner.specs.Program.{joinRecordsMost, completedText, laidText, takenText, textFrom}
+use Rattle.runner.specs.Program.{joinRecordsMost, withOwnLog, completedText, laidText, takenText, textFrom}
 use Rattle.runner.specs.Theorems.{CompletesAlways, Built, SaysFrom, ProgramSays, EndsFull}
-use Rattle.runner.proofs.Room.{laid-count}
+use Rattle.runner.proofs.Room.{own-laid, own-valid, laid-count}
 
 -- completing a laid state is not refused: no layout has more edges than there is room for
 laid-completes : (choice : Choice) (s : State) (n : ℕ) → layOutAnswer s ≡ LaidOut n
-    → (joins switches written : ℕ) × (choiceAnswer choice (layOutAfter s) joinRecordsMost ≡ Completed joins switches written)
+    → (joins switches written : ℕ) × (choiceAnswer choice (withOwnLog (layOutAfter s)) joinRecordsMost ≡ Completed joins switches written)
 laid-completes choice s n e =
-    (r .joins, r .switches, length (r .records), facts-completed (layOutAfter s) r joinRecordsMost f (omega (arith, missing-most (layOutAfter s) f)))
+    (r .joins, r .switches, length (r .records), facts-completed (withOwnLog (layOutAfter s)) r joinRecordsMost (own-laid (layOutAfter s) f) (omega (arith, missing-most (layOutAfter s) f)))
   where
     r : Ran
     r = outcome choice (layOutAfter s)
@@ -66,10 +66,10 @@ laid-completes choice s n e =
 
 -- a completed state's text
 module _ (choice : Choice) (s : State) (n joins switches written : ℕ) (count : n ≡ vertexCount s)
-    (e : choiceAnswer choice s joinRecordsMost ≡ Completed joins switches written) where
+    (e : choiceAnswer choice (withOwnLog s) joinRecordsMost ≡ Completed joins switches written) where
   built : (form : Form) → Built form (tableOf (s .journal)) (stateText form n switches (withMatrix s (outcome choice s .adjacency)))
   built form =
-      let w = outcome-works choice s (completed-facts s (outcome choice s) joinRecordsMost joins switches written e .facts) in
+      let w = outcome-works choice s (own-valid choice s joins switches written e) in
       let x = withMatrix s (outcome choice s .adjacency) in
       record {
         state = x;
@@ -85,7 +85,7 @@ module _ (choice : Choice) (s : State) (n joins switches written : ℕ) (count :
   built-laid : (form : Form) → Built form (tableOf (s .journal)) (laidText form choice (LaidOut n) s)
   built-laid form =
       subst (Built form (tableOf (s .journal)))
-      (ap (λ (a : CompleteAnswer). completedText form a n (afterRan a (outcome choice s) s)) (sym e)) (built form)
+      (ap (λ (a : CompleteAnswer). completedText form a n (afterRan a (outcome choice s) (withOwnLog s) .state)) (sym e)) (built form)
 
 -- a laid state's text
 told-laid : (form : Form) (choice : Choice) (s : State) (n : ℕ) → layOutAnswer s ≡ LaidOut n

@@ -11,7 +11,10 @@ use Rattle.answer.specs.declared.CompleteAnswer.{CompleteAnswer}
 use Rattle.answer.specs.declared.CompleteAnswer.the-variants.{Completed, Refused as CompleteRefused}
 use Rattle.answer.specs.declared.Choice.{Choice}
 use Rattle.state.specs.State.{State, withMatrix}
+use Rattle.state.specs.Valid.{ValidLaid}
 use Rattle.state.specs.Laid.{vertexCount}
+use Rattle.loan.specs.Valid.{LaidLoan}
+use Rattle.loan.proofs.Laid.{laid-state, altered-laid}
 use Rattle.graph.specs.Tests.{vertices}
 use Rattle.journal.proofs.Laid.{table-laid}
 use Rattle.lay_out.specs.LayOut.{layOutAnswer, afterLayOut, layOutAfter}
@@ -23,14 +26,24 @@ use Rattle.shuffled_completion.proofs.Works.{outcome-works}
 use Rattle.options.specs.declared.Form.{Form}
 use Rattle.state_text.specs.StateText.{textMost}
 use Rattle.state_text.proofs.Room.{state-fits, refused-fits}
-use Rattle.runner.specs.Program.{joinRecordsMost, completedText, laidText, takenText}
+use Rattle.runner.specs.Program.{joinRecordsMost, withOwnLog, completedText, laidText, takenText}
+
+-- a valid laid state is valid with the program's own log, and where completing goes on, so is the state
+pub own-laid : (s : State) → ValidLaid s → LaidLoan (withOwnLog s)
+own-laid s v = altered-laid (withOwnLog s) (s .adjacency) v
+
+pub own-valid : (choice : Choice) (s : State) (joins switches written : ℕ)
+    → choiceAnswer choice (withOwnLog s) joinRecordsMost ≡ Completed joins switches written → ValidLaid s
+own-valid choice s joins switches written e =
+    laid-state (withOwnLog s) (completed-facts (withOwnLog s) (outcome choice s) joinRecordsMost joins switches written e .loan)
 
 completed-fits : (form : Form) (choice : Choice) (s : State) (n : ℕ) → n ≡ vertexCount s → length (laidText form choice (LaidOut n) s) ≤ textMost
-completed-fits form choice s n count = go (choiceAnswer choice s joinRecordsMost) refl
+completed-fits form choice s n count = go (choiceAnswer choice (withOwnLog s) joinRecordsMost) refl
   where
-    go : (a : CompleteAnswer) → choiceAnswer choice s joinRecordsMost ≡ a → length (completedText form a n (afterRan a (outcome choice s) s)) ≤ textMost
+    go : (a : CompleteAnswer) → choiceAnswer choice (withOwnLog s) joinRecordsMost ≡ a
+        → length (completedText form a n (afterRan a (outcome choice s) (withOwnLog s) .state)) ≤ textMost
     go (Completed joins switches written) e =
-        let f = completed-facts s (outcome choice s) joinRecordsMost joins switches written e .facts in
+        let f = own-valid choice s joins switches written e in
         state-fits (withMatrix s (outcome choice s .adjacency)) (outcome-works choice s f .state) form n switches count
     go (CompleteRefused r) e = refused-fits r
 

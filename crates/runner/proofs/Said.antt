@@ -20,7 +20,6 @@ use Rattle.state.specs.Valid.{ValidLaid}
 use Rattle.state.specs.Laid.{vertexCount}
 use Rattle.lay_out.specs.LayOut.{layOutAnswer, afterLayOut, layOutAfter}
 use Rattle.completion.specs.Complete.{afterRan}
-use Rattle.completion.proofs.Entry.{completed-facts}
 use Rattle.io.specs.Counts.{Counts}
 use Rattle.shuffled_completion.specs.Outcome.{outcome, choiceAnswer, choiceAfter}
 use Rattle.shuffled_completion.proofs.Works.{outcome-works}
@@ -30,8 +29,8 @@ use Rattle.options.specs.declared.Form.{Form}
 use Rattle.input_blocks.specs.Blocks.{takeAll}
 use Rattle.input_blocks.proofs.Taking.{taken-matrix}
 use Rattle.state_text.specs.StateText.{stateText, textMost}
-use Rattle.runner.specs.Program.{joinRecordsMost, completedText, laidText, takenText, textFrom}
-use Rattle.runner.proofs.Room.{laid-count, text-fits}
+use Rattle.runner.specs.Program.{joinRecordsMost, withOwnLog, completedText, laidText, takenText, textFrom}
+use Rattle.runner.proofs.Room.{own-valid, laid-count, text-fits}
 
 -- the text t stands at the start of the list l, which is then m, and p is its length
 abbrev pub Says : List ℕ → List ℕ → ℕ → List ℕ → Type 0
@@ -46,23 +45,23 @@ says-line t u l p m e w = says t u l p m e (w .0 ∙ zero-add (length u), w .1)
 
 -- after completing
 module _ (form : Form) (choice : Choice) (s : State) (n : ℕ) (a : CompleteAnswer) (g : List ℕ)
-    (answered : a ≡ choiceAnswer choice s joinRecordsMost) (left : g ≡ choiceAfter choice s joinRecordsMost .adjacency) where
+    (answered : a ≡ choiceAnswer choice (withOwnLog s) joinRecordsMost)
+    (left : g ≡ choiceAfter choice (withOwnLog s) joinRecordsMost .state .adjacency) where
   pub said-refused : (r : Refusal) → a ≡ CompleteRefused r → laidText form choice (LaidOut n) s ≡ refusedLine r
-  said-refused r h = ap (λ (a : CompleteAnswer). completedText form a n (afterRan a (outcome choice s) s)) (sym answered ∙ h)
+  said-refused r h = ap (λ (a : CompleteAnswer). completedText form a n (afterRan a (outcome choice s) (withOwnLog s) .state)) (sym answered ∙ h)
 
   module _ (joins switches written : ℕ) (h : a ≡ Completed joins switches written) where
     completed-is : g ≡ outcome choice s .adjacency
-    completed-is = left ∙ ap (λ (a : CompleteAnswer). afterRan a (outcome choice s) s .adjacency) (sym answered ∙ h)
+    completed-is = left ∙ ap (λ (a : CompleteAnswer). afterRan a (outcome choice s) (withOwnLog s) .state .adjacency) (sym answered ∙ h)
 
     pub said-completed : laidText form choice (LaidOut n) s ≡ stateText form n switches (withMatrix s g)
     said-completed =
-        ap (λ (a : CompleteAnswer). completedText form a n (afterRan a (outcome choice s) s)) (sym answered ∙ h)
+        ap (λ (a : CompleteAnswer). completedText form a n (afterRan a (outcome choice s) (withOwnLog s) .state)) (sym answered ∙ h)
         ∙ ap (λ (g : List ℕ). stateText form n switches (withMatrix s g)) (sym completed-is)
 
     pub completed-laid : ValidLaid (withMatrix s g)
     completed-laid =
-        let f = completed-facts s (outcome choice s) joinRecordsMost joins switches written (sym answered ∙ h) .facts in
-        rw completed-is (outcome-works choice s f .state)
+        rw completed-is (outcome-works choice s (own-valid choice s joins switches written (sym answered ∙ h)) .state)
 
 -- laying out leaves the matrix
 laid-matrix : (s : State) → layOutAfter s ≡ withJournal s (layOutAfter s .journal)

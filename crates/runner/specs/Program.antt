@@ -1,6 +1,6 @@
 -- What the program prints, for every input (document 01, "The program `replica`"): "reads records from standard input, cuts them into blocks of
 -- 64 bytes (the last may be shorter), numbered from 0, lays out, finishes and prints"; "On a refusal it prints only" that. Document 02 adds the form, lines
--- as before or one line of graph6 (P5), and the second way to complete (P7).
+-- as before or one line of graph6 (P5), the second way to complete (P7), and a log, which the program lends too, all zero (P8).
 -- Assumes nothing.
 use mathlib.Core.List.{List}
 use Prim.Native.Nat.{ℕ, _*_}
@@ -12,6 +12,8 @@ use Rattle.answer.specs.declared.CompleteAnswer.{CompleteAnswer}
 use Rattle.answer.specs.declared.CompleteAnswer.the-variants.{Completed, Refused as CompleteRefused}
 use Rattle.answer.specs.declared.Choice.{Choice}
 use Rattle.state.specs.State.{State, cleared}
+use Rattle.swap_log.specs.Log.{emptyLog}
+use Rattle.loan.specs.Loan.{Loan}
 use Rattle.lay_out.specs.LayOut.{layOutAnswer, layOutAfter}
 use Rattle.join_records.specs.Record.{joinRecordSize}
 use Rattle.completion.specs.Complete.{mostEdges, ranAnswer, afterRan}
@@ -30,12 +32,16 @@ abbrev pub completedText : Form → CompleteAnswer → ℕ → State → List �
 completedText form (Completed joins switches written) n s = stateText form n switches s
 completedText form (CompleteRefused r) n s = refusedLine r
 
+-- the state with the program's own log
+abbrev pub withOwnLog : State → Loan
+withOwnLog s = record { state = s; log = emptyLog }
+
 -- after laying out
 abbrev pub laidText : Form → Choice → LayOutAnswer → State → List ℕ
 laidText form choice (LaidOut n) s =
     let r = outcome choice s in
-    let a = ranAnswer r s joinRecordsMost in
-    completedText form a n (afterRan a r s)
+    let a = ranAnswer r (withOwnLog s) joinRecordsMost in
+    completedText form a n (afterRan a r (withOwnLog s) .state)
 laidText form choice (LayOutRefused r) s = refusedLine r
 
 -- after taking

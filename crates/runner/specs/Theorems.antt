@@ -28,7 +28,7 @@ use Rattle.options.specs.declared.Form.{Form}
 use Rattle.input_blocks.specs.Blocks.{blocksIn, blockIn, takeAll, inputMost}
 use Rattle.input_blocks.specs.Taken.{inputTable, stateAfter, AllTaken, FirstRefused}
 use Rattle.state_text.specs.StateText.{shown}
-use Rattle.runner.specs.Program.{joinRecordsMost, programText}
+use Rattle.runner.specs.Program.{joinRecordsMost, withOwnLog, programText}
 
 -- what lies behind 65 blocks cannot matter: the program need not read it
 abbrev pub ReadsEnough : Type 0
@@ -48,7 +48,7 @@ CompletesAlways =
     let t = takeAll cleared input in
     let s = layOutAfter (t .state) in
     t .verdict ≡ Go → layOutAnswer (t .state) ≡ LaidOut n →
-    (joins switches written : ℕ) × (choiceAnswer choice s joinRecordsMost ≡ Completed joins switches written)
+    (joins switches written : ℕ) × (choiceAnswer choice (withOwnLog s) joinRecordsMost ≡ Completed joins switches written)
 
 -- The text is that of a state whose journal says t and whose matrix holds a simple graph with t's matrix in every cell, by equation (1) at its own
 -- degrees, and as many isolated vertices, and 0 outside it: its graph shown, and nothing else.

@@ -9,6 +9,7 @@ ghost use Rattle.answer.specs.declared.CompleteAnswer.{CompleteAnswer};
 ghost use Rattle.answer.specs.declared.LayOutAnswer.the-variants.{LaidOut};
 ghost use Rattle.io.specs.Counts.{Counts};
 ghost use Rattle.state.specs.Laid.{vertexCount};
+ghost use Rattle.loan.specs.Loan.{loanOf};
 ghost use Rattle.shuffled_completion.specs.Outcome.{choiceAnswer, choiceAfter};
 ghost use Rattle.shuffled_completion.specs.Shuffle.{withX};
 ghost use Rattle.state_text.specs.StateText.{textMost};
@@ -28,6 +29,7 @@ use options::Form;
 use state_text::MAX_LIST_BYTES;
 use state_text::MAX_TEXT_BYTES;
 use state_text::put_state_text;
+use swap_log::LOG_BYTES;
 use text::put_refused;
 
 // The most bytes of the records of completing: one for each edge.
@@ -51,20 +53,21 @@ fn without_x(answer: ShuffleAnswer) -> CompleteAnswer
 fn complete_by(
     journal: &[u8],
     adjacency: &mut [u8],
+    log: &mut [u8],
     choice: Choice,
     records: &mut [u8],
 ) -> CompleteAnswer
     requires { ⌜ length (now records) ≡ joinRecordsMost ⌝ }
-    ensures { λ r. ⌜ r ≡ choiceAnswer choice (stateOf (now (journal .entry)) (now (adjacency .entry))) joinRecordsMost ⌝ }
-    ensures { λ _. ⌜ now (adjacency .exit) ≡ choiceAfter choice (stateOf (now (journal .entry)) (now (adjacency .entry))) joinRecordsMost .adjacency ⌝ }
+    ensures { λ r. ⌜ r ≡ choiceAnswer choice (loanOf (now (journal .entry)) (now (adjacency .entry)) (now (log .entry))) joinRecordsMost ⌝ }
+    ensures { λ _. ⌜ now (adjacency .exit) ≡ choiceAfter choice (loanOf (now (journal .entry)) (now (adjacency .entry)) (now (log .entry))) joinRecordsMost .state .adjacency ⌝ }
 {
     match choice {
-        Choice::Lowest => complete::complete(journal, adjacency, records),
-        Choice::Picked(x) => without_x(complete_shuffled(journal, adjacency, x, records)),
+        Choice::Lowest => complete::complete(journal, adjacency, log, records),
+        Choice::Picked(x) => without_x(complete_shuffled(journal, adjacency, log, x, records)),
     }
 }
 
-// Completes a laid state of n vertices.
+// Completes a laid state of n vertices, with a log of its own.
 fn put_laid_text(
     journal: &[u8],
     adjacency: &mut [u8],
@@ -78,7 +81,8 @@ fn put_laid_text(
     ensures { λ _. ⌜ now (output .exit) ≡ sets (now (output .entry)) 0 (laidText form choice (LaidOut n) (stateOf (now (journal .entry)) (now (adjacency .entry)))) ⌝ }
 {
     let mut records = [0u8; MAX_JOIN_RECORDS_BYTES];
-    let answer = complete_by(journal, adjacency, choice, &mut records);
+    let mut log = [0u8; LOG_BYTES];
+    let answer = complete_by(journal, adjacency, &mut log, choice, &mut records);
     match answer {
         CompleteAnswer::Refused(r) => put_refused(output, 0, r),
         CompleteAnswer::Completed(_, switches, _) => put_state_text(

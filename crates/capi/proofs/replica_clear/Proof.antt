@@ -1,4 +1,5 @@
 -- `capi::replica_clear` meets its contract.
+-- Assumes nothing.
 use borrow.Author.Needs.{needs}
 use Rattle.capi.proofs.replica_clear.Statement.{statement}
 use Rattle.capi.proofs.replica_clear.Tie as tie
@@ -10,6 +11,7 @@ replica-clear-spec =
     (λ c κs. tt)  -- of-clear-requires
     (λ c. search needs)  -- same-length
     (λ c. search needs)  -- same-length-2
+    (λ c. search needs)  -- same-length-3
     (λ c.
-    let t = c .before .before .before .before .before in
+    let t = c .before .before .before .before .before .before .before in
     (rw (← (t .clear .ensures .0)) (c .of-clear .ensures), t .clear .ensures .1)))  -- returns

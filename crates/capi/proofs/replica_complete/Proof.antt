@@ -1,4 +1,5 @@
 -- `capi::replica_complete` meets its contract.
+-- Assumes nothing.
 use borrow.Author.Needs.{needs}
 use Rattle.capi.proofs.replica_complete.Statement.{statement}
 use Rattle.capi.proofs.replica_complete.Tie as tie
@@ -10,6 +11,7 @@ replica-complete-spec =
     (λ c κs. tt)  -- of-complete-requires
     (λ c. search needs)  -- same-length
     (λ c. search needs)  -- same-length-2
+    (λ c. search needs)  -- same-length-3
     (λ c.
-    let t = c .before .before .before .before .before in
+    let t = c .before .before .before .before .before .before .before in
     (rw (← (t .complete .ensures .0)) (c .of-complete .ensures), t .complete .ensures .1)))  -- returns

@@ -1,4 +1,5 @@
 -- `capi::replica_complete_shuffled` meets its contract.
+-- Assumes nothing.
 use borrow.Author.Needs.{needs}
 use Rattle.capi.proofs.replica_complete_shuffled.Statement.{statement}
 use Rattle.capi.proofs.replica_complete_shuffled.Tie as tie
@@ -10,6 +11,7 @@ replica-complete-shuffled-spec =
     (λ c κs. tt)  -- of-shuffle-requires
     (λ c. search needs)  -- same-length
     (λ c. search needs)  -- same-length-2
+    (λ c. search needs)  -- same-length-3
     (λ c.
-    let t = c .before .before .before .before .before in
+    let t = c .before .before .before .before .before .before .before in
     (rw (← (t .complete-shuffled .ensures .0)) (c .of-shuffle .ensures), t .complete-shuffled .ensures .1)))  -- returns

@@ -1,4 +1,5 @@
 -- `capi::replica_remove_edge` meets its contract.
+-- Assumes nothing.
 use borrow.Author.Needs.{needs}
 use Rattle.capi.proofs.replica_remove_edge.Statement.{statement}
 use Rattle.capi.proofs.replica_remove_edge.Tie as tie
@@ -9,6 +10,7 @@ replica-remove-edge-spec =
     (λ c κs. tt)  -- remove-edge-requires
     (λ c κs. tt)  -- of-remove-requires
     (λ c. search needs)  -- same-length
+    (λ c. search needs)  -- same-length-2
     (λ c.
-    let t = c .before .before .before in
+    let t = c .before .before .before .before .before in
     (rw (← (t .remove-edge .ensures .0)) (c .of-remove .ensures), t .remove-edge .ensures .1)))  -- returns

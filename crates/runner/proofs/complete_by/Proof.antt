@@ -4,8 +4,8 @@ use mathlib.Core.Path.{ap, _∙_}
 use Prim.Native.Nat.{ℕ}
 use borrow.Author.Needs.{needs}
 use lib.ListN.{length}
-use Rattle.state.specs.State.{stateOf}
 use Rattle.answer.specs.declared.Choice.the-variants.{Lowest}
+use Rattle.loan.specs.Loan.{loanOf}
 use Rattle.completion.specs.Complete.{ranAnswer, ranAfter}
 use Rattle.shuffled_completion.specs.Outcome.{choiceAnswer, choiceAfter}
 use Rattle.shuffled_completion.specs.Shuffle.{shuffled}
@@ -22,25 +22,27 @@ complete-by-spec =
     (λ c κs. tt)  -- without-x-requires
     (λ c. search needs)  -- same-length
     (λ c. search needs)  -- same-length-2
-    (λ c.
-    let p = c .before .before .before .before in
-    let k = p .before .before .before in
-    let s = k .before .before .before .before .before in
-    let st = stateOf (s .args .journal .now) (s .args .adjacency .now) in
-    rw (k .enum-told .given .1) (
-      p .complete .ensures .0 ∙ ap (choiceAnswer Lowest st) (s .pre),
-      p .complete .ensures .1 .0 ∙ ap (λ (m : ℕ). choiceAfter Lowest st m .adjacency) (s .pre),
-    ))  -- returns
     (λ c. search needs)  -- same-length-3
-    (λ c. search needs)  -- same-length-4
     (λ c.
-    let p = c .before .before .before .before .before in
+    let p = c .before .before .before .before .before .before in
     let k = p .before .before .before .before in
-    let s = k .before .before .before .before .before in
-    let st = stateOf (s .args .journal .now) (s .args .adjacency .now) in
-    let r = shuffled st (k .choice .given .0 .0) in
+    let s = k .before .before .before .before .before .before in
+    let b = loanOf (s .args .journal .now) (s .args .adjacency .now) (s .args .log .now) in
+    rw (k .enum-told .given .1) (
+      p .complete .ensures .0 ∙ ap (choiceAnswer Lowest b) (s .pre),
+      p .complete .ensures .1 .0 ∙ ap (λ (m : ℕ). choiceAfter Lowest b m .state .adjacency) (s .pre),
+    ))  -- returns
+    (λ c. search needs)  -- same-length-4
+    (λ c. search needs)  -- same-length-5
+    (λ c. search needs)  -- same-length-6
+    (λ c.
+    let p = c .before .before .before .before .before .before .before in
+    let k = p .before .before .before .before .before in
+    let s = k .before .before .before .before .before .before in
+    let b = loanOf (s .args .journal .now) (s .args .adjacency .now) (s .args .log .now) in
+    let r = shuffled (b .state) (k .choice .given .0 .0) in
     rw (k .choice .given .1) (
-      c .without-x .ensures (r .x) (ranAnswer (r .ran) st (length (s .args .records .now))) (p .complete-shuffled .ensures .0)
-          ∙ ap (ranAnswer (r .ran) st) (s .pre),
-      p .complete-shuffled .ensures .1 .0 ∙ ap (λ (m : ℕ). ranAfter (r .ran) st m .adjacency) (s .pre),
+      c .without-x .ensures (r .x) (ranAnswer (r .ran) b (length (s .args .records .now))) (p .complete-shuffled .ensures .0)
+          ∙ ap (ranAnswer (r .ran) b) (s .pre),
+      p .complete-shuffled .ensures .1 .0 ∙ ap (λ (m : ℕ). ranAfter (r .ran) b m .state .adjacency) (s .pre),
     )))  -- returns-2

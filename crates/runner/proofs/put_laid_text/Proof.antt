@@ -12,14 +12,15 @@ pub put-laid-text-spec : {M : Type 1} → statement M
 put-laid-text-spec =
     tie.close (tie.spec
     (λ c. search needs)  -- slice-aggregate-complete-by
+    (λ c. search needs)  -- slice-aggregate-complete-by-2
     (λ c κs. rw length-replicate)  -- complete-by-requires
     (λ c. search needs)  -- enum-known-answer
     (λ c κs. omega arith)  -- put-refused-requires
     (λ c. search needs)  -- enum-known-answer-2
     (λ c κs.
     let k = c .before .before .before in
-    let l = k .before .before .before .before .before in
-    let s = l .before .before .before .before .before .before in
+    let l = k .before .before .before .before .before .before in
+    let s = l .before .before .before .before .before .before .before in
     let a = s .args in
     let e = l .complete-by .ensures in
     let f = completed-laid (a .form) (a .choice) (stateOf (a .journal .now) (a .adjacency .now)) (a .n) _ _ (e .0) (e .1)
@@ -30,8 +31,8 @@ put-laid-text-spec =
     (λ c.
     let p = c .before .before in
     let k = p .before .before .before in
-    let l = k .before .before .before .before .before in
-    let a = l .before .before .before .before .before .before .args in
+    let l = k .before .before .before .before .before .before in
+    let a = l .before .before .before .before .before .before .before .args in
     let e = l .complete-by .ensures in
     says-line _ _ (a .output .now) _ _
     (said-refused (a .form) (a .choice) (stateOf (a .journal .now) (a .adjacency .now)) (a .n) _ _ (e .0) (e .1) _ (k .answer .given .1))
@@ -41,8 +42,8 @@ put-laid-text-spec =
     (λ c.
     let p = c .before .before in
     let k = p .before .before .before .before in
-    let l = k .before .before .before .before .before in
-    let a = l .before .before .before .before .before .before .args in
+    let l = k .before .before .before .before .before .before in
+    let a = l .before .before .before .before .before .before .before .args in
     let e = l .complete-by .ensures in
     says _ _ (a .output .now) _ _
     (said-completed (a .form) (a .choice) (stateOf (a .journal .now) (a .adjacency .now)) (a .n) _ _ (e .0) (e .1)
