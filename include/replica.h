@@ -22,13 +22,14 @@
  *
  * THE CALLS, IN THEIR USUAL ORDER
  *
- *   1. replica_clear       both buffers to zero
+ *   1. replica_clear       all three buffers to zero
  *   2. replica_take_block  the matrix, block by block, numbered 0, 1, 2, ...
  *   3. replica_lay_out     tests that a graph exists and fixes the vertices
  *   4. replica_add_edge, replica_remove_edge   by hand, as often as you like
  *   5. replica_complete    adds all edges still missing, and writes down which edges moved; or
  *      replica_complete_shuffled, for replicas that differ, each repeatable from its number x
- *   6. replica_edge_list   the graph as a list of edges
+ *   6. replica_swap_edges  rewires two edges, no cell changes; replica_undo_swap takes it back
+ *   7. replica_edge_list   the graph as a list of edges
  *
  * A block that is sent again under its old number is recognised and not added twice. Vertices are
  * numbered from 0 by rising degree: first the isolated ones, then all of degree 1, then all of
@@ -68,6 +69,17 @@
  * order, each removing a-t and adding b-t, and then add v-w. What is removed is there when its turn
  * comes, and what is added is not.
  *
+ * A swap rewires two edges: a-b and c-d become a-d and b-c, where a and c have the same degree. It
+ * changes no cell and no vertex's number of edges. The log holds the swaps that can be taken back:
+ *
+ *   bytes 0, 1     how many there are, a 16-bit count, low byte first, at most REPLICA_MAX_SWAPS
+ *   from byte 2    a swap record of 4 bytes for each, a, b, c, d as they were named, in the order
+ *                  made; zeros behind them
+ *
+ * Played in this order onto the graph of before them, each record removing a-b and c-d and adding
+ * a-d and b-c, they give the graph as it is now. Every call that changes the graph in another way
+ * empties the log: all its bytes are 0 then.
+ *
  * A graph6 text is one graph in McKay's format, in which many programs exchange them. It is bytes
  * from 63 to 126, without a header, a line end or a byte 0 behind it:
  *
@@ -83,11 +95,13 @@
  * MEMORY
  *
  * The library owns no memory, allocates none, and keeps no pointer after a call. You own all buffers
- * and may copy, save and reload them as plain bytes; two states in two pairs of buffers are
- * independent, also in two threads.
+ * and may copy, save and reload them as plain bytes, those of one state together; two states in
+ * buffers of their own are independent, also in two threads.
  *
  *   - journal: REPLICA_JOURNAL_BYTES bytes, the blocks taken and the phase
  *   - adjacency: REPLICA_ADJACENCY_BYTES bytes; byte v * 200 + w is 1 if v and w are joined, else 0
+ *   - log: REPLICA_LOG_BYTES bytes, the swaps that can be taken back. Only the calls that may
+ *     change the graph are given it
  *
  * Every buffer is passed as a pointer and its length in bytes. Pointers must not be NULL, also
  * where the length is 0, and must point to that many readable bytes (writable ones where the
@@ -119,6 +133,12 @@ extern "C" {
 #define REPLICA_JOURNAL_BYTES 4162
 /* Bytes of an adjacency matrix, 200 rows of 200. */
 #define REPLICA_ADJACENCY_BYTES 40000
+/* Bytes of a log. */
+#define REPLICA_LOG_BYTES 4098
+/* Most swaps in a log. */
+#define REPLICA_MAX_SWAPS 1024
+/* Bytes of a swap record. */
+#define REPLICA_SWAP_RECORD_BYTES 4
 /* Most bytes in a block. */
 #define REPLICA_MAX_BLOCK_BYTES 64
 /* Most blocks in a journal. */
@@ -165,10 +185,12 @@ struct ReplicaJoin {
 
 /* Why a call was refused. Places are in `first` and `second`; where none is named, both are 0. */
 enum {
-    /* The journal or the adjacency matrix has another length than the two above. */
+    /* The journal, the adjacency matrix or the log has another length than the three above. */
     REPLICA_REFUSED_WRONG_LENGTH = 1,
-    /* Journal and adjacency matrix are not a valid state: something other than these functions has
-     * written them, or they were never cleared. */
+    /* Journal and adjacency matrix are not a valid state, or the log is not a valid log of theirs:
+     * something other than these functions has written them, or they were never cleared. A log is
+     * valid if its bytes are as described above and its swaps can be undone, last first, each by a
+     * swap that is allowed. Before laying out it is empty. */
     REPLICA_REFUSED_INVALID_STATE = 2,
     /* Not in this phase: laid out already, or not laid out yet. */
     REPLICA_REFUSED_WRONG_PHASE = 3,
@@ -216,17 +238,25 @@ enum {
     REPLICA_REFUSED_GRAPH6_TEXT = 21,
     /* The text begins as that of a graph with more than 200 vertices: with byte 126, and then
      * another 126 or three bytes that make a number above 200. What follows is not looked at. */
-    REPLICA_REFUSED_GRAPH6_SIZE = 22
+    REPLICA_REFUSED_GRAPH6_SIZE = 22,
+    /* The swap is not allowed: a-b or c-d is not an edge, the four vertices are not distinct, a and
+     * c have different degrees, or a-d or b-c is an edge already. */
+    REPLICA_REFUSED_SWAP_NOT_ALLOWED = 23,
+    /* The log holds 1,024 swaps; there is no room for another. */
+    REPLICA_REFUSED_LOG_FULL = 24,
+    /* The log holds no swap to take back. */
+    REPLICA_REFUSED_LOG_EMPTY = 25
 };
 
 /*
- * Sets every byte of both buffers to 0: no blocks, no edges. The only function that does not ask for
- * a valid state, so it is the first to call on fresh memory.
+ * Sets every byte of all three buffers to 0: no blocks, no edges, no swaps. The only function that
+ * does not ask for a valid state, so it is the first to call on fresh memory.
  *
  * Refused: 1.
  */
 struct ReplicaAnswer replica_clear(uint8_t *journal, size_t journal_length,
-                                   uint8_t *adjacency, size_t adjacency_length);
+                                   uint8_t *adjacency, size_t adjacency_length,
+                                   uint8_t *log, size_t log_length);
 
 /*
  * Takes block `number`, before laying out. The next block has the number of blocks held so far.
@@ -284,22 +314,49 @@ struct ReplicaAnswer replica_lay_out(uint8_t *journal, size_t journal_length,
  *   a2, b2, t2  the second switch made, REPLICA_UNUSED in all three if there was none
  *
  * The graph is then that of before with a1-t1 removed and b1-t1 added, a2-t2 removed and b2-t2
- * added, and v-w added, in this order.
+ * added, and v-w added, in this order. The log is emptied.
  *
  * Refused: 1, 2, 3 (not laid out yet), 13, 14, 15, 16.
  */
 struct ReplicaJoin replica_add_edge(const uint8_t *journal, size_t journal_length,
                                     uint8_t *adjacency, size_t adjacency_length,
+                                    uint8_t *log, size_t log_length,
                                     uint64_t v, uint64_t w);
 
 /*
- * Removes the edge between v and w.
+ * Removes the edge between v and w. The log is emptied.
  *
  * Refused: 1, 2, 3 (not laid out yet), 13, 14, 17.
  */
 struct ReplicaAnswer replica_remove_edge(const uint8_t *journal, size_t journal_length,
                                          uint8_t *adjacency, size_t adjacency_length,
+                                         uint8_t *log, size_t log_length,
                                          uint64_t v, uint64_t w);
+
+/*
+ * Swaps two edges: a-b and c-d become a-d and b-c. Both must be there and the two new ones not, the
+ * four vertices must be distinct, and a and c of the same degree, the one laid out for them. So no
+ * cell changes. The state need not be complete. The swap is written into the log, behind those that
+ * are in it; all fields of the answer are 0.
+ *
+ * Refused: 1, 2, 3 (not laid out yet), 13 (any of the four), 23 (two vertices that are the same,
+ * too), 24.
+ */
+struct ReplicaAnswer replica_swap_edges(const uint8_t *journal, size_t journal_length,
+                                        uint8_t *adjacency, size_t adjacency_length,
+                                        uint8_t *log, size_t log_length,
+                                        uint64_t a, uint64_t b, uint64_t c, uint64_t d);
+
+/*
+ * Takes the last swap of the log back: a-d and b-c become a-b and c-d again. Its record is taken
+ * out of the log, so that matrix and log are, byte by byte, as they were before the swap. Which one
+ * it is can be read in the log before the call; all fields of the answer are 0.
+ *
+ * Refused: 1, 2, 3 (not laid out yet), 25.
+ */
+struct ReplicaAnswer replica_undo_swap(const uint8_t *journal, size_t journal_length,
+                                       uint8_t *adjacency, size_t adjacency_length,
+                                       uint8_t *log, size_t log_length);
 
 /*
  * Adds edges until every cell has its count. It never fails on the way: it adds exactly as many
@@ -314,6 +371,8 @@ struct ReplicaAnswer replica_remove_edge(const uint8_t *journal, size_t journal_
  * laid, as replica_figures reports them. On a complete state a length of 0 is enough; the pointer
  * must not be NULL then either.
  *
+ * The log is emptied if an edge was added; on a complete state it is as it was.
+ *
  *   first   edges added
  *   second  switches made for them
  *   third   bytes written, 8 for each edge added
@@ -322,6 +381,7 @@ struct ReplicaAnswer replica_remove_edge(const uint8_t *journal, size_t journal_
  */
 struct ReplicaAnswer replica_complete(const uint8_t *journal, size_t journal_length,
                                       uint8_t *adjacency, size_t adjacency_length,
+                                      uint8_t *log, size_t log_length,
                                       uint8_t *output, size_t output_length);
 
 /*
@@ -335,8 +395,9 @@ struct ReplicaAnswer replica_complete(const uint8_t *journal, size_t journal_len
  * then w, counted from 0, the one at position (x / 65536) mod m, both of whole numbers, is joined:
  * v to w, exactly as replica_add_edge does it.
  *
- * It adds as many edges as replica_complete would, needs as much output, and writes its join records
- * in the same way. On a complete state it does nothing, and x is returned as it came.
+ * It adds as many edges as replica_complete would, needs as much output, writes its join records in
+ * the same way, and empties the log if it adds an edge. On a complete state it does nothing, and x
+ * is returned as it came.
  *
  *   first   edges added
  *   second  switches made for them
@@ -347,6 +408,7 @@ struct ReplicaAnswer replica_complete(const uint8_t *journal, size_t journal_len
  */
 struct ReplicaAnswer replica_complete_shuffled(const uint8_t *journal, size_t journal_length,
                                                uint8_t *adjacency, size_t adjacency_length,
+                                               uint8_t *log, size_t log_length,
                                                uint32_t x,
                                                uint8_t *output, size_t output_length);
 

@@ -1,8 +1,9 @@
 /*
  * Lays out six vertices of degree 2 and one isolated vertex, adds three edges by hand and completes
  * the rest. A copy of the graph, as a patch frame would keep one, follows by what each join says has
- * moved. Prints what moved and the edges, and counts the table of the graph it got. Then it makes two
- * more replicas of the table, which differ. Last, another graph goes out as graph6 and comes back.
+ * moved. Prints what moved and the edges, and counts the table of the graph it got. Then it rewires
+ * the graph by two swaps, which keep the table, and takes them back. It makes two more replicas of
+ * the table, which differ. Last, another graph goes out as graph6 and comes back.
  */
 #include <inttypes.h>
 #include <stdio.h>
@@ -13,6 +14,7 @@
 
 static uint8_t journal[REPLICA_JOURNAL_BYTES];
 static uint8_t adjacency[REPLICA_ADJACENCY_BYTES];
+static uint8_t swaps[REPLICA_LOG_BYTES];
 static uint8_t copy[REPLICA_ADJACENCY_BYTES];
 static uint8_t joins[REPLICA_MAX_JOIN_RECORDS_BYTES];
 static uint8_t edges[REPLICA_MAX_EDGE_LIST_BYTES];
@@ -64,7 +66,8 @@ static void play(const uint8_t *join)
 static void add(uint8_t v, uint8_t w)
 {
     struct ReplicaJoin join = replica_add_edge(journal, sizeof journal,
-                                               adjacency, sizeof adjacency, v, w);
+                                               adjacency, sizeof adjacency,
+                                               swaps, sizeof swaps, v, w);
     uint8_t record[REPLICA_JOIN_RECORD_BYTES] = {
         v, w, (uint8_t)join.a1, (uint8_t)join.b1, (uint8_t)join.t1,
         (uint8_t)join.a2, (uint8_t)join.b2, (uint8_t)join.t2,
@@ -84,12 +87,47 @@ static void take(uint64_t number, size_t length)
 /* Takes the table and fixes the vertices. Returns their number. */
 static uint64_t lay_out(void)
 {
-    done("clear", replica_clear(journal, sizeof journal, adjacency, sizeof adjacency));
+    done("clear", replica_clear(journal, sizeof journal, adjacency, sizeof adjacency,
+                                swaps, sizeof swaps));
     take(0, sizeof block);
     take(0, sizeof block); /* sent again after a time-out: held, and not added twice */
     take(1, 0); /* nothing to report: a block too; its pointer is not read, but is not NULL */
     return done("lay_out", replica_lay_out(journal, sizeof journal,
                                            adjacency, sizeof adjacency)).first;
+}
+
+/* Prints the edges of the graph as it is, in one line. */
+static void print_edges(void)
+{
+    struct ReplicaAnswer list =
+        done("edge_list", replica_edge_list(journal, sizeof journal, adjacency, sizeof adjacency,
+                                            edges, sizeof edges));
+
+    for (uint64_t i = 0; i < list.first; i += 2)
+        printf(" %d-%d", edges[i], edges[i + 1]);
+    printf("\n");
+}
+
+/* Edges a-b and c-d become a-d and b-c. */
+static void swap(uint64_t a, uint64_t b, uint64_t c, uint64_t d)
+{
+    done("swap_edges", replica_swap_edges(journal, sizeof journal, adjacency, sizeof adjacency,
+                                          swaps, sizeof swaps, a, b, c, d));
+}
+
+/* Rewires the graph by two swaps, and takes those in the log back, the last one first. */
+static void rewire(void)
+{
+    swap(1, 3, 5, 6);
+    swap(4, 1, 2, 3);
+    printf("rewired:");
+    print_edges();
+    for (int left = swaps[0] + 256 * swaps[1]; left > 0; left--) {
+        const uint8_t *last = swaps + 2 + (left - 1) * REPLICA_SWAP_RECORD_BYTES;
+        printf("%d-%d and %d-%d are back\n", last[0], last[1], last[2], last[3]);
+        done("undo_swap", replica_undo_swap(journal, sizeof journal, adjacency, sizeof adjacency,
+                                            swaps, sizeof swaps));
+    }
 }
 
 /*
@@ -98,18 +136,16 @@ static uint64_t lay_out(void)
  */
 static uint32_t another(uint32_t x)
 {
-    struct ReplicaAnswer completed, list;
+    struct ReplicaAnswer completed;
 
-    memset(adjacency, 0, sizeof adjacency); /* no edges: the state is as it was when laid out */
+    /* No edges and no swaps: the state is as it was when laid out. */
+    memset(adjacency, 0, sizeof adjacency);
+    memset(swaps, 0, sizeof swaps);
     completed = done("complete_shuffled",
                      replica_complete_shuffled(journal, sizeof journal, adjacency, sizeof adjacency,
-                                               x, joins, sizeof joins));
-    list = done("edge_list", replica_edge_list(journal, sizeof journal, adjacency, sizeof adjacency,
-                                               edges, sizeof edges));
+                                               swaps, sizeof swaps, x, joins, sizeof joins));
     printf("from %" PRIu32 ":", x);
-    for (uint64_t i = 0; i < list.first; i += 2)
-        printf(" %d-%d", edges[i], edges[i + 1]);
-    printf("\n");
+    print_edges();
     return (uint32_t)completed.fourth;
 }
 
@@ -136,7 +172,7 @@ int main(void)
     add(1, 4); /* vertex 1 has its two edges already and gives one of them away */
     completed = done("complete", replica_complete(journal, sizeof journal,
                                                   adjacency, sizeof adjacency,
-                                                  joins, sizeof joins));
+                                                  swaps, sizeof swaps, joins, sizeof joins));
     for (uint64_t i = 0; i < completed.third; i += REPLICA_JOIN_RECORD_BYTES)
         play(joins + i);
     if (memcmp(copy, adjacency, sizeof copy) != 0) {
@@ -154,6 +190,11 @@ int main(void)
                                                        records, sizeof records));
     if (survey.first != sizeof block || memcmp(records, block, sizeof block) != 0) {
         fprintf(stderr, "the graph has another table\n");
+        return 1;
+    }
+    rewire();
+    if (memcmp(copy, adjacency, sizeof copy) != 0) {
+        fprintf(stderr, "taken back, other edges\n");
         return 1;
     }
     another(another(0)); /* the next replica's number is the last one of this */

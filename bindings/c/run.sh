@@ -47,6 +47,9 @@ cat >expected <<END
 2 6
 4 5
 5 6
+rewired: 1-2 1-6 2-6 3-4 3-5 4-5
+4-1 and 2-3 are back
+1-3 and 5-6 are back
 from 0: 1-2 1-6 2-6 3-4 3-5 4-5
 from 2670642822: 1-2 1-6 2-4 3-5 3-6 4-5
 CN has 4 vertices

@@ -16,14 +16,18 @@ enum { MAX_DEGREE = 40, MAX_EDGES = 4000, RECORD_BYTES = 4, SPARE = 8, GUARD = 0
 /* The state, and bytes behind each buffer for a length that is too long. */
 static uint8_t journal[REPLICA_JOURNAL_BYTES + SPARE];
 static uint8_t adjacency[REPLICA_ADJACENCY_BYTES + SPARE];
+static uint8_t swaps[REPLICA_LOG_BYTES + SPARE];
 /* The state before a call: a refused one leaves it so. */
 static uint8_t journal_before[sizeof journal];
 static uint8_t adjacency_before[sizeof adjacency];
+static uint8_t swaps_before[sizeof swaps];
 /* Longer than any output. All of it is GUARD before a call. */
 static uint8_t output[1 << 16];
 
 /* What every call on a state is lent. */
 #define STATE journal, REPLICA_JOURNAL_BYTES, adjacency, REPLICA_ADJACENCY_BYTES
+/* What those that may change the graph are lent besides. */
+#define LOG swaps, REPLICA_LOG_BYTES
 /* first to fifth of an answer; those not named are 0. */
 #define NUMBERS(...) ((const uint64_t[5]){__VA_ARGS__})
 /* first, second and the two switches of a join that was done. */
@@ -76,6 +80,7 @@ static void keep(void)
 {
     memcpy(journal_before, journal, sizeof journal);
     memcpy(adjacency_before, adjacency, sizeof adjacency);
+    memcpy(swaps_before, swaps, sizeof swaps);
 }
 
 /* All output bytes from here on are as they were. */
@@ -92,6 +97,8 @@ static void unchanged(const char *call)
         fail(call, "changed the journal");
     if (memcmp(adjacency, adjacency_before, sizeof adjacency) != 0)
         fail(call, "changed the adjacency matrix");
+    if (memcmp(swaps, swaps_before, sizeof swaps) != 0)
+        fail(call, "changed the log");
     untouched(call, 0);
 }
 
@@ -151,7 +158,7 @@ static void wrote(const char *call, const uint8_t *bytes, size_t length)
 
 static void clear(void)
 {
-    done("clear", replica_clear(STATE), NUMBERS(0));
+    done("clear", replica_clear(STATE, LOG), NUMBERS(0));
 }
 
 static void take(uint64_t number, const uint8_t *block, size_t length)
@@ -175,46 +182,69 @@ static void put_record(uint8_t *to, int k, int l, int count)
     to[3] = (uint8_t)(count / 256);
 }
 
-/* Every call that asks for a valid state, refused whatever the phase. */
-static void all_refused(uint64_t number, size_t j, size_t a)
+/* Every call that is not lent the log and asks for a valid state, refused whatever the phase. */
+static void state_refused(uint64_t number, size_t j, size_t a)
 {
     refused("take_block", replica_take_block(journal, j, adjacency, a, 0, output, 0), number, 0, 0);
     refused("held_block", replica_held_block(journal, j, adjacency, a, 0), number, 0, 0);
     refused("lay_out", replica_lay_out(journal, j, adjacency, a), number, 0, 0);
-    join_refused("add_edge", replica_add_edge(journal, j, adjacency, a, 1, 2), number, 0, 0);
-    refused("remove_edge", replica_remove_edge(journal, j, adjacency, a, 1, 2), number, 0, 0);
-    refused("complete", replica_complete(journal, j, adjacency, a, output, sizeof output),
-            number, 0, 0);
-    refused("complete_shuffled",
-            replica_complete_shuffled(journal, j, adjacency, a, 5, output, sizeof output),
-            number, 0, 0);
     refused("edge_list", replica_edge_list(journal, j, adjacency, a, output, sizeof output),
             number, 0, 0);
     refused("figures", replica_figures(journal, j, adjacency, a), number, 0, 0);
 }
 
-/* Journal and adjacency matrix are neither a byte shorter nor a byte longer, nor exchanged. */
+/* Every call that is lent the log and asks for a valid one. */
+static void log_refused(uint64_t number, size_t j, size_t a, size_t l)
+{
+    join_refused("add_edge", replica_add_edge(journal, j, adjacency, a, swaps, l, 1, 2),
+                 number, 0, 0);
+    refused("remove_edge", replica_remove_edge(journal, j, adjacency, a, swaps, l, 1, 2),
+            number, 0, 0);
+    refused("swap_edges", replica_swap_edges(journal, j, adjacency, a, swaps, l, 1, 2, 3, 4),
+            number, 0, 0);
+    refused("undo_swap", replica_undo_swap(journal, j, adjacency, a, swaps, l), number, 0, 0);
+    refused("complete",
+            replica_complete(journal, j, adjacency, a, swaps, l, output, sizeof output),
+            number, 0, 0);
+    refused("complete_shuffled",
+            replica_complete_shuffled(journal, j, adjacency, a, swaps, l, 5, output, sizeof output),
+            number, 0, 0);
+}
+
+/* Ends the test unless a buffer is 0 up to its length, and GUARD behind it. */
+static void cleared(const uint8_t *bytes, size_t size, const char *what)
+{
+    for (size_t i = 0; i < size; i++)
+        if (bytes[i] != (i < size - SPARE ? 0 : GUARD))
+            fail("clear", what);
+}
+
+/* Journal, adjacency matrix and log are neither a byte shorter nor a byte longer. */
 static void lengths(void)
 {
-    const size_t j = REPLICA_JOURNAL_BYTES, a = REPLICA_ADJACENCY_BYTES;
-    const size_t wrong[][2] = {{j - 1, a}, {j + 1, a}, {j, a - 1}, {j, a + 1}};
+    const size_t j = REPLICA_JOURNAL_BYTES, a = REPLICA_ADJACENCY_BYTES, l = REPLICA_LOG_BYTES;
+    const size_t wrong[][3] = {
+        {j - 1, a, l}, {j + 1, a, l}, {j, a - 1, l}, {j, a + 1, l}, {j, a, l - 1}, {j, a, l + 1},
+    };
 
     memset(journal, GUARD, sizeof journal);
     memset(adjacency, GUARD, sizeof adjacency);
+    memset(swaps, GUARD, sizeof swaps);
     keep();
     for (size_t i = 0; i < sizeof wrong / sizeof *wrong; i++) {
-        refused("clear", replica_clear(journal, wrong[i][0], adjacency, wrong[i][1]),
+        const size_t *w = wrong[i];
+        refused("clear", replica_clear(journal, w[0], adjacency, w[1], swaps, w[2]),
                 REPLICA_REFUSED_WRONG_LENGTH, 0, 0);
-        all_refused(REPLICA_REFUSED_WRONG_LENGTH, wrong[i][0], wrong[i][1]);
+        log_refused(REPLICA_REFUSED_WRONG_LENGTH, w[0], w[1], w[2]);
+        if (w[2] == l)
+            state_refused(REPLICA_REFUSED_WRONG_LENGTH, w[0], w[1]);
     }
-    all_refused(REPLICA_REFUSED_INVALID_STATE, j, a);
+    state_refused(REPLICA_REFUSED_INVALID_STATE, j, a);
+    log_refused(REPLICA_REFUSED_INVALID_STATE, j, a, l);
     clear();
-    for (size_t i = 0; i < sizeof journal; i++)
-        if (journal[i] != (i < j ? 0 : GUARD))
-            fail("clear", "left another journal");
-    for (size_t i = 0; i < sizeof adjacency; i++)
-        if (adjacency[i] != (i < a ? 0 : GUARD))
-            fail("clear", "left another adjacency matrix");
+    cleared(journal, sizeof journal, "left another journal");
+    cleared(adjacency, sizeof adjacency, "left another adjacency matrix");
+    cleared(swaps, sizeof swaps, "left another log");
     done("figures", replica_figures(STATE), NUMBERS(0));
 }
 
@@ -289,11 +319,13 @@ static void phases(void)
 
     clear();
     take(0, block, sizeof block);
-    join_refused("add_edge", replica_add_edge(STATE, 0, 1), wrong, 0, 0);
-    refused("remove_edge", replica_remove_edge(STATE, 0, 1), wrong, 0, 0);
-    refused("complete", replica_complete(STATE, output, sizeof output), wrong, 0, 0);
-    refused("complete_shuffled", replica_complete_shuffled(STATE, 5, output, sizeof output),
+    join_refused("add_edge", replica_add_edge(STATE, LOG, 0, 1), wrong, 0, 0);
+    refused("remove_edge", replica_remove_edge(STATE, LOG, 0, 1), wrong, 0, 0);
+    refused("complete", replica_complete(STATE, LOG, output, sizeof output), wrong, 0, 0);
+    refused("complete_shuffled", replica_complete_shuffled(STATE, LOG, 5, output, sizeof output),
             wrong, 0, 0);
+    refused("swap_edges", replica_swap_edges(STATE, LOG, 0, 1, 2, 3), wrong, 0, 0);
+    refused("undo_swap", replica_undo_swap(STATE, LOG), wrong, 0, 0);
     refused("edge_list", replica_edge_list(STATE, output, sizeof output), wrong, 0, 0);
     done("lay_out", replica_lay_out(STATE), NUMBERS(2));
     refused("lay_out", replica_lay_out(STATE), wrong, 0, 0);
@@ -304,23 +336,39 @@ static void phases(void)
 /* A small table: vertex 0 is isolated, 1 has degree 1, 2 and 3 have degree 2, 4 has degree 3. */
 static const uint8_t small[] = {0, 0, 1, 0, 1, 3, 1, 0, 2, 2, 2, 0, 2, 3, 2, 0};
 
+/* Adds an edge that moves no other. */
+static void add(uint64_t v, uint64_t w)
+{
+    join_done("add_edge", replica_add_edge(STATE, LOG, v, w), JOIN(0, 0, NO_SWITCH, NO_SWITCH));
+}
+
+static void add_refused(uint64_t v, uint64_t w, uint64_t number, uint64_t first, uint64_t second)
+{
+    join_refused("add_edge", replica_add_edge(STATE, LOG, v, w), number, first, second);
+}
+
+static void remove_refused(uint64_t v, uint64_t w, uint64_t number)
+{
+    refused("remove_edge", replica_remove_edge(STATE, LOG, v, w), number, 0, 0);
+}
+
 /* Edges added and removed one by one, and all reasons to refuse one. */
 static void edges_by_hand(void)
 {
     done("lay_out", lay_out(small, sizeof small), NUMBERS(5));
-    join_done("add_edge", replica_add_edge(STATE, 1, 4), JOIN(0, 0, NO_SWITCH, NO_SWITCH));
+    add(1, 4);
     if (adjacency[1 * REPLICA_MAX_VERTICES + 4] != 1
         || adjacency[4 * REPLICA_MAX_VERTICES + 1] != 1)
         fail("add_edge", "set other bytes");
-    join_refused("add_edge", replica_add_edge(STATE, 0, 5), REPLICA_REFUSED_NO_SUCH_VERTEX, 0, 0);
-    join_refused("add_edge", replica_add_edge(STATE, 2, 2), REPLICA_REFUSED_SAME_VERTEX, 0, 0);
-    join_refused("add_edge", replica_add_edge(STATE, 4, 1), REPLICA_REFUSED_EDGE_PRESENT, 0, 0);
-    join_refused("add_edge", replica_add_edge(STATE, 2, 1), REPLICA_REFUSED_CELL_NOT_SHORT, 1, 2);
-    join_refused("add_edge", replica_add_edge(STATE, 0, 4), REPLICA_REFUSED_CELL_NOT_SHORT, 0, 3);
-    refused("remove_edge", replica_remove_edge(STATE, 5, 0), REPLICA_REFUSED_NO_SUCH_VERTEX, 0, 0);
-    refused("remove_edge", replica_remove_edge(STATE, 2, 2), REPLICA_REFUSED_SAME_VERTEX, 0, 0);
-    refused("remove_edge", replica_remove_edge(STATE, 2, 3), REPLICA_REFUSED_EDGE_ABSENT, 0, 0);
-    done("remove_edge", replica_remove_edge(STATE, 4, 1), NUMBERS(0));
+    add_refused(0, 5, REPLICA_REFUSED_NO_SUCH_VERTEX, 0, 0);
+    add_refused(2, 2, REPLICA_REFUSED_SAME_VERTEX, 0, 0);
+    add_refused(4, 1, REPLICA_REFUSED_EDGE_PRESENT, 0, 0);
+    add_refused(2, 1, REPLICA_REFUSED_CELL_NOT_SHORT, 1, 2);
+    add_refused(0, 4, REPLICA_REFUSED_CELL_NOT_SHORT, 0, 3);
+    remove_refused(5, 0, REPLICA_REFUSED_NO_SUCH_VERTEX);
+    remove_refused(2, 2, REPLICA_REFUSED_SAME_VERTEX);
+    remove_refused(2, 3, REPLICA_REFUSED_EDGE_ABSENT);
+    done("remove_edge", replica_remove_edge(STATE, LOG, 4, 1), NUMBERS(0));
 }
 
 /* The only graph of the small table, on the state of edges_by_hand: no edge has to move. */
@@ -332,7 +380,7 @@ static void only_graph(void)
     memset(records, REPLICA_UNUSED, sizeof records);
     for (size_t i = 0; i < sizeof edges; i++)
         records[i / 2 * REPLICA_JOIN_RECORD_BYTES + i % 2] = edges[i];
-    done("complete", replica_complete(STATE, output, sizeof output),
+    done("complete", replica_complete(STATE, LOG, output, sizeof output),
          NUMBERS(4, 0, sizeof records));
     wrote("complete", records, sizeof records);
     done("edge_list", replica_edge_list(STATE, output, sizeof output), NUMBERS(sizeof edges));
@@ -356,10 +404,9 @@ static void switches_by_hand(void)
     take(1, block, 0);
     done("lay_out", replica_lay_out(STATE), NUMBERS(9));
     for (size_t i = 0; i < sizeof hand; i += 2)
-        join_done("add_edge", replica_add_edge(STATE, hand[i], hand[i + 1]),
-                  JOIN(0, 0, NO_SWITCH, NO_SWITCH));
+        add(hand[i], hand[i + 1]);
     done("figures", replica_figures(STATE), NUMBERS(1, 2, 9, 8, 7));
-    join_done("add_edge", replica_add_edge(STATE, 1, 2), JOIN(2, 0, 1, 7, 3, 2, 8, 5));
+    join_done("add_edge", replica_add_edge(STATE, LOG, 1, 2), JOIN(2, 0, 1, 7, 3, 2, 8, 5));
     done("figures", replica_figures(STATE), NUMBERS(1, 2, 9, 8, 8));
 }
 
@@ -368,13 +415,84 @@ static void one_join_record(void)
 {
     static const uint8_t record[] = {1, 3, 1, 5, 2, 3, 8, 4};
 
-    done("complete", replica_complete(STATE, output, 0), NUMBERS(0));
-    done("remove_edge", replica_remove_edge(STATE, 5, 8), NUMBERS(0));
-    refused("complete", replica_complete(STATE, output, REPLICA_JOIN_RECORD_BYTES - 1),
+    done("complete", replica_complete(STATE, LOG, output, 0), NUMBERS(0));
+    done("remove_edge", replica_remove_edge(STATE, LOG, 5, 8), NUMBERS(0));
+    refused("complete", replica_complete(STATE, LOG, output, REPLICA_JOIN_RECORD_BYTES - 1),
             REPLICA_REFUSED_OUTPUT_TOO_SHORT, 0, 0);
-    done("complete", replica_complete(STATE, output, REPLICA_JOIN_RECORD_BYTES),
+    done("complete", replica_complete(STATE, LOG, output, REPLICA_JOIN_RECORD_BYTES),
          NUMBERS(1, 2, REPLICA_JOIN_RECORD_BYTES));
     wrote("complete", record, sizeof record);
+}
+
+/* Ends the test unless the log has so many swaps and this last one, and zeros behind it. */
+static void logged(const char *call, size_t count, const uint8_t *last)
+{
+    size_t end = 2 + count * REPLICA_SWAP_RECORD_BYTES;
+
+    if (swaps[0] + 256u * swaps[1] != count)
+        fail(call, "left another number of swaps");
+    if (count > 0 && memcmp(swaps + end - REPLICA_SWAP_RECORD_BYTES, last,
+                            REPLICA_SWAP_RECORD_BYTES) != 0)
+        fail(call, "left another swap in the log");
+    for (size_t i = end; i < REPLICA_LOG_BYTES; i++)
+        if (swaps[i] != 0)
+            fail(call, "left a byte behind the swaps");
+}
+
+static void swap_refused(uint64_t a, uint64_t b, uint64_t c, uint64_t d, uint64_t number)
+{
+    refused("swap_edges", replica_swap_edges(STATE, LOG, a, b, c, d), number, 0, 0);
+}
+
+/*
+ * Edges 1-2 and 3-4 of degree 1 behind an isolated vertex: the most swaps, there and back, and all
+ * reasons to refuse one.
+ */
+static void most_swaps(void)
+{
+    static const uint8_t block[] = {0, 0, 1, 0, 1, 1, 4, 0};
+    static const uint8_t there[] = {1, 2, 3, 4}, back[] = {1, 4, 3, 2};
+    static uint8_t first[sizeof adjacency];
+
+    done("lay_out", lay_out(block, sizeof block), NUMBERS(5));
+    add(1, 2);
+    add(3, 4);
+    memcpy(first, adjacency, sizeof adjacency);
+    refused("undo_swap", replica_undo_swap(STATE, LOG), REPLICA_REFUSED_LOG_EMPTY, 0, 0);
+    swap_refused(1, 2, 3, 5, REPLICA_REFUSED_NO_SUCH_VERTEX);
+    swap_refused(1, 3, 2, 4, REPLICA_REFUSED_SWAP_NOT_ALLOWED);
+    swap_refused(1, 2, 1, 2, REPLICA_REFUSED_SWAP_NOT_ALLOWED);
+    for (size_t i = 0; i < REPLICA_MAX_SWAPS; i++) {
+        const uint8_t *s = i % 2 == 0 ? there : back;
+        done("swap_edges", replica_swap_edges(STATE, LOG, s[0], s[1], s[2], s[3]), NUMBERS(0));
+        logged("swap_edges", i + 1, s);
+    }
+    swap_refused(1, 2, 3, 4, REPLICA_REFUSED_LOG_FULL);
+    done("complete", replica_complete(STATE, LOG, output, 0), NUMBERS(0));
+    for (size_t i = REPLICA_MAX_SWAPS; i > 0; i--) {
+        logged("undo_swap", i, i % 2 == 0 ? back : there);
+        done("undo_swap", replica_undo_swap(STATE, LOG), NUMBERS(0));
+    }
+    logged("undo_swap", 0, there);
+    if (memcmp(adjacency, first, sizeof adjacency) != 0)
+        fail("undo_swap", "left other edges");
+}
+
+/* A swap moves the edges it names, and a log that cannot be undone is refused by every call. */
+static void one_swap(void)
+{
+    static const uint8_t edges[] = {1, 4, 2, 3};
+
+    done("swap_edges", replica_swap_edges(STATE, LOG, 1, 2, 3, 4), NUMBERS(0));
+    done("edge_list", replica_edge_list(STATE, output, sizeof output), NUMBERS(sizeof edges));
+    wrote("edge_list", edges, sizeof edges);
+    swaps[3] = 3;
+    keep();
+    log_refused(REPLICA_REFUSED_INVALID_STATE, REPLICA_JOURNAL_BYTES, REPLICA_ADJACENCY_BYTES,
+                REPLICA_LOG_BYTES);
+    swaps[3] = 2;
+    done("remove_edge", replica_remove_edge(STATE, LOG, 4, 1), NUMBERS(0));
+    logged("remove_edge", 0, edges);
 }
 
 /* The switches that join records tell of. */
@@ -397,9 +515,9 @@ static void most_edges(void)
 
     put_record(block, MAX_DEGREE, MAX_DEGREE, 2 * MAX_EDGES);
     done("lay_out", lay_out(block, sizeof block), NUMBERS(REPLICA_MAX_VERTICES));
-    refused("complete", replica_complete(STATE, output, REPLICA_MAX_JOIN_RECORDS_BYTES - 1),
+    refused("complete", replica_complete(STATE, LOG, output, REPLICA_MAX_JOIN_RECORDS_BYTES - 1),
             REPLICA_REFUSED_OUTPUT_TOO_SHORT, 0, 0);
-    completed = replica_complete(STATE, output, REPLICA_MAX_JOIN_RECORDS_BYTES);
+    completed = replica_complete(STATE, LOG, output, REPLICA_MAX_JOIN_RECORDS_BYTES);
     collect("complete", records, sizeof records);
     done("complete", completed, NUMBERS(MAX_EDGES, switches_in(records, sizeof records),
                                         REPLICA_MAX_JOIN_RECORDS_BYTES));
@@ -423,9 +541,9 @@ static void most_edges_shuffled(void)
     memset(adjacency, 0, REPLICA_ADJACENCY_BYTES);
     keep();
     refused("complete_shuffled",
-            replica_complete_shuffled(STATE, x, output, REPLICA_MAX_JOIN_RECORDS_BYTES - 1),
+            replica_complete_shuffled(STATE, LOG, x, output, REPLICA_MAX_JOIN_RECORDS_BYTES - 1),
             REPLICA_REFUSED_OUTPUT_TOO_SHORT, 0, 0);
-    completed = replica_complete_shuffled(STATE, x, output, REPLICA_MAX_JOIN_RECORDS_BYTES);
+    completed = replica_complete_shuffled(STATE, LOG, x, output, REPLICA_MAX_JOIN_RECORDS_BYTES);
     for (int i = 0; i < MAX_EDGES; i++)
         x = x * UINT32_C(1664525) + UINT32_C(1013904223);
     collect("complete_shuffled", records, sizeof records);
@@ -485,7 +603,7 @@ static void most_records(void)
         taken += part;
     }
     done("lay_out", replica_lay_out(STATE), NUMBERS(REPLICA_MAX_VERTICES));
-    replica_complete(STATE, output, sizeof output);
+    replica_complete(STATE, LOG, output, sizeof output);
     memset(output, GUARD, sizeof output);
     keep();
     list = replica_edge_list(STATE, output, sizeof edges);
@@ -586,6 +704,8 @@ int main(void)
     only_graph();
     switches_by_hand();
     one_join_record();
+    most_swaps();
+    one_swap();
     most_edges();
     most_edges_shuffled();
     most_records();

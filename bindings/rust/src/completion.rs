@@ -73,6 +73,7 @@ impl<'a> Completion<&'a [u8]> {
 impl State {
     /// Adds edges until every cell has its count. From any start it makes exactly as many joins as
     /// edges are missing. Returns how many, the switches made for them, and a record of each join.
+    /// If an edge was added, the swaps made so far cannot be taken back afterwards.
     ///
     /// ```
     /// # use replica::{State, Switch};
@@ -116,7 +117,8 @@ impl State {
         &mut self,
         output: &'a mut [u8],
     ) -> Result<Completion<&'a [u8]>, Refusal> {
-        let answer = raw::complete(&self.journal, &mut self.adjacency, output);
+        let (adjacency, log) = (&mut self.adjacency, &mut self.log);
+        let answer = raw::complete(&self.journal, adjacency, log, output);
         Ok(Completion::of(Refusal::unless_done(answer)?, output))
     }
 
@@ -183,7 +185,8 @@ impl State {
         x: u32,
         output: &'a mut [u8],
     ) -> Result<(Completion<&'a [u8]>, u32), Refusal> {
-        let answer = raw::complete_shuffled(&self.journal, &mut self.adjacency, x, output);
+        let (adjacency, log) = (&mut self.adjacency, &mut self.log);
+        let answer = raw::complete_shuffled(&self.journal, adjacency, log, x, output);
         let answer = Refusal::unless_done(answer)?;
         // A number of 32 bits, as x is.
         Ok((Completion::of(answer, output), answer.fourth as u32))

@@ -6,7 +6,7 @@
 //! are ([`Record::isolated`]). The matrix arrives in numbered blocks of records; the same block sent
 //! again is recognised and not added twice.
 //!
-//! A [`State`] owns the two buffers the library works on. Its methods do their work or return one
+//! A [`State`] owns the three buffers the library works on. Its methods do their work or return one
 //! numbered [`Refusal`] and then leave every byte as it was.
 //!
 //! ```
@@ -35,8 +35,9 @@
 //! edge hands its switches back, and completing gives a record of each join, so that a copy of the
 //! graph can follow by playing them ([`Completion`]).
 //!
-//! Where one graph of the table is not enough, [`State::complete_shuffled`] gives others, each of which
-//! its number gives again.
+//! Where one graph of the table is not enough, [`State::complete_shuffled`] gives others, each of
+//! which its number gives again. [`State::swap_edges`] rewires two edges, every cell and degree as
+//! it was, and [`State::undo_swap`] takes the last swap back.
 //!
 //! Whoever has a graph of the table already, a drawing, brings a laid state to it: [`State::draw`].
 //!
@@ -54,6 +55,7 @@ mod joins;
 pub mod raw;
 mod refusal;
 mod state;
+mod swaps;
 
 pub use completion::Completion;
 pub use drawing::{Drawn, NotDrawn};
@@ -62,11 +64,18 @@ pub use iterators::{block, Cell, Cells, Edges, Record, Records};
 pub use joins::{Join, Joins, Switch, Switches};
 pub use refusal::{Cause, Refusal};
 pub use state::{jdm_of_edges, Figures, Phase, State, Take};
+pub use swaps::{Swap, Swaps};
 
 /// Bytes of a journal.
 pub const JOURNAL_BYTES: usize = 4162;
 /// Bytes of an adjacency matrix.
 pub const ADJACENCY_BYTES: usize = 40_000;
+/// Bytes of a log: the count, and a record for each swap.
+pub const LOG_BYTES: usize = 2 + SWAP_RECORD_BYTES * MAX_SWAPS;
+/// Most swaps in a log.
+pub const MAX_SWAPS: usize = 1024;
+/// Bytes of a swap's record in a log.
+pub const SWAP_RECORD_BYTES: usize = 4;
 /// Most bytes in a block.
 pub const MAX_BLOCK_BYTES: usize = 64;
 /// Most blocks in a journal.

@@ -1,4 +1,4 @@
-//! The thirteen exports of the C interface, over slices of any length.
+//! The fifteen exports of the C interface, over slices of any length.
 //!
 //! These functions are safe: a slice is passed as its pointer and its length, and the library
 //! checks lengths itself. They answer with the numbers of the C interface as they are.
@@ -8,8 +8,9 @@
 //!
 //! let mut journal = vec![7; replica::JOURNAL_BYTES];
 //! let mut adjacency = vec![7; replica::ADJACENCY_BYTES];
+//! let mut log = vec![7; replica::LOG_BYTES];
 //! assert_eq!(raw::figures(&journal, &adjacency).number, 2); // not a valid state
-//! assert_eq!(raw::clear(&mut journal, &mut adjacency).number, 0);
+//! assert_eq!(raw::clear(&mut journal, &mut adjacency, &mut log).number, 0);
 //! assert_eq!(raw::figures(&journal, &adjacency).number, 0);
 //! assert_eq!(raw::figures(&journal[1..], &adjacency).number, 1); // another length
 //! ```
@@ -85,6 +86,8 @@ mod exports {
             journal_length: usize,
             adjacency: *mut u8,
             adjacency_length: usize,
+            log: *mut u8,
+            log_length: usize,
         ) -> ReplicaAnswer;
 
         pub fn replica_take_block(
@@ -117,6 +120,8 @@ mod exports {
             journal_length: usize,
             adjacency: *mut u8,
             adjacency_length: usize,
+            log: *mut u8,
+            log_length: usize,
             v: u64,
             w: u64,
         ) -> ReplicaJoin;
@@ -126,8 +131,32 @@ mod exports {
             journal_length: usize,
             adjacency: *mut u8,
             adjacency_length: usize,
+            log: *mut u8,
+            log_length: usize,
             v: u64,
             w: u64,
+        ) -> ReplicaAnswer;
+
+        pub fn replica_swap_edges(
+            journal: *const u8,
+            journal_length: usize,
+            adjacency: *mut u8,
+            adjacency_length: usize,
+            log: *mut u8,
+            log_length: usize,
+            a: u64,
+            b: u64,
+            c: u64,
+            d: u64,
+        ) -> ReplicaAnswer;
+
+        pub fn replica_undo_swap(
+            journal: *const u8,
+            journal_length: usize,
+            adjacency: *mut u8,
+            adjacency_length: usize,
+            log: *mut u8,
+            log_length: usize,
         ) -> ReplicaAnswer;
 
         pub fn replica_complete(
@@ -135,6 +164,8 @@ mod exports {
             journal_length: usize,
             adjacency: *mut u8,
             adjacency_length: usize,
+            log: *mut u8,
+            log_length: usize,
             output: *mut u8,
             output_length: usize,
         ) -> ReplicaAnswer;
@@ -144,6 +175,8 @@ mod exports {
             journal_length: usize,
             adjacency: *mut u8,
             adjacency_length: usize,
+            log: *mut u8,
+            log_length: usize,
             x: u32,
             output: *mut u8,
             output_length: usize,
@@ -193,14 +226,16 @@ mod exports {
 // Every call below passes pointers and lengths of live slices; the borrows make sure that a slice
 // the library may write overlaps no other.
 
-/// Sets every byte of both buffers to 0. Refused: 1.
-pub fn clear(journal: &mut [u8], adjacency: &mut [u8]) -> ReplicaAnswer {
+/// Sets every byte of all three buffers to 0. Refused: 1.
+pub fn clear(journal: &mut [u8], adjacency: &mut [u8], log: &mut [u8]) -> ReplicaAnswer {
     unsafe {
         exports::replica_clear(
             journal.as_mut_ptr(),
             journal.len(),
             adjacency.as_mut_ptr(),
             adjacency.len(),
+            log.as_mut_ptr(),
+            log.len(),
         )
     }
 }
@@ -253,44 +288,109 @@ pub fn lay_out(journal: &mut [u8], adjacency: &[u8]) -> ReplicaAnswer {
     }
 }
 
-/// Joins two vertices: `first` is the switches made, and then they follow.
+/// Joins two vertices and empties the log: `first` is the switches made, and then they follow.
 /// Refused: 1, 2, 3, 13, 14, 15, 16.
-pub fn add_edge(journal: &[u8], adjacency: &mut [u8], v: u64, w: u64) -> ReplicaJoin {
+pub fn add_edge(
+    journal: &[u8],
+    adjacency: &mut [u8],
+    log: &mut [u8],
+    v: u64,
+    w: u64,
+) -> ReplicaJoin {
     unsafe {
         exports::replica_add_edge(
             journal.as_ptr(),
             journal.len(),
             adjacency.as_mut_ptr(),
             adjacency.len(),
+            log.as_mut_ptr(),
+            log.len(),
             v,
             w,
         )
     }
 }
 
-/// Removes one edge. Refused: 1, 2, 3, 13, 14, 17.
-pub fn remove_edge(journal: &[u8], adjacency: &mut [u8], v: u64, w: u64) -> ReplicaAnswer {
+/// Removes one edge and empties the log. Refused: 1, 2, 3, 13, 14, 17.
+pub fn remove_edge(
+    journal: &[u8],
+    adjacency: &mut [u8],
+    log: &mut [u8],
+    v: u64,
+    w: u64,
+) -> ReplicaAnswer {
     unsafe {
         exports::replica_remove_edge(
             journal.as_ptr(),
             journal.len(),
             adjacency.as_mut_ptr(),
             adjacency.len(),
+            log.as_mut_ptr(),
+            log.len(),
             v,
             w,
         )
     }
 }
 
+/// Swaps the edges a-b and c-d for a-d and b-c and writes that into the log.
+/// Refused: 1, 2, 3, 13, 23, 24.
+pub fn swap_edges(
+    journal: &[u8],
+    adjacency: &mut [u8],
+    log: &mut [u8],
+    a: u64,
+    b: u64,
+    c: u64,
+    d: u64,
+) -> ReplicaAnswer {
+    unsafe {
+        exports::replica_swap_edges(
+            journal.as_ptr(),
+            journal.len(),
+            adjacency.as_mut_ptr(),
+            adjacency.len(),
+            log.as_mut_ptr(),
+            log.len(),
+            a,
+            b,
+            c,
+            d,
+        )
+    }
+}
+
+/// Takes the last swap of the log back. Refused: 1, 2, 3, 25.
+pub fn undo_swap(journal: &[u8], adjacency: &mut [u8], log: &mut [u8]) -> ReplicaAnswer {
+    unsafe {
+        exports::replica_undo_swap(
+            journal.as_ptr(),
+            journal.len(),
+            adjacency.as_mut_ptr(),
+            adjacency.len(),
+            log.as_mut_ptr(),
+            log.len(),
+        )
+    }
+}
+
 /// Joins until no cell is short and writes a record of 8 bytes for each join: `first` is the joins
-/// made, `second` the switches, `third` the written length. Refused: 1, 2, 3, 18.
-pub fn complete(journal: &[u8], adjacency: &mut [u8], output: &mut [u8]) -> ReplicaAnswer {
+/// made, `second` the switches, `third` the written length. Where there was one, the log is
+/// emptied. Refused: 1, 2, 3, 18.
+pub fn complete(
+    journal: &[u8],
+    adjacency: &mut [u8],
+    log: &mut [u8],
+    output: &mut [u8],
+) -> ReplicaAnswer {
     unsafe {
         exports::replica_complete(
             journal.as_ptr(),
             journal.len(),
             adjacency.as_mut_ptr(),
             adjacency.len(),
+            log.as_mut_ptr(),
+            log.len(),
             output.as_mut_ptr(),
             output.len(),
         )
@@ -302,6 +402,7 @@ pub fn complete(journal: &[u8], adjacency: &mut [u8], output: &mut [u8]) -> Repl
 pub fn complete_shuffled(
     journal: &[u8],
     adjacency: &mut [u8],
+    log: &mut [u8],
     x: u32,
     output: &mut [u8],
 ) -> ReplicaAnswer {
@@ -311,6 +412,8 @@ pub fn complete_shuffled(
             journal.len(),
             adjacency.as_mut_ptr(),
             adjacency.len(),
+            log.as_mut_ptr(),
+            log.len(),
             x,
             output.as_mut_ptr(),
             output.len(),

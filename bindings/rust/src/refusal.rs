@@ -10,14 +10,14 @@ use std::fmt;
 ///
 /// assert_eq!(Cause::OddDiagonal.number(), 9);
 /// assert_eq!(Cause::from_number(9), Some(Cause::OddDiagonal));
-/// assert_eq!(Cause::from_number(23), None);
+/// assert_eq!(Cause::from_number(26), None);
 /// assert_eq!(Cause::SameVertex.to_string(), "both ends are the same vertex");
 /// ```
 #[derive(Clone, Copy, Debug, PartialEq, Eq, PartialOrd, Ord, Hash)]
 pub enum Cause {
-    /// Journal or adjacency matrix of another length.
+    /// Journal, adjacency matrix or log of another length.
     WrongLength = 1,
-    /// Journal and adjacency matrix are not a valid state.
+    /// Journal and adjacency matrix are not a valid state, or the log is not a valid log of theirs.
     InvalidState = 2,
     /// Not in this phase.
     WrongPhase = 3,
@@ -62,11 +62,18 @@ pub enum Cause {
     Graph6Text = 21,
     /// A graph6 text that begins with a size above 200.
     Graph6Size = 22,
+    /// A swap of edges that are not there, of vertices that are not distinct or whose degrees
+    /// differ, or for edges that are there already.
+    SwapNotAllowed = 23,
+    /// 1,024 swaps are in the log already.
+    LogFull = 24,
+    /// No swap is in the log.
+    LogEmpty = 25,
 }
 
 impl Cause {
     /// All causes, in the order of their numbers.
-    pub const ALL: [Cause; 22] = [
+    pub const ALL: [Cause; 25] = [
         Cause::WrongLength,
         Cause::InvalidState,
         Cause::WrongPhase,
@@ -89,6 +96,9 @@ impl Cause {
         Cause::DegreeTooHigh,
         Cause::Graph6Text,
         Cause::Graph6Size,
+        Cause::SwapNotAllowed,
+        Cause::LogFull,
+        Cause::LogEmpty,
     ];
 
     /// Document 01's number.
@@ -107,8 +117,8 @@ impl Cause {
 impl fmt::Display for Cause {
     fn fmt(&self, f: &mut fmt::Formatter<'_>) -> fmt::Result {
         f.write_str(match self {
-            Cause::WrongLength => "the journal or the adjacency matrix has another length",
-            Cause::InvalidState => "journal and adjacency matrix are not a valid state",
+            Cause::WrongLength => "the journal, the adjacency matrix or the log has another length",
+            Cause::InvalidState => "journal, adjacency matrix and log are not a valid state",
             Cause::WrongPhase => "the call does not fit the phase",
             Cause::BlockLength => "a block has at most 64 bytes, a multiple of 4",
             Cause::BadRecord => "a record needs degrees from 1 to 40, the lower first, or 0 and 0",
@@ -131,6 +141,9 @@ impl fmt::Display for Cause {
             Cause::DegreeTooHigh => "a vertex of the edge list has a degree over 40",
             Cause::Graph6Text => "the text is not well-formed graph6",
             Cause::Graph6Size => "the graph6 text has more than 200 vertices",
+            Cause::SwapNotAllowed => "the two edges cannot be swapped",
+            Cause::LogFull => "the log holds 1,024 swaps already",
+            Cause::LogEmpty => "the log holds no swap to take back",
         })
     }
 }

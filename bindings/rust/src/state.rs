@@ -1,9 +1,9 @@
-//! A state that owns its two buffers.
+//! A state that owns its three buffers.
 
 use crate::raw::{self, ReplicaAnswer};
 use crate::{
-    Cells, Edges, Records, Refusal, Switches, ADJACENCY_BYTES, JOURNAL_BYTES, MAX_EDGES,
-    MAX_VERTICES,
+    Cause, Cells, Edges, Records, Refusal, Switches, ADJACENCY_BYTES, JOURNAL_BYTES, LOG_BYTES,
+    MAX_EDGES, MAX_VERTICES,
 };
 use std::fmt;
 
@@ -35,12 +35,14 @@ pub struct Figures {
     pub edges_laid: u64,
 }
 
-/// A journal and an adjacency matrix.
+/// A journal, an adjacency matrix and a log of swaps. States are equal when all their bytes are:
+/// the same blocks, the same edges, and the same swaps to take back.
 ///
 /// It starts in the phase of taking blocks. [`lay_out`](State::lay_out) fixes the vertices; then
 /// edges can be added and removed by hand, and [`complete`](State::complete) or
-/// [`complete_shuffled`](State::complete_shuffled) adds what is missing. A refused call changes
-/// nothing.
+/// [`complete_shuffled`](State::complete_shuffled) adds what is missing. Edges that are there can
+/// be swapped, and swaps taken back: [`swap_edges`](State::swap_edges),
+/// [`undo_swap`](State::undo_swap). A refused call changes nothing.
 ///
 /// ```
 /// use replica::{Cause, State, Switch, Take};
@@ -63,6 +65,7 @@ pub struct Figures {
 pub struct State {
     pub(crate) journal: Vec<u8>,
     pub(crate) adjacency: Vec<u8>,
+    pub(crate) log: Vec<u8>,
 }
 
 impl Default for State {
@@ -75,6 +78,7 @@ impl fmt::Debug for State {
     fn fmt(&self, f: &mut fmt::Formatter<'_>) -> fmt::Result {
         f.debug_struct("State")
             .field("figures", &self.figures())
+            .field("swaps", &self.swaps().len())
             .finish_non_exhaustive()
     }
 }
@@ -85,28 +89,40 @@ impl State {
         State {
             journal: vec![0; JOURNAL_BYTES],
             adjacency: vec![0; ADJACENCY_BYTES],
+            log: vec![0; LOG_BYTES],
         }
     }
 
-    /// A state from bytes kept earlier. Refused when they are not a valid state.
+    /// A state from bytes kept earlier, those of its log too. Refused when they are not a valid
+    /// state; a log is valid if all its swaps can be taken back from that matrix.
     ///
     /// ```
     /// use replica::{Cause, State};
     ///
     /// let mut state = State::new();
     /// state.take_block(0, &[1, 1, 2, 0]).unwrap();
-    /// let again = State::from_bytes(state.journal(), state.adjacency()).unwrap();
+    /// let again = State::from_bytes(state.journal(), state.adjacency(), state.log()).unwrap();
     /// assert_eq!(again, state);
     ///
-    /// let refusal = State::from_bytes(&[], state.adjacency()).unwrap_err();
+    /// let refusal = State::from_bytes(&[], state.adjacency(), state.log()).unwrap_err();
     /// assert_eq!(refusal.cause, Cause::WrongLength);
+    ///
+    /// let mut log = state.log().to_vec();
+    /// log[0] = 1; // a swap of edges that are not there
+    /// let refusal = State::from_bytes(state.journal(), state.adjacency(), &log).unwrap_err();
+    /// assert_eq!(refusal.cause, Cause::InvalidState);
     /// ```
-    pub fn from_bytes(journal: &[u8], adjacency: &[u8]) -> Result<State, Refusal> {
-        Refusal::unless_done(raw::figures(journal, adjacency))?;
-        Ok(State {
+    pub fn from_bytes(journal: &[u8], adjacency: &[u8], log: &[u8]) -> Result<State, Refusal> {
+        let mut state = State {
             journal: journal.to_vec(),
             adjacency: adjacency.to_vec(),
-        })
+            log: log.to_vec(),
+        };
+        // Without room for a record completing changes nothing, and it looks at all three.
+        match state.complete_into(&mut []) {
+            Err(refusal) if refusal.cause <= Cause::InvalidState => Err(refusal),
+            _ => Ok(state),
+        }
     }
 
     /// The bytes of the journal.
@@ -119,7 +135,13 @@ impl State {
         &self.adjacency
     }
 
-    /// Back to no blocks and no edges.
+    /// The bytes of the log: the count of its swaps, low byte first, a record of 4 bytes for each,
+    /// and zeros behind them. [`swaps`](State::swaps) reads them.
+    pub fn log(&self) -> &[u8] {
+        &self.log
+    }
+
+    /// Back to no blocks, no edges and no swaps.
     ///
     /// ```
     /// # use replica::State;
@@ -129,7 +151,8 @@ impl State {
     /// assert_eq!(state, State::new());
     /// ```
     pub fn clear(&mut self) -> Result<(), Refusal> {
-        Refusal::unless_done(raw::clear(&mut self.journal, &mut self.adjacency))?;
+        let (journal, adjacency) = (&mut self.journal, &mut self.adjacency);
+        Refusal::unless_done(raw::clear(journal, adjacency, &mut self.log))?;
         Ok(())
     }
 
@@ -227,8 +250,9 @@ impl State {
     }
 
     /// Joins v and w. A vertex that has all its edges already gives one to another vertex of its
-    /// degree first; returns these switches in the order made, 0 to 2. Naming the pair the other way
-    /// round may move other edges. An isolated vertex takes no edge.
+    /// degree first; returns these switches in the order made, 0 to 2. Naming the pair the other
+    /// way round may move other edges. An isolated vertex takes no edge. The swaps made so far
+    /// cannot be taken back afterwards.
     ///
     /// ```
     /// # use replica::{Cause, State, Switch};
@@ -249,12 +273,13 @@ impl State {
     /// assert_eq!((refusal.cause, refusal.places), (Cause::CellNotShort, (0, 1)));
     /// ```
     pub fn add_edge(&mut self, v: u64, w: u64) -> Result<Switches, Refusal> {
-        let join = raw::add_edge(&self.journal, &mut self.adjacency, v, w);
+        let (adjacency, log) = (&mut self.adjacency, &mut self.log);
+        let join = raw::add_edge(&self.journal, adjacency, log, v, w);
         Refusal::unless_zero(join.number, join.first, join.second)?;
         Ok(Switches::of(join))
     }
 
-    /// Removes the edge between v and w.
+    /// Removes the edge between v and w. The swaps made so far cannot be taken back afterwards.
     ///
     /// ```
     /// # use replica::{Cause, State};
@@ -266,8 +291,8 @@ impl State {
     /// assert_eq!(state.remove_edge(1, 0).unwrap_err().cause, Cause::EdgeAbsent);
     /// ```
     pub fn remove_edge(&mut self, v: u64, w: u64) -> Result<(), Refusal> {
-        let answer = raw::remove_edge(&self.journal, &mut self.adjacency, v, w);
-        Refusal::unless_done(answer)?;
+        let (adjacency, log) = (&mut self.adjacency, &mut self.log);
+        Refusal::unless_done(raw::remove_edge(&self.journal, adjacency, log, v, w))?;
         Ok(())
     }
 
