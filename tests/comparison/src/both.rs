@@ -1,15 +1,17 @@
 //! Makes a call on the library and on the reference and compares everything.
 
-use crate::call::{on_library, on_reference, Call, Completing, Memory};
+use crate::call::{on_library, on_reference, Call, Completing, Memory, Slices};
 use crate::count::Count;
 use crate::lent::Lent;
 use reference::numbers::Numbers;
-use reference::{join_record, journal, refused, ADJACENCY_BYTES, JOURNAL_BYTES};
+use reference::{join_record, journal, log, refused, ADJACENCY_BYTES, JOURNAL_BYTES};
+use std::mem;
 
 /// One state for both sides: they are equal after every call, or the test has failed.
 pub struct Both {
     pub journal: Vec<u8>,
     pub adjacency: Vec<u8>,
+    pub log: Vec<u8>,
     /// The output of the last call that had one.
     pub output: Vec<u8>,
     pub count: Count,
@@ -24,6 +26,7 @@ impl Both {
         Both {
             journal: vec![0; JOURNAL_BYTES],
             adjacency: vec![0; ADJACENCY_BYTES],
+            log: log::empty(),
             output: Vec::new(),
             count: Count::new(),
             label: label.to_string(),
@@ -37,6 +40,7 @@ impl Both {
         Both {
             journal: Vec::new(),
             adjacency: Vec::new(),
+            log: Vec::new(),
             ..Both::new(label)
         }
     }
@@ -50,9 +54,9 @@ impl Both {
     /// writes a text the other way round. Returns the numbers of the answer.
     pub fn call(&mut self, call: Call) -> Numbers {
         self.count_call(&call);
-        let before = Memory::of(&self.journal, &self.adjacency, &call);
+        let before = Memory::of(&self.journal, &self.adjacency, &self.log, &call);
         let mut expected = before.clone();
-        let expected_numbers = on_reference(&call, &mut expected);
+        let expected_numbers = on_reference(&call, expected.slices());
         let (numbers, after) = self.on_library_between_guards(&call);
         if numbers != expected_numbers {
             let place = self.place(&call);
@@ -68,14 +72,14 @@ impl Both {
             _ => &mut self.count.moves,
         };
         let moved = moves.follow(&call, &numbers, &before, &after);
+        let swaps = &mut self.count.swaps;
+        let logged = swaps.follow(&call, &numbers, &before, &after);
         let texts = &mut self.count.texts;
         let turned = texts.follow(&call, &numbers, &after);
-        if let Err(wrong) = moved.and(turned) {
+        if let Err(wrong) = moved.and(logged).and(turned) {
             panic!("{}: {wrong}", self.place(&call));
         }
-        self.journal = after.journal;
-        self.adjacency = after.adjacency;
-        self.output = after.output;
+        self.keep(after);
         self.count.answered(call.entry(), &numbers);
         self.count_isolated(&call, &numbers);
         self.count_empty(&call, &numbers);
@@ -88,11 +92,16 @@ impl Both {
         self.count_call(&call);
         let (numbers, after) = self.on_library_between_guards(&call);
         self.compare_inputs(&call, &after);
-        self.journal = after.journal;
-        self.adjacency = after.adjacency;
-        self.output = after.output;
+        self.keep(after);
         self.count.answered(call.entry(), &numbers);
         numbers
+    }
+
+    fn keep(&mut self, after: Memory) {
+        self.journal = after.journal;
+        self.adjacency = after.adjacency;
+        self.log = after.log;
+        self.output = after.output;
     }
 
     fn count_call(&mut self, call: &Call) {
@@ -178,13 +187,32 @@ impl Both {
         }
     }
 
-    /// The same on other buffers, which are dropped afterwards; the state stays as it is.
+    /// The same on another journal and matrix, which are dropped afterwards; the state stays as it
+    /// is, its log too.
     pub fn call_on(&mut self, journal: Vec<u8>, adjacency: Vec<u8>, call: Call) -> Numbers {
-        let journal = std::mem::replace(&mut self.journal, journal);
-        let adjacency = std::mem::replace(&mut self.adjacency, adjacency);
+        self.call_on_all(journal, adjacency, self.log.clone(), call)
+    }
+
+    /// The same with another log.
+    pub fn call_with(&mut self, log: Vec<u8>, call: Call) -> Numbers {
+        self.call_on_all(self.journal.clone(), self.adjacency.clone(), log, call)
+    }
+
+    /// The same on other buffers altogether.
+    pub fn call_on_all(
+        &mut self,
+        journal: Vec<u8>,
+        adjacency: Vec<u8>,
+        log: Vec<u8>,
+        call: Call,
+    ) -> Numbers {
+        let journal = mem::replace(&mut self.journal, journal);
+        let adjacency = mem::replace(&mut self.adjacency, adjacency);
+        let log = mem::replace(&mut self.log, log);
         let numbers = self.call(call);
         self.journal = journal;
         self.adjacency = adjacency;
+        self.log = log;
         numbers
     }
 
@@ -218,18 +246,21 @@ impl Both {
         let shift = self.calls;
         let mut journal = Lent::new(&self.journal, shift);
         let mut adjacency = Lent::new(&self.adjacency, shift / 3);
-        let mut input = Lent::new(call.input(), shift / 5);
+        let mut log = Lent::new(&self.log, shift / 11);
+        let input = Lent::new(call.input(), shift / 5);
         let mut output = Lent::new(call.output(), shift / 7);
-        let numbers = on_library(
-            call,
-            journal.get_mut(),
-            adjacency.get_mut(),
-            input.get_mut(),
-            output.get_mut(),
-        );
+        let slices = Slices {
+            journal: journal.get_mut(),
+            adjacency: adjacency.get_mut(),
+            log: log.get_mut(),
+            input: input.get(),
+            output: output.get_mut(),
+        };
+        let numbers = on_library(call, slices);
         for (lent, name) in [
             (&journal, "journal"),
             (&adjacency, "adjacency"),
+            (&log, "log"),
             (&input, "input"),
             (&output, "output"),
         ] {
@@ -240,6 +271,7 @@ impl Both {
         let after = Memory {
             journal: journal.get().to_vec(),
             adjacency: adjacency.get().to_vec(),
+            log: log.get().to_vec(),
             input: input.get().to_vec(),
             output: output.get().to_vec(),
         };
@@ -250,6 +282,7 @@ impl Both {
         for (name, found, expected) in [
             ("journal", &found.journal, &expected.journal),
             ("adjacency", &found.adjacency, &expected.adjacency),
+            ("log", &found.log, &expected.log),
             ("input", &found.input, &expected.input),
             ("output", &found.output, &expected.output),
         ] {
@@ -266,14 +299,7 @@ impl Both {
         let same_journal = after.journal == self.journal;
         let same_adjacency = after.adjacency == self.adjacency;
         let writes_journal = matches!(call, Call::Clear | Call::TakeBlock { .. } | Call::LayOut);
-        let writes_adjacency = matches!(
-            call,
-            Call::Clear
-                | Call::AddEdge { .. }
-                | Call::RemoveEdge { .. }
-                | Call::Complete { .. }
-                | Call::CompleteShuffled { .. }
-        );
+        let writes_adjacency = call.entry().is_lent_log();
         let kept = (writes_journal || same_journal) && (writes_adjacency || same_adjacency);
         assert!(kept, "{}: a byte lent to read changed", self.place(call));
     }

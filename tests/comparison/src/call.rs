@@ -1,4 +1,4 @@
-//! One call of an entry, with all it is given besides journal and adjacency.
+//! One call of an entry, with all it is given besides journal, adjacency and log.
 
 use reference::join_record;
 use reference::numbers::{self, Numbers};
@@ -6,7 +6,7 @@ use reference::random::Random;
 use reference::shuffling::stepped;
 use std::fmt;
 
-/// The thirteen entries.
+/// The fifteen entries.
 #[derive(Clone, Copy, Debug, PartialEq, Eq)]
 pub enum Entry {
     Clear,
@@ -15,6 +15,8 @@ pub enum Entry {
     LayOut,
     AddEdge,
     RemoveEdge,
+    SwapEdges,
+    UndoSwap,
     Complete,
     CompleteShuffled,
     EdgeList,
@@ -25,13 +27,15 @@ pub enum Entry {
 }
 
 impl Entry {
-    pub const ALL: [Entry; 13] = [
+    pub const ALL: [Entry; 15] = [
         Entry::Clear,
         Entry::TakeBlock,
         Entry::HeldBlock,
         Entry::LayOut,
         Entry::AddEdge,
         Entry::RemoveEdge,
+        Entry::SwapEdges,
+        Entry::UndoSwap,
         Entry::Complete,
         Entry::CompleteShuffled,
         Entry::EdgeList,
@@ -49,6 +53,8 @@ impl Entry {
             Entry::LayOut => "lay_out",
             Entry::AddEdge => "add_edge",
             Entry::RemoveEdge => "remove_edge",
+            Entry::SwapEdges => "swap_edges",
+            Entry::UndoSwap => "undo_swap",
             Entry::Complete => "complete",
             Entry::CompleteShuffled => "complete_shuffled",
             Entry::EdgeList => "edge_list",
@@ -68,6 +74,8 @@ impl Entry {
             Entry::LayOut => &[1, 2, 3, 9, 10, 11, 12],
             Entry::AddEdge => &[1, 2, 3, 13, 14, 15, 16],
             Entry::RemoveEdge => &[1, 2, 3, 13, 14, 17],
+            Entry::SwapEdges => &[1, 2, 3, 13, 23, 24],
+            Entry::UndoSwap => &[1, 2, 3, 25],
             Entry::Complete | Entry::CompleteShuffled => &[1, 2, 3, 18],
             Entry::EdgeList => &[1, 2, 3, 18],
             Entry::JdmOfEdges => &[19, 20, 18],
@@ -75,6 +83,20 @@ impl Entry {
             Entry::Graph6Read => &[22, 21, 18],
             Entry::Figures => &[1, 2],
         }
+    }
+
+    /// Whether it is lent the log, and so the matrix to write.
+    pub fn is_lent_log(self) -> bool {
+        matches!(
+            self,
+            Entry::Clear
+                | Entry::AddEdge
+                | Entry::RemoveEdge
+                | Entry::SwapEdges
+                | Entry::UndoSwap
+                | Entry::Complete
+                | Entry::CompleteShuffled
+        )
     }
 }
 
@@ -98,6 +120,9 @@ pub enum Call {
         v: u64,
         w: u64,
     },
+    /// The vertices a, b, c, d.
+    SwapEdges([u64; 4]),
+    UndoSwap,
     Complete {
         output: Vec<u8>,
     },
@@ -134,6 +159,8 @@ impl Call {
             Call::LayOut => Entry::LayOut,
             Call::AddEdge { .. } => Entry::AddEdge,
             Call::RemoveEdge { .. } => Entry::RemoveEdge,
+            Call::SwapEdges(_) => Entry::SwapEdges,
+            Call::UndoSwap => Entry::UndoSwap,
             Call::Complete { .. } => Entry::Complete,
             Call::CompleteShuffled { .. } => Entry::CompleteShuffled,
             Call::EdgeList { .. } => Entry::EdgeList,
@@ -144,7 +171,7 @@ impl Call {
         }
     }
 
-    /// The bytes the call reads besides journal and adjacency.
+    /// The bytes the call reads besides journal, adjacency and log.
     pub fn input(&self) -> &[u8] {
         match self {
             Call::TakeBlock { block, .. } => block,
@@ -175,6 +202,7 @@ impl fmt::Debug for Call {
             Call::TakeBlock { number, block } => write!(f, "({number}, {block:?})"),
             Call::HeldBlock { number } => write!(f, "({number})"),
             Call::AddEdge { v, w } | Call::RemoveEdge { v, w } => write!(f, "({v}, {w})"),
+            Call::SwapEdges(named) => write!(f, "{named:?}"),
             Call::Complete { output } | Call::EdgeList { output } => {
                 write!(f, "({} bytes)", output.len())
             }
@@ -269,42 +297,68 @@ pub fn any_output(needed: usize, random: &mut Random) -> Vec<u8> {
 pub struct Memory {
     pub journal: Vec<u8>,
     pub adjacency: Vec<u8>,
+    pub log: Vec<u8>,
     pub input: Vec<u8>,
     pub output: Vec<u8>,
 }
 
 impl Memory {
     /// Copies, as they are before the call.
-    pub fn of(journal: &[u8], adjacency: &[u8], call: &Call) -> Memory {
+    pub fn of(journal: &[u8], adjacency: &[u8], log: &[u8], call: &Call) -> Memory {
         Memory {
             journal: journal.to_vec(),
             adjacency: adjacency.to_vec(),
+            log: log.to_vec(),
             input: call.input().to_vec(),
             output: call.output().to_vec(),
         }
     }
+
+    pub fn slices(&mut self) -> Slices<'_> {
+        Slices {
+            journal: &mut self.journal,
+            adjacency: &mut self.adjacency,
+            log: &mut self.log,
+            input: &self.input,
+            output: &mut self.output,
+        }
+    }
+}
+
+/// What a call is lent, each call only the part that concerns it.
+pub struct Slices<'a> {
+    pub journal: &'a mut [u8],
+    pub adjacency: &'a mut [u8],
+    pub log: &'a mut [u8],
+    pub input: &'a [u8],
+    pub output: &'a mut [u8],
 }
 
 /// Makes the call on the library.
-pub fn on_library(
-    call: &Call,
-    journal: &mut [u8],
-    adjacency: &mut [u8],
-    input: &[u8],
-    output: &mut [u8],
-) -> Numbers {
+pub fn on_library(call: &Call, lent: Slices) -> Numbers {
     use replica::raw;
+    let Slices {
+        journal,
+        adjacency,
+        log,
+        input,
+        output,
+    } = lent;
     let answer = match *call {
-        Call::Clear => raw::clear(journal, adjacency),
+        Call::Clear => raw::clear(journal, adjacency, log),
         Call::TakeBlock { number, .. } => raw::take_block(journal, adjacency, number, input),
         Call::HeldBlock { number } => raw::held_block(journal, adjacency, number),
         Call::LayOut => raw::lay_out(journal, adjacency),
         Call::AddEdge { v, w } => {
-            return Numbers::Nine(raw::add_edge(journal, adjacency, v, w).numbers());
+            return Numbers::Nine(raw::add_edge(journal, adjacency, log, v, w).numbers());
         }
-        Call::RemoveEdge { v, w } => raw::remove_edge(journal, adjacency, v, w),
-        Call::Complete { .. } => raw::complete(journal, adjacency, output),
-        Call::CompleteShuffled { x, .. } => raw::complete_shuffled(journal, adjacency, x, output),
+        Call::RemoveEdge { v, w } => raw::remove_edge(journal, adjacency, log, v, w),
+        Call::SwapEdges([a, b, c, d]) => raw::swap_edges(journal, adjacency, log, a, b, c, d),
+        Call::UndoSwap => raw::undo_swap(journal, adjacency, log),
+        Call::Complete { .. } => raw::complete(journal, adjacency, log, output),
+        Call::CompleteShuffled { x, .. } => {
+            raw::complete_shuffled(journal, adjacency, log, x, output)
+        }
         Call::EdgeList { .. } => raw::edge_list(journal, adjacency, output),
         Call::JdmOfEdges { total, .. } => raw::jdm_of_edges(input, total, output),
         Call::Graph6Write { total, .. } => raw::graph6_write(input, total, output),
@@ -315,23 +369,28 @@ pub fn on_library(
 }
 
 /// Makes the call on the reference.
-pub fn on_reference(call: &Call, memory: &mut Memory) -> Numbers {
-    let journal = &mut memory.journal;
-    let adjacency = &mut memory.adjacency;
-    let input = &memory.input;
-    let output = &mut memory.output;
+pub fn on_reference(call: &Call, lent: Slices) -> Numbers {
+    let Slices {
+        journal,
+        adjacency,
+        log,
+        input,
+        output,
+    } = lent;
     Numbers::Six(match *call {
-        Call::Clear => numbers::clear(journal, adjacency),
+        Call::Clear => numbers::clear(journal, adjacency, log),
         Call::TakeBlock { number, .. } => numbers::take_block(journal, adjacency, number, input),
         Call::HeldBlock { number } => numbers::held_block(journal, adjacency, number),
         Call::LayOut => numbers::lay_out(journal, adjacency),
         Call::AddEdge { v, w } => {
-            return Numbers::Nine(numbers::add_edge(journal, adjacency, v, w));
+            return Numbers::Nine(numbers::add_edge(journal, adjacency, log, v, w));
         }
-        Call::RemoveEdge { v, w } => numbers::remove_edge(journal, adjacency, v, w),
-        Call::Complete { .. } => numbers::complete(journal, adjacency, output),
+        Call::RemoveEdge { v, w } => numbers::remove_edge(journal, adjacency, log, v, w),
+        Call::SwapEdges(named) => numbers::swap_edges(journal, adjacency, log, named),
+        Call::UndoSwap => numbers::undo_swap(journal, adjacency, log),
+        Call::Complete { .. } => numbers::complete(journal, adjacency, log, output),
         Call::CompleteShuffled { x, .. } => {
-            numbers::complete_shuffled(journal, adjacency, x, output)
+            numbers::complete_shuffled(journal, adjacency, log, x, output)
         }
         Call::EdgeList { .. } => numbers::edge_list(journal, adjacency, output),
         Call::JdmOfEdges { total, .. } => numbers::jdm_of_edges(input, total, output),

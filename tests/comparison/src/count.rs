@@ -2,10 +2,11 @@
 
 use crate::call::Entry;
 use crate::moves::Moves;
+use crate::swaps::Swaps;
 use crate::texts::Texts;
 use reference::numbers::Numbers;
 
-const REFUSALS: usize = 22;
+const REFUSALS: usize = 25;
 
 /// What a run tried. Counts of several runs add up.
 #[derive(Clone, Debug, Default)]
@@ -27,6 +28,7 @@ pub struct Count {
     pub moves: Moves,
     /// What moved in completing shuffled.
     pub shuffled: Moves,
+    pub swaps: Swaps,
     pub texts: Texts,
 }
 
@@ -114,16 +116,18 @@ impl Count {
         self.empty.add(&other.empty);
         self.moves.add(&other.moves);
         self.shuffled.add(&other.shuffled);
+        self.swaps.add(&other.swaps);
         self.texts.add(&other.texts);
     }
 
     /// The counts that have names, and what they are of.
-    fn named(&self) -> [(&'static str, Vec<(&'static str, u64)>); 5] {
+    fn named(&self) -> [(&'static str, Vec<(&'static str, u64)>); 6] {
         [
             ("isolated", self.isolated.named()),
             ("empty blocks", self.empty.named()),
             ("what moved", self.moves.named()),
             ("shuffled", self.shuffled.named()),
+            ("swaps, logs", self.swaps.named()),
             ("graph6", self.texts.named()),
         ]
     }

@@ -4,11 +4,12 @@
 use crate::blocks::{self, Size};
 use crate::both::Both;
 use crate::call::{any_output, Call, Completing};
+use crate::swaps::{self, Began};
 use crate::tables::{simple, sum_of, sum_of_graph, Cells, Sum};
 use reference::numbers::Numbers;
 use reference::random::Random;
 use reference::search::find_graph;
-use reference::{join_record, refused, refused_at, Table};
+use reference::{join_record, log, refused, refused_at, Table};
 
 /// The tally of document 01, with the blocks it has counted.
 struct Tally {
@@ -71,17 +72,20 @@ fn well_formed(block: &[u8]) -> bool {
     length && block.chunks(4).all(good)
 }
 
-/// Runs a list of taking, laying out, joining, removing and completing calls from a cleared state
-/// and checks the demand after every call.
+/// Runs a list of taking, laying out, joining, removing, swapping, taking back and completing calls
+/// from a cleared state and checks the demand after every call, and that the log says what was done
+/// to the matrix it began with.
 pub fn run(seed: u64, both: &mut Both) {
     let mut random = Random::new(seed);
     let plan = blocks::plan(Size::Small, &mut random);
     let mut tally = Tally::new();
     both.call(Call::Clear);
+    let mut began = Began::with(&both.adjacency);
     for _ in 0..2 * plan.len() + random.between(5, 25) {
-        let call = next_call(&plan, &tally, &mut random);
+        let call = next_call(&plan, &tally, &both.adjacency, &mut random);
         let numbers = both.call(call.clone());
         tally.fed(&call, &numbers);
+        began.after(&call, &both.adjacency, &both.log);
         if tally.laid {
             check_laid(&tally, &mut random, both);
         } else {
@@ -98,10 +102,10 @@ pub fn run(seed: u64, both: &mut Both) {
     both.count.call_lists += 1;
 }
 
-fn next_call(plan: &[Vec<u8>], tally: &Tally, random: &mut Random) -> Call {
+fn next_call(plan: &[Vec<u8>], tally: &Tally, adjacency: &[u8], random: &mut Random) -> Call {
     let blocks = tally.blocks.len();
     let any = |random: &mut Random| random.below(10) as u64;
-    match random.below(10) {
+    match random.below(14) {
         0 => Call::LayOut,
         1 if blocks > 0 => {
             let number = random.below(blocks);
@@ -125,6 +129,12 @@ fn next_call(plan: &[Vec<u8>], tally: &Tally, random: &mut Random) -> Call {
             let needed = join_record::LENGTH * tally.missing() as usize;
             Completing::any(random).call(any_output(needed, random))
         }
+        6..=8 if tally.laid => {
+            let any = [(); 4].map(|()| any(random));
+            let found = swaps::any_allowed(adjacency, &tally.table().degrees(), random);
+            found.map_or(Call::SwapEdges(any), swaps::swap_call)
+        }
+        9 => Call::UndoSwap,
         _ if tally.laid => Call::AddEdge {
             v: any(random),
             w: any(random),
@@ -181,13 +191,14 @@ fn check_laid(tally: &Tally, random: &mut Random, both: &mut Both) {
         check_isolated(&degrees, both);
     }
     let journal = both.journal.clone();
-    let before = both.adjacency.clone();
+    let (before, log) = (both.adjacency.clone(), both.log.clone());
     for completing in [Completing::Lowest, Completing::any_shuffled(random)] {
         both.complete_by(completing, missing);
         assert!(simple(&both.adjacency));
         assert_eq!(sum_of_graph(&both.adjacency, vertices as usize), wanted);
         both.journal.clone_from(&journal);
         both.adjacency.clone_from(&before);
+        both.log.clone_from(&log);
     }
 }
 
@@ -229,9 +240,10 @@ fn check_isolated(degrees: &[usize], both: &mut Both) {
     }
 }
 
-/// The pair is joined, the state stays valid and has exactly one edge more; then all is put back.
+/// The pair is joined, the state stays valid, its log is empty, and it has exactly one edge more;
+/// then all is put back.
 fn check_pair(v: usize, w: usize, edges: u64, both: &mut Both) {
-    let adjacency = both.adjacency.clone();
+    let (adjacency, log) = (both.adjacency.clone(), both.log.clone());
     let call = Call::AddEdge {
         v: v as u64,
         w: w as u64,
@@ -240,6 +252,8 @@ fn check_pair(v: usize, w: usize, edges: u64, both: &mut Both) {
     assert_eq!(both.adjacency[200 * v + w], 1);
     let figures = both.call(Call::Figures);
     assert_eq!((figures[0], figures[5]), (0, edges + 1));
+    assert_eq!(both.log, log::empty());
     both.adjacency = adjacency;
+    both.log = log;
     both.count.pairs_joined += 1;
 }

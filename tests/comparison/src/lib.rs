@@ -5,6 +5,7 @@
 //! * [`lent`]: slices lent between guard bytes
 //! * [`both`]: makes a call on both sides and compares
 //! * [`moves`]: what joins and completions say has moved, played
+//! * [`swaps`]: swaps and takings-back replayed, what becomes of a log, swaps that are allowed
 //! * [`texts`]: what goes out as graph6 comes in again, and the other way round
 //! * [`count`]: how many calls, tables and refusals were tried
 //! * `named`: counts with names
@@ -36,5 +37,6 @@ pub mod moves;
 pub mod program;
 pub mod reach;
 pub mod steps;
+pub mod swaps;
 pub mod tables;
 pub mod texts;

@@ -1,17 +1,19 @@
-//! Long random call lists: blocks new, resent and spoiled, layings-out, joins, removals and
-//! completions in any order, surveys and graph6 between them, damaged journals and matrices, outputs
-//! too short, just long enough and longer.
+//! Long random call lists: blocks new, resent and spoiled, layings-out, joins, removals, swaps,
+//! takings-back and completions in any order, surveys and graph6 between them, damaged journals,
+//! matrices and logs, outputs too short, just long enough and longer.
 
 use crate::blocks::{self, Size};
 use crate::both::Both;
 use crate::call::{any_output, room, Call, Completing};
+use crate::swaps::{self, Began};
 use crate::texts::text_length;
 use crate::{edge_lists, exchange};
 use reference::graphs;
 use reference::random::Random;
 use reference::shuffling::open_pairs;
-use reference::{adjacency, journal, validity, Matrix};
-use reference::{ADJACENCY_BYTES, JOURNAL_BYTES, MAX_VERTICES};
+use reference::swapping::{all_undone, Swap};
+use reference::{adjacency, journal, log, validity, Matrix};
+use reference::{ADJACENCY_BYTES, JOURNAL_BYTES, LOG_BYTES, MAX_VERTICES};
 use replica::MAX_GRAPH6_BYTES;
 
 /// The isolated vertices and 820 cells: no survey writes more.
@@ -26,11 +28,15 @@ pub fn run(seed: u64, size: Size, both: &mut Both) {
     // About every second step takes the next block.
     let steps = 3 * plan.len() + random.between(30, 100);
     let sent = Some(Vec::new());
+    let began = Began::with(&both.adjacency);
+    let seen = log::empty();
     let mut list = List {
         random,
         plan,
         both,
         sent,
+        began,
+        seen,
     };
     for _ in 0..steps {
         list.step();
@@ -51,9 +57,13 @@ struct List<'a> {
     both: &'a mut Both,
     /// The blocks answered as taken since the last clear; none after a damage that stayed.
     sent: Option<Vec<Vec<u8>>>,
+    /// The matrix that the log began with.
+    began: Began,
+    /// A log that this list had at some time.
+    seen: Vec<u8>,
 }
 
-/// What joins and removals are chosen from, in a valid laid state.
+/// What joins, removals and swaps are chosen from, in a valid laid state.
 struct Laid {
     degrees: Vec<usize>,
     wanted: Matrix,
@@ -79,11 +89,16 @@ impl List<'_> {
         }
     }
 
-    /// Makes the call, and compares what the journal holds with what was sent.
+    /// Makes the call, and compares what the journal holds with what was sent, and the matrix with
+    /// what the log says.
     fn call(&mut self, call: Call) {
         let numbers = self.both.call(call.clone());
         if numbers[0] != 0 {
             return;
+        }
+        if call.entry().is_lent_log() {
+            let (adjacency, log) = (&self.both.adjacency, &self.both.log);
+            self.began.after(&call, adjacency, log);
         }
         match (call, &mut self.sent) {
             (Call::Clear, sent) => *sent = Some(Vec::new()),
@@ -135,14 +150,53 @@ impl List<'_> {
     }
 
     fn when_laid(&mut self) -> Call {
-        match self.random.below(20) {
+        // Joins and removals empty a log: once there is one, it mostly grows.
+        if log::count(&self.both.log) > 0 && self.random.chance(60) {
+            return self.swap_or_back();
+        }
+        match self.random.below(22) {
             0..=8 => self.join(),
             9..=13 => self.removal(),
             14 => self.completion(),
             15 => self.other_block(),
             16 if self.random.chance(30) => Call::LayOut,
+            17..=18 => self.swap_or_back(),
             _ => self.at_any_time(),
         }
+    }
+
+    /// A taking-back, or a swap, which mostly is allowed.
+    fn swap_or_back(&mut self) -> Call {
+        if self.random.chance(5) {
+            self.seen.clone_from(&self.both.log);
+        }
+        let empty = log::count(&self.both.log) == 0;
+        let found = match self.random.below(10) {
+            0..=2 if !empty => return Call::UndoSwap,
+            3 => return Call::UndoSwap,
+            4 => None,
+            5 => swaps::any_edges(&self.both.adjacency, &mut self.random),
+            _ => self.allowed_swap(),
+        };
+        let Some(swap) = found else {
+            return Call::SwapEdges(self.any_four());
+        };
+        let mut named = swap.vertices().map(|vertex| vertex as u64);
+        if self.random.chance(10) {
+            let vertices = self.laid().map_or(0, |laid| laid.degrees.len());
+            named[self.random.below(4)] = self.vertex_number(vertices);
+        }
+        Call::SwapEdges(named)
+    }
+
+    fn allowed_swap(&mut self) -> Option<Swap> {
+        let laid = self.laid()?;
+        swaps::any_allowed(&self.both.adjacency, &laid.degrees, &mut self.random)
+    }
+
+    fn any_four(&mut self) -> [u64; 4] {
+        let ((a, b), (c, d)) = (self.any_pair(), self.any_pair());
+        [a, b, c, d]
     }
 
     fn at_any_time(&mut self) -> Call {
@@ -405,11 +459,13 @@ impl List<'_> {
         }
     }
 
-    /// One call on a journal or an adjacency matrix of another length.
+    /// One call on a journal, an adjacency matrix or a log of another length.
     fn other_lengths(&mut self) {
-        let journal_length = *self
-            .random
-            .pick(&[0, 1, JOURNAL_BYTES - 1, JOURNAL_BYTES]);
+        if self.random.chance(30) {
+            self.other_log_length();
+            return;
+        }
+        let journal_length = *self.random.pick(&[0, 1, JOURNAL_BYTES - 1, JOURNAL_BYTES]);
         let adjacency_length = match journal_length {
             JOURNAL_BYTES => *self.random.pick(&[0, 200, ADJACENCY_BYTES - 1]),
             _ => ADJACENCY_BYTES,
@@ -443,28 +499,81 @@ impl List<'_> {
         self.both.call_on(journal, adjacency, call);
     }
 
+    fn other_log_length(&mut self) {
+        let mut log = self.both.log.clone();
+        let length = *self
+            .random
+            .pick(&[0, 1, 2, LOG_BYTES - 4, LOG_BYTES - 1, LOG_BYTES + 1]);
+        log.resize(length, 0);
+        let call = self.lent_log();
+        self.both.call_with(log, call);
+    }
+
+    /// A call that is lent the log.
+    fn lent_log(&mut self) -> Call {
+        match self.random.below(7) {
+            0 => Call::Clear,
+            1 => self.join(),
+            2 => self.removal(),
+            3 | 4 => self.swap_or_back(),
+            5 => Call::UndoSwap,
+            _ => self.completion(),
+        }
+    }
+
     /// Changes some bytes, makes some calls, and puts the bytes back unless they are valid again.
     fn damage(&mut self) {
         let journal = self.both.journal.clone();
         let adjacency = self.both.adjacency.clone();
+        let log = self.both.log.clone();
+        let began = self.began.clone();
         let sent = self.sent.take();
         for _ in 0..self.random.between(1, 2) {
-            if self.random.chance(50) {
-                self.damage_journal();
-            } else {
-                self.damage_adjacency();
+            match self.random.below(3) {
+                0 => self.damage_journal(),
+                1 => self.damage_adjacency(),
+                _ => self.damage_log(),
             }
         }
+        self.begin_anew();
         self.both.call(Call::Figures);
+        let call = self.lent_log();
+        self.call(call);
         for _ in 0..self.random.below(8) {
             self.ordinary();
         }
-        let valid = validity::valid(&self.both.journal, &self.both.adjacency);
-        if !valid || self.random.chance(50) {
+        if !self.valid() || self.random.chance(50) {
             self.both.journal = journal;
             self.both.adjacency = adjacency;
+            self.both.log = log;
+            self.began = began;
             self.sent = sent;
         }
+    }
+
+    fn valid(&self) -> bool {
+        let (journal, adjacency) = (&self.both.journal, &self.both.adjacency);
+        validity::valid(journal, adjacency)
+            && validity::log_valid(journal, adjacency, &self.both.log)
+    }
+
+    /// The matrix that a damaged log begins with, if it is valid.
+    fn begin_anew(&mut self) {
+        let (adjacency, log) = (&self.both.adjacency, &self.both.log);
+        let undone = match self.laid() {
+            Some(laid) if self.valid() => all_undone(adjacency, &laid.degrees, log),
+            _ => None,
+        };
+        self.began = Began::before(undone.as_ref().unwrap_or(adjacency), adjacency);
+    }
+
+    /// One thing changed, or a log that this list had before.
+    fn damage_log(&mut self) {
+        let vertices = self.laid().map_or(3, |laid| laid.degrees.len());
+        self.both.log = match self.random.below(6) {
+            0 => self.seen.clone(),
+            _ => swaps::spoil(&self.both.log, vertices, &mut self.random),
+        };
     }
 
     fn damage_journal(&mut self) {

@@ -115,7 +115,7 @@ mod tests {
             for &(v, w) in edges {
                 adjacency::insert(&mut bytes, v, w);
             }
-            Memory::of(&[], &bytes, &call)
+            Memory::of(&[], &bytes, &[], &call)
         };
         let follow = |switches, triples: [u64; 6], before: &[_], after: &[_]| {
             let mut numbers = [0, switches, 0, 0, 0, 0, 0, 0, 0];

@@ -5,11 +5,12 @@
 
 use crate::both::Both;
 use crate::call::{Call, Completing};
+use crate::swaps;
 use crate::tables::{sum_of, take_all};
 use reference::graphs::Graph;
 use reference::numbers::Numbers;
 use reference::random::Random;
-use reference::{adjacency, graph6, refused, ADJACENCY_BYTES};
+use reference::{adjacency, graph6, log, refused, ADJACENCY_BYTES};
 use std::fmt;
 
 named_counts! {
@@ -22,6 +23,8 @@ named_counts! {
         calls: "calls",
         empty: "from empty",
         completed: "from a completed state",
+        /// Among them: edges were swapped afterwards.
+        swapped: "completed with swaps",
         half_laid: "from a half laid one",
         /// Among them: edges have moved on the way to the half laid one.
         switched: "half laid with switches",
@@ -109,6 +112,8 @@ pub struct Laid<'a> {
     journal: Vec<u8>,
     /// The matrix as it must be.
     adjacency: Vec<u8>,
+    /// The log as it must be: empty once an edge was added or removed.
+    log: Vec<u8>,
     /// Of figures: blocks, vertices and edges wanted.
     figures: [u64; 3],
     /// Document 01's missing edges: half the sum of all cells, less the edges.
@@ -149,6 +154,7 @@ impl<'a> Laid<'a> {
             effort,
             journal: both.journal.clone(),
             adjacency: vec![0; ADJACENCY_BYTES],
+            log: log::empty(),
             both,
             figures: [blocks.len() as u64, vertices, edges],
             missing: edges,
@@ -228,6 +234,8 @@ impl<'a> Laid<'a> {
             Start::Empty => {}
             Start::Completed => {
                 self.complete();
+                let swaps = self.swap_some(&graph.degrees());
+                self.count.swapped += u64::from(swaps > 0);
             }
             Start::HalfLaid => {
                 let switches = self.lay_half();
@@ -249,8 +257,10 @@ impl<'a> Laid<'a> {
         } += 1;
     }
 
-    /// The state holds these edges.
+    /// The state holds these edges, and no swap to take back.
     fn set(&mut self, adjacency: Vec<u8>) {
+        self.log.fill(0);
+        self.both.log.fill(0);
         self.both.adjacency.clone_from(&adjacency);
         let ends: u64 = adjacency.iter().map(|&byte| u64::from(byte)).sum();
         self.missing = self.figures[2] - ends / 2;
@@ -268,6 +278,21 @@ impl<'a> Laid<'a> {
         self.set(self.both.adjacency.clone());
         assert_eq!(self.missing, 0, "{}", self.place());
         switches
+    }
+
+    /// Swaps some edges where that is allowed, in every second case; the log keeps them. Returns
+    /// how many.
+    fn swap_some(&mut self, degrees: &[usize]) -> usize {
+        for _ in 0..self.random.below(2) * self.random.between(1, 4) {
+            let found = swaps::any_allowed(&self.adjacency, degrees, self.random);
+            if let Some(swap) = found {
+                let answer = self.both.call(swaps::swap_call(swap));
+                assert_eq!(answer, [0; 6], "{}", self.place());
+                self.adjacency.clone_from(&self.both.adjacency);
+                log::push(&mut self.log, swap);
+            }
+        }
+        log::count(&self.log)
     }
 
     /// Joins some random pairs, in every second case after completing and removing some edges.
@@ -320,6 +345,7 @@ impl<'a> Laid<'a> {
         let answer = self.call(Call::AddEdge { v, w });
         assert_eq!(answer, NO_SWITCH, "{}", self.place());
         adjacency::insert(&mut self.adjacency, v as usize, w as usize);
+        self.log.fill(0);
         self.missing -= 1;
         self.check();
     }
@@ -329,6 +355,7 @@ impl<'a> Laid<'a> {
         let answer = self.call(Call::RemoveEdge { v, w });
         assert_eq!(answer, [0; 6], "{}", self.place());
         adjacency::remove(&mut self.adjacency, v as usize, w as usize);
+        self.log.fill(0);
         self.missing += 1;
         self.check();
     }
@@ -354,7 +381,7 @@ impl<'a> Laid<'a> {
         self.check();
     }
 
-    /// Journal and matrix are as they must be, and so are the figures if they are asked for.
+    /// Journal, matrix and log are as they must be, and so are the figures if they are asked for.
     fn check(&mut self) {
         if self.random.chance(self.effort.figures) {
             self.check_figures();
@@ -363,6 +390,8 @@ impl<'a> Laid<'a> {
         assert!(same_journal, "{}: the journal changed", self.place());
         let same_matrix = self.both.adjacency == self.adjacency;
         assert!(same_matrix, "{}: other edges", self.place());
+        let same_log = self.both.log == self.log;
+        assert!(same_log, "{}: another log", self.place());
     }
 
     fn check_figures(&mut self) {

@@ -13,7 +13,7 @@ use crate::tables::take_all;
 use reference::graphs::{all_pairs, from_bits, Graph};
 use reference::random::Random;
 use reference::search::partial_graphs;
-use reference::{adjacency, graph6, ADJACENCY_BYTES};
+use reference::{adjacency, graph6, log, ADJACENCY_BYTES};
 use replica::raw;
 
 /// Tries the steps of one table, given all graphs that have it at the degrees laid out: adding, from
@@ -76,6 +76,8 @@ struct Small {
     bits: u64,
     adjacency: Vec<u8>,
     lent_adjacency: Lent,
+    /// Empty before and after every step.
+    lent_log: Lent,
 }
 
 impl Small {
@@ -95,6 +97,7 @@ impl Small {
             bits: 0,
             lent_adjacency: Lent::new(&adjacency, random.below(16)),
             adjacency,
+            lent_log: Lent::new(&log::empty(), random.below(16)),
         }
     }
 
@@ -103,7 +106,8 @@ impl Small {
         self.lay(bits);
         let (v, w) = self.ends(pair, turned);
         let (journal, adjacency) = (self.lent_journal.get(), self.lent_adjacency.get_mut());
-        let answer = raw::add_edge(journal, adjacency, v, w).numbers();
+        let log = self.lent_log.get_mut();
+        let answer = raw::add_edge(journal, adjacency, log, v, w).numbers();
         self.expect(bits | 1 << pair);
         let right = answer == NO_SWITCH && self.as_expected();
         assert!(right, "{}: adding ({v}, {w}): {answer:?}", self.place(bits));
@@ -114,7 +118,8 @@ impl Small {
         self.lay(bits);
         let (v, w) = self.ends(pair, turned);
         let (journal, adjacency) = (self.lent_journal.get(), self.lent_adjacency.get_mut());
-        let answer = raw::remove_edge(journal, adjacency, v, w).numbers();
+        let log = self.lent_log.get_mut();
+        let answer = raw::remove_edge(journal, adjacency, log, v, w).numbers();
         self.expect(bits ^ 1 << pair);
         let right = answer == [0; 6] && self.as_expected();
         assert!(
@@ -161,8 +166,10 @@ impl Small {
     fn as_expected(&self) -> bool {
         self.lent_adjacency.get() == self.adjacency
             && self.lent_journal.get() == self.journal
+            && self.lent_log.get().iter().all(|&byte| byte == 0)
             && self.lent_adjacency.guards_hold()
             && self.lent_journal.guards_hold()
+            && self.lent_log.guards_hold()
     }
 
     /// Where a message comes from.

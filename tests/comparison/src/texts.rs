@@ -206,7 +206,7 @@ mod tests {
     const EDGES: [u8; 8] = [0, 3, 1, 2, 1, 3, 2, 3];
 
     fn follow(call: Call, numbers: [u64; 6], output: &[u8]) -> Result<(), String> {
-        let mut after = Memory::of(&[], &[], &call);
+        let mut after = Memory::of(&[], &[], &[], &call);
         after.output = output.to_vec();
         Texts::default().follow(&call, &Numbers::Six(numbers), &after)
     }

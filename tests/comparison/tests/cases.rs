@@ -6,9 +6,9 @@ use reference::random::Random;
 use reference::Table;
 use replica::{block, graph6_read, graph6_write, jdm_of_edges};
 use replica::{Cause, Completion, Drawn, Join, Joins, NotDrawn, Record, Records, Refusal};
-use replica::{State, Switch, Take};
-use replica::{MAX_BLOCK_BYTES, JOIN_RECORD_BYTES, RECORD_BYTES};
-use replica::{MAX_EDGES, MAX_GRAPH6_BYTES, MAX_PAIRS, MAX_RECORDS};
+use replica::{State, Swap, Swaps, Switch, Take};
+use replica::{JOIN_RECORD_BYTES, MAX_BLOCK_BYTES, RECORD_BYTES};
+use replica::{LOG_BYTES, MAX_EDGES, MAX_GRAPH6_BYTES, MAX_PAIRS, MAX_RECORDS, MAX_SWAPS};
 use std::collections::BTreeSet;
 use std::error::Error;
 
@@ -642,6 +642,114 @@ fn in_any_order(graph: &Graph, random: &mut Random) -> Vec<(u64, u64)> {
     drawing
 }
 
+/// Three edges of degree 1.
+fn three_edges() -> State {
+    let mut state = laid(&[(1, 1, 6)]);
+    for (v, w) in [(0, 1), (2, 3), (4, 5)] {
+        state.add_edge(v, w).unwrap();
+    }
+    state
+}
+
+#[test]
+fn swaps_and_takings_back() {
+    let mut state = three_edges();
+    let before = state.clone();
+    assert_eq!(state.swap_edges(0, 1, 2, 3), Ok(()));
+    assert_eq!(edges(&state), [(0, 3), (1, 2), (4, 5)]);
+    assert_eq!(state.swap_edges(3, 0, 4, 5), Ok(()));
+    assert_eq!(edges(&state), [(0, 4), (1, 2), (3, 5)]);
+    let swap = |a, b, c, d| Swap { a, b, c, d };
+    let (first, second) = (swap(0, 1, 2, 3), swap(3, 0, 4, 5));
+    assert!(state.swaps().eq([first, second]));
+    assert!(state.swaps().rev().eq([second, first]));
+    assert_eq!(state.swaps().len(), 2);
+    assert_eq!(state.log()[..10], [2, 0, 0, 1, 2, 3, 3, 0, 4, 5]);
+    assert_eq!(format!("{state:?}").matches("swaps: 2").count(), 1);
+    // The state is its log, too.
+    let without = State::from_bytes(state.journal(), state.adjacency(), before.log());
+    assert_ne!(Ok(&state), without.as_ref());
+    assert_eq!(state.undo_swap(), Ok(second));
+    assert_eq!(state.undo_swap(), Ok(first));
+    assert_eq!(state, before);
+    let refusal = state.undo_swap().unwrap_err();
+    assert_eq!((refusal.cause, refusal.places), (Cause::LogEmpty, (0, 0)));
+    for (a, b, c, d, cause) in [
+        (0, 1, 2, 6, Cause::NoSuchVertex),
+        (0, 1, 0, 1, Cause::SwapNotAllowed),
+        (0, 2, 1, 3, Cause::SwapNotAllowed),
+    ] {
+        let refusal = state.swap_edges(a, b, c, d).unwrap_err();
+        assert_eq!((refusal.cause, refusal.places), (cause, (0, 0)));
+    }
+    assert_eq!(state, before);
+}
+
+#[test]
+fn a_log_has_room_for_1024_swaps() {
+    let mut state = three_edges();
+    let before = state.clone();
+    for number in 0..MAX_SWAPS {
+        let (b, d) = if number % 2 == 0 { (1, 3) } else { (3, 1) };
+        assert_eq!(state.swap_edges(0, b, 2, d), Ok(()));
+    }
+    let refusal = state.swap_edges(0, 1, 2, 3).unwrap_err();
+    assert_eq!(refusal.cause, Cause::LogFull);
+    assert_eq!(state.swaps().len(), MAX_SWAPS);
+    let again = State::from_bytes(state.journal(), state.adjacency(), state.log());
+    assert_eq!(again.as_ref(), Ok(&state));
+    while state.undo_swap().is_ok() {}
+    assert_eq!(state, before);
+    // A count beyond all records gives all there are.
+    assert_eq!(Swaps::new(&[255; LOG_BYTES]).len(), MAX_SWAPS);
+}
+
+#[test]
+fn states_from_bytes_and_a_log() {
+    let mut state = swapped_once();
+    let from = |journal: &[u8], adjacency: &[u8], log: &[u8]| {
+        let state = State::from_bytes(journal, adjacency, log);
+        state.map_err(|refusal| refusal.cause.number())
+    };
+    let (journal, adjacency, log) = (state.journal(), state.adjacency(), state.log());
+    assert_eq!(from(journal, adjacency, log).as_ref(), Ok(&state));
+    let empty = [0; LOG_BYTES];
+    assert!(from(journal, adjacency, &empty).is_ok());
+    assert_eq!(from(journal, adjacency, &log[1..]), Err(1));
+    assert_eq!(from(journal, &adjacency[1..], log), Err(1));
+    assert_eq!(from(journal, &[0; 40_000], log), Err(2));
+    // In either phase, complete or not: all that is asked is whether the bytes are valid.
+    let taking = state_of(&[(1, 1, 6)]);
+    let (journal, adjacency) = (taking.journal(), taking.adjacency());
+    assert_eq!(from(journal, adjacency, &empty).as_ref(), Ok(&taking));
+    assert_eq!(from(journal, adjacency, log), Err(2));
+    state.remove_edge(4, 5).unwrap();
+    let (journal, adjacency) = (state.journal(), state.adjacency());
+    assert!(from(journal, adjacency, swapped_once().log()).is_ok());
+}
+
+fn swapped_once() -> State {
+    let mut state = three_edges();
+    state.swap_edges(0, 1, 2, 3).unwrap();
+    state
+}
+
+/// A drawing that is there already changes nothing; any other empties the log.
+#[test]
+fn drawings_and_swaps() {
+    let mut state = swapped_once();
+    let before = state.clone();
+    let drawn = state.draw(&[(0, 3), (1, 2), (4, 5)]).unwrap();
+    assert_eq!((drawn, &state), (Drawn::default(), &before));
+    assert!(state.draw(&[(0, 3), (0, 3)]).is_err());
+    assert_eq!(state, before);
+    state.draw(&[(0, 1), (2, 3), (4, 5)]).unwrap();
+    assert_eq!(state, three_edges());
+    let mut state = before;
+    state.clear().unwrap();
+    assert_eq!(state, State::new());
+}
+
 #[test]
 fn figures_checked_by_hand() {
     type Case = (&'static [(u8, u8, u16)], u64, (u64, u64));
@@ -672,5 +780,5 @@ fn every_cause_reads_well() {
         assert!(cause.to_string().len() > 10);
     }
     assert_eq!(Cause::from_number(0), None);
-    assert_eq!(Cause::from_number(23), None);
+    assert_eq!(Cause::from_number(26), None);
 }

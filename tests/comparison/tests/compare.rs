@@ -6,7 +6,7 @@ use comparison::both::Both;
 use comparison::count::Count;
 use comparison::jobs::{self, effort, seeds};
 use comparison::tables::{self, Start};
-use comparison::{exchange, joins, lists};
+use comparison::{exchange, joins, lists, swaps};
 use reference::graphs;
 use reference::random::Random;
 use reference::search::tables_of_all_graphs;
@@ -19,6 +19,7 @@ enum Job {
     Tables(usize, Vec<(Table, Start)>),
     RandomTable(u64, usize),
     Texts(u64, usize),
+    Swaps(u64, usize),
 }
 
 impl jobs::Job for Job {
@@ -31,6 +32,7 @@ impl jobs::Job for Job {
             Job::Tables(number, _) => format!("tables {number}"),
             Job::RandomTable(seed, _) => format!("random table {seed}"),
             Job::Texts(seed, _) => format!("texts {seed}"),
+            Job::Swaps(seed, _) => format!("swaps {seed}"),
         }
     }
 
@@ -55,6 +57,7 @@ impl jobs::Job for Job {
                 tables::run_from_part_of(&graph, &mut random, &mut both);
             }
             Job::Texts(seed, most) => exchange::run(*seed, *most, &mut both),
+            Job::Swaps(seed, most) => swaps::run(*seed, *most, &mut both),
         }
         both.count
     }
@@ -70,15 +73,18 @@ fn all_jobs() -> Vec<Job> {
     jobs.extend(seeds(30).map(|seed| Job::RandomTable(seed, 200)));
     jobs.extend(seeds(30).map(|seed| Job::List(seed, Size::Large)));
     jobs.extend(seeds(40).map(|seed| Job::Texts(seed, 200)));
+    jobs.extend(seeds(30).map(|seed| Job::Swaps(seed, 200)));
     let after = 1_000;
     jobs.extend(seeds(200).map(|seed| Job::RandomTable(seed + after, 60)));
     jobs.extend(seeds(500).map(|seed| Job::List(seed + after, Size::Medium)));
     jobs.extend(seeds(200).map(|seed| Job::Texts(seed + after, 70)));
+    jobs.extend(seeds(60).map(|seed| Job::Swaps(seed + after, 60)));
     let after = 10_000;
     jobs.extend(seeds(500).map(|seed| Job::RandomTable(seed + after, 9)));
     jobs.extend(seeds(1_500).map(|seed| Job::List(seed + after, Size::Small)));
     jobs.extend(seeds(300).map(Job::Joins));
     jobs.extend(seeds(300).map(|seed| Job::Texts(seed + after, 9)));
+    jobs.extend(seeds(200).map(|seed| Job::Swaps(seed + after, 12)));
     jobs
 }
 

@@ -2,12 +2,12 @@
 //! what is not valid, and changes nothing.
 
 use comparison::both::Both;
-use comparison::call::{on_library, Call, Completing};
+use comparison::call::{on_library, Call, Completing, Memory};
 use reference::journal::{record, slot_start};
-use reference::{refused, validity, ADJACENCY_BYTES, JOURNAL_BYTES};
+use reference::{refused, validity, ADJACENCY_BYTES, JOURNAL_BYTES, LOG_BYTES};
 
 /// A call of each entry that checks validity. On a valid state none of them is refused with 2.
-fn calls() -> [Call; 9] {
+fn calls() -> [Call; 11] {
     let (v, w) = (0, 1);
     [
         Call::TakeBlock {
@@ -18,6 +18,8 @@ fn calls() -> [Call; 9] {
         Call::LayOut,
         Call::AddEdge { v, w },
         Call::RemoveEdge { v, w },
+        Call::SwapEdges([0, 1, 2, 3]),
+        Call::UndoSwap,
         Call::Complete { output: vec![9; 8] },
         Completing::Shuffled(9).call(vec![9; 8]),
         Call::EdgeList { output: vec![9; 8] },
@@ -52,22 +54,42 @@ fn state(plan: &[usize]) -> Both {
 #[test]
 fn every_byte_of_the_matrix() {
     for both in states() {
-        let (mut journal, mut adjacency) = (both.journal, both.adjacency);
-        let before = journal.clone();
+        let mut calls = calls().map(|call| (lent(&both, &call), call));
         for place in 0..ADJACENCY_BYTES {
-            adjacency[place] = [1, 2, 128, 255][place % 4];
-            let damaged = adjacency.clone();
-            for call in calls() {
-                let mut output = call.output().to_vec();
-                let input = call.input().to_vec();
-                let numbers = on_library(&call, &mut journal, &mut adjacency, &input, &mut output);
+            for (memory, call) in &mut calls {
+                memory.adjacency[place] = [1, 2, 128, 255][place % 4];
+                let numbers = on_library(call, memory.slices());
                 assert_eq!(numbers, refused(2), "byte {place}, {call:?}");
-                assert_eq!(output, call.output(), "byte {place}, {call:?}");
+                memory.adjacency[place] = 0;
             }
-            assert!(journal == before && adjacency == damaged, "byte {place}");
-            adjacency[place] = 0;
+        }
+        assert!(calls
+            .iter()
+            .all(|(memory, call)| *memory == lent(&both, call)));
+    }
+}
+
+/// Every byte of the log must be 0 too, for the calls that are lent it.
+#[test]
+fn every_byte_of_the_log() {
+    for both in states() {
+        for call in calls().iter().filter(|call| call.entry().is_lent_log()) {
+            let before = lent(&both, call);
+            let mut memory = before.clone();
+            for place in 0..LOG_BYTES {
+                memory.log[place] = [1, 2, 4, 255][place % 4];
+                let numbers = on_library(call, memory.slices());
+                assert_eq!(numbers, refused(2), "byte {place}, {call:?}");
+                memory.log[place] = 0;
+            }
+            assert!(memory == before, "{call:?}");
         }
     }
+}
+
+/// The bytes of a state for a call.
+fn lent(both: &Both, call: &Call) -> Memory {
+    Memory::of(&both.journal, &both.adjacency, &both.log, call)
 }
 
 /// The same through the comparison, on some of the bytes and on pairs that mirror each other.

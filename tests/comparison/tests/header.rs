@@ -6,9 +6,9 @@
 
 use comparison::call::Entry;
 use replica::{
-    Cause, ADJACENCY_BYTES, JOIN_RECORD_BYTES, JOURNAL_BYTES, MAX_BLOCKS, MAX_BLOCK_BYTES,
-    MAX_CELLS, MAX_DEGREE, MAX_EDGES, MAX_GRAPH6_BYTES, MAX_PAIRS, MAX_RECORDS, MAX_VERTICES,
-    RECORD_BYTES, UNUSED,
+    Cause, ADJACENCY_BYTES, JOIN_RECORD_BYTES, JOURNAL_BYTES, LOG_BYTES, MAX_BLOCKS,
+    MAX_BLOCK_BYTES, MAX_CELLS, MAX_DEGREE, MAX_EDGES, MAX_GRAPH6_BYTES, MAX_PAIRS, MAX_RECORDS,
+    MAX_SWAPS, MAX_VERTICES, RECORD_BYTES, SWAP_RECORD_BYTES, UNUSED,
 };
 use std::collections::{BTreeMap, BTreeSet};
 
@@ -27,6 +27,9 @@ macro_rules! said {
 const CONSTANTS: &[Said] = said! {
     "JOURNAL_BYTES": JOURNAL_BYTES,
     "ADJACENCY_BYTES": ADJACENCY_BYTES,
+    "LOG_BYTES": LOG_BYTES,
+    "MAX_SWAPS": MAX_SWAPS,
+    "SWAP_RECORD_BYTES": SWAP_RECORD_BYTES,
     "MAX_BLOCK_BYTES": MAX_BLOCK_BYTES,
     "MAX_BLOCKS": MAX_BLOCKS,
     "MAX_VERTICES": MAX_VERTICES,
@@ -49,6 +52,9 @@ const COMMENTS: &[Said] = said! {
     "A block is up to # records": MAX_BLOCK_BYTES / RECORD_BYTES,
     "so at most # bytes": MAX_BLOCK_BYTES,
     "A join record is # bytes": JOIN_RECORD_BYTES,
+    "a swap record of # bytes for each": SWAP_RECORD_BYTES,
+    "from byte # a swap record": LOG_BYTES - SWAP_RECORD_BYTES * MAX_SWAPS,
+    "The log holds # swaps; there is no room": MAX_SWAPS,
     "from 63 to # byte 126": MAX_VERTICES,
     "byte v * # + w is 1": MAX_VERTICES,
     "# rows of 200": MAX_VERTICES,

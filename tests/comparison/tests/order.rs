@@ -5,7 +5,7 @@ use comparison::call::{room, Call, Completing};
 use reference::journal::record;
 use reference::numbers::Numbers;
 use reference::refused_at as refused;
-use reference::{ADJACENCY_BYTES, JOURNAL_BYTES, MAX_DEGREE};
+use reference::{ADJACENCY_BYTES, JOURNAL_BYTES, LOG_BYTES, MAX_DEGREE};
 
 const DONE: [u64; 6] = [0; 6];
 /// An edge added without a switch.
@@ -355,6 +355,8 @@ fn before_laying_out() {
     take(&mut both, 0, &[1, 1, 2, 0]);
     assert_eq!(add(&mut both, 9, 9), refused(3, 0, 0));
     assert_eq!(remove(&mut both, 9, 9), refused(3, 0, 0));
+    assert_eq!(both.call(Call::SwapEdges([9; 4])), refused(3, 0, 0));
+    assert_eq!(both.call(Call::UndoSwap), refused(3, 0, 0));
     for completing in COMPLETING {
         for length in [0, 7, 8] {
             let answer = complete_by(completing, &mut both, length);
@@ -605,32 +607,49 @@ fn lengths() {
         Call::LayOut,
         Call::AddEdge { v: 9, w: 9 },
         Call::RemoveEdge { v: 9, w: 9 },
+        Call::SwapEdges([9; 4]),
+        Call::UndoSwap,
         Call::Complete { output: vec![1; 3] },
         Completing::Shuffled(9).call(vec![1; 3]),
         Call::EdgeList { output: vec![1; 3] },
         Call::Figures,
     ];
     let lengths = [
-        (JOURNAL_BYTES - 1, ADJACENCY_BYTES),
-        (JOURNAL_BYTES + 1, ADJACENCY_BYTES),
-        (JOURNAL_BYTES, ADJACENCY_BYTES - 1),
-        (JOURNAL_BYTES, ADJACENCY_BYTES + 1),
-        (0, 0),
-        (ADJACENCY_BYTES, JOURNAL_BYTES),
+        (JOURNAL_BYTES - 1, ADJACENCY_BYTES, LOG_BYTES),
+        (JOURNAL_BYTES + 1, ADJACENCY_BYTES, LOG_BYTES),
+        (JOURNAL_BYTES, ADJACENCY_BYTES - 1, LOG_BYTES),
+        (JOURNAL_BYTES, ADJACENCY_BYTES + 1, LOG_BYTES),
+        (0, 0, 0),
+        (ADJACENCY_BYTES, JOURNAL_BYTES, LOG_BYTES),
     ];
+    // For the calls that are lent a log.
+    let log_lengths = [
+        0,
+        1,
+        2,
+        LOG_BYTES - 4,
+        LOG_BYTES - 1,
+        LOG_BYTES + 1,
+        JOURNAL_BYTES,
+    ];
+    let log_lengths = log_lengths.map(|length| (JOURNAL_BYTES, ADJACENCY_BYTES, length));
     for call in calls {
-        for (journal, adjacency) in lengths {
+        let lent_log = call.entry().is_lent_log();
+        let log_lengths = log_lengths.iter().filter(|_| lent_log);
+        for &(journal, adjacency, log) in lengths.iter().chain(log_lengths) {
             // Bytes that are valid nowhere: lengths are looked at first.
             for byte in [0, 7] {
                 let (journal, adjacency) = (vec![byte; journal], vec![byte; adjacency]);
-                let answer = both.call_on(journal, adjacency, call.clone());
+                let log = vec![byte; log];
+                let answer = both.call_on_all(journal, adjacency, log, call.clone());
                 assert_eq!(answer, refused(1, 0, 0), "{call:?}");
             }
         }
         let (journal, adjacency) = (vec![7; JOURNAL_BYTES], vec![7; ADJACENCY_BYTES]);
+        let answer = both.call_on_all(journal, adjacency, vec![7; LOG_BYTES], call.clone());
         match call {
-            Call::Clear => assert_eq!(both.call_on(journal, adjacency, call), DONE),
-            _ => assert_eq!(both.call_on(journal, adjacency, call), refused(2, 0, 0)),
+            Call::Clear => assert_eq!(answer, DONE),
+            _ => assert_eq!(answer, refused(2, 0, 0)),
         }
     }
 }
@@ -741,6 +760,8 @@ fn edges_at_isolated_vertices() {
         Call::LayOut,
         Call::AddEdge { v: 3, w: 6 },
         Call::RemoveEdge { v: 0, w: 1 },
+        Call::SwapEdges([0, 3, 1, 4]),
+        Call::UndoSwap,
         Call::Complete { output: vec![9; 8] },
         Completing::Shuffled(9).call(vec![9; 8]),
         Call::EdgeList { output: vec![9; 8] },

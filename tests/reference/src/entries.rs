@@ -1,11 +1,13 @@
-//! The thirteen entries. Each runs its checks in the order of document 01's table and writes only when
-//! all of them have passed, so that a refusal leaves every byte as it was.
+//! The fifteen entries. Each runs its checks in the order of document 01's table and writes only
+//! when all of them have passed, so that a refusal leaves every byte as it was.
 
 use crate::graphs::Graph;
+use crate::swapping::{self, Swap};
 use crate::switching::{self, Join, Switch};
 use crate::{
-    adjacency, graph6, join_record, journal, refused, refused_at, shuffling, validity, Matrix,
-    Refused, Table, ADJACENCY_BYTES, JOURNAL_BYTES, MAX_BLOCKS, MAX_DEGREE, MAX_VERTICES,
+    adjacency, graph6, join_record, journal, log, refused, refused_at, shuffling, validity, Matrix,
+    Refused, Table, ADJACENCY_BYTES, JOURNAL_BYTES, LOG_BYTES, MAX_BLOCKS, MAX_DEGREE, MAX_SWAPS,
+    MAX_VERTICES,
 };
 
 /// What taking a block answers when it is not refused.
@@ -53,24 +55,58 @@ fn check_state(journal: &[u8], adjacency: &[u8]) -> Result<(), Refused> {
     Ok(())
 }
 
-/// Checks 1, 2, and 3 for the entries that need vertices.
-fn check_laid(journal: &[u8], adjacency: &[u8]) -> Result<(), Refused> {
-    check_state(journal, adjacency)?;
+/// Check 3 for the entries that need vertices.
+fn check_phase(journal: &[u8]) -> Result<(), Refused> {
     if journal::phase(journal) != journal::LAID {
         return Err(refused(3));
     }
     Ok(())
 }
 
-/// Checks 13 and 14.
-fn check_pair(v: u64, w: u64, vertices: usize) -> Result<(usize, usize), Refused> {
-    if v >= vertices as u64 || w >= vertices as u64 {
+/// Check 1 for the entries that are lent the log.
+fn check_lengths_with_log(journal: &[u8], adjacency: &[u8], log: &[u8]) -> Result<(), Refused> {
+    check_lengths(journal, adjacency)?;
+    if log.len() != LOG_BYTES {
+        return Err(refused(1));
+    }
+    Ok(())
+}
+
+/// Checks 1, 2 and 3 for those of them that need vertices.
+fn check_laid_with_log(journal: &[u8], adjacency: &[u8], log: &[u8]) -> Result<(), Refused> {
+    check_lengths_with_log(journal, adjacency, log)?;
+    check_state(journal, adjacency)?;
+    if !validity::log_valid(journal, adjacency, log) {
+        return Err(refused(2));
+    }
+    check_phase(journal)
+}
+
+/// Check 13.
+fn check_vertices<const N: usize>(named: [u64; N], vertices: usize) -> Result<[usize; N], Refused> {
+    if named.iter().any(|&v| v >= vertices as u64) {
         return Err(refused(13));
     }
+    Ok(named.map(|v| v as usize))
+}
+
+/// Checks 13 and 14.
+fn check_pair(v: u64, w: u64, vertices: usize) -> Result<(usize, usize), Refused> {
+    let [v, w] = check_vertices([v, w], vertices)?;
     if v == w {
         return Err(refused(14));
     }
-    Ok((v as usize, w as usize))
+    Ok((v, w))
+}
+
+/// Makes the change, and empties the log if the matrix is another one then.
+fn emptying<T>(adjacency: &mut [u8], log: &mut [u8], change: impl FnOnce(&mut [u8]) -> T) -> T {
+    let before = adjacency.to_vec();
+    let made = change(adjacency);
+    if adjacency != before {
+        log.fill(0);
+    }
+    made
 }
 
 /// Check 18, and the writing. Returns the written length.
@@ -83,10 +119,11 @@ fn write(bytes: &[u8], output: &mut [u8]) -> Result<u64, Refused> {
 }
 
 /// Sets every byte to zero.
-pub fn clear(journal: &mut [u8], adjacency: &mut [u8]) -> Result<(), Refused> {
-    check_lengths(journal, adjacency)?;
+pub fn clear(journal: &mut [u8], adjacency: &mut [u8], log: &mut [u8]) -> Result<(), Refused> {
+    check_lengths_with_log(journal, adjacency, log)?;
     journal.fill(0);
     adjacency.fill(0);
+    log.fill(0);
     Ok(())
 }
 
@@ -147,10 +184,11 @@ pub fn lay_out(journal: &mut [u8], adjacency: &[u8]) -> Result<u64, Refused> {
 pub fn add_edge(
     journal: &[u8],
     adjacency: &mut [u8],
+    log: &mut [u8],
     v: u64,
     w: u64,
 ) -> Result<Vec<Switch>, Refused> {
-    check_laid(journal, adjacency)?;
+    check_laid_with_log(journal, adjacency, log)?;
     let wanted = journal::summed_table(journal);
     let degrees = wanted.degrees();
     let (v, w) = check_pair(v, w, degrees.len())?;
@@ -162,25 +200,74 @@ pub fn add_edge(
     if adjacency::counted_at(adjacency, &degrees).cell(k, l) >= wanted.matrix.cell(k, l) {
         return Err(refused_at(16, k as u64, l as u64));
     }
-    Ok(switching::join(adjacency, &degrees, v, w).switches)
+    let join = emptying(adjacency, log, |adjacency| {
+        switching::join(adjacency, &degrees, v, w)
+    });
+    Ok(join.switches)
 }
 
 /// Removes the edge between v and w.
-pub fn remove_edge(journal: &[u8], adjacency: &mut [u8], v: u64, w: u64) -> Result<(), Refused> {
-    check_laid(journal, adjacency)?;
+pub fn remove_edge(
+    journal: &[u8],
+    adjacency: &mut [u8],
+    log: &mut [u8],
+    v: u64,
+    w: u64,
+) -> Result<(), Refused> {
+    check_laid_with_log(journal, adjacency, log)?;
     let vertices = journal::summed_table(journal).vertex_count() as usize;
     let (v, w) = check_pair(v, w, vertices)?;
     if !adjacency::joined(adjacency, v, w) {
         return Err(refused(17));
     }
-    adjacency::remove(adjacency, v, w);
+    emptying(adjacency, log, |adjacency| {
+        adjacency::remove(adjacency, v, w)
+    });
+    Ok(())
+}
+
+/// Swaps the edges a-b and c-d for a-d and b-c, and writes that into the log.
+pub fn swap_edges(
+    journal: &[u8],
+    adjacency: &mut [u8],
+    log: &mut [u8],
+    named: [u64; 4],
+) -> Result<(), Refused> {
+    check_laid_with_log(journal, adjacency, log)?;
+    let degrees = journal::summed_table(journal).degrees();
+    let [a, b, c, d] = check_vertices(named, degrees.len())?;
+    let swap = Swap::new(a, b, c, d);
+    if !swapping::allowed(adjacency, &degrees, swap) {
+        return Err(refused(23));
+    }
+    if log::count(log) == MAX_SWAPS {
+        return Err(refused(24));
+    }
+    swapping::make(adjacency, swap);
+    log::push(log, swap);
+    Ok(())
+}
+
+/// Undoes the last swap of the log, and takes it out of there.
+pub fn undo_swap(journal: &[u8], adjacency: &mut [u8], log: &mut [u8]) -> Result<(), Refused> {
+    check_laid_with_log(journal, adjacency, log)?;
+    let Some(last) = log::swaps(log).pop() else {
+        return Err(refused(25));
+    };
+    swapping::make(adjacency, last.back());
+    log::pop(log);
     Ok(())
 }
 
 /// Checks 1, 2, 3 and 18: the output needs room for a record of each missing edge, those wanted less
 /// those laid. Returns the table.
-fn check_room(journal: &[u8], adjacency: &[u8], output: &[u8]) -> Result<Table, Refused> {
-    check_laid(journal, adjacency)?;
+fn check_room(
+    journal: &[u8],
+    adjacency: &[u8],
+    log: &[u8],
+    output: &[u8],
+) -> Result<Table, Refused> {
+    check_laid_with_log(journal, adjacency, log)?;
     let wanted = journal::summed_table(journal);
     let missing = wanted.matrix.edge_count() as usize - adjacency::edges(adjacency).len();
     if output.len() < join_record::LENGTH * missing {
@@ -203,10 +290,13 @@ fn write_records(joins: &[Join], output: &mut [u8]) -> Completion {
 pub fn complete(
     journal: &[u8],
     adjacency: &mut [u8],
+    log: &mut [u8],
     output: &mut [u8],
 ) -> Result<Completion, Refused> {
-    let wanted = check_room(journal, adjacency, output)?;
-    let joins = switching::complete(adjacency, &wanted);
+    let wanted = check_room(journal, adjacency, log, output)?;
+    let joins = emptying(adjacency, log, |adjacency| {
+        switching::complete(adjacency, &wanted)
+    });
     Ok(write_records(&joins, output))
 }
 
@@ -214,17 +304,21 @@ pub fn complete(
 pub fn complete_shuffled(
     journal: &[u8],
     adjacency: &mut [u8],
+    log: &mut [u8],
     x: u32,
     output: &mut [u8],
 ) -> Result<(Completion, u32), Refused> {
-    let wanted = check_room(journal, adjacency, output)?;
-    let (joins, last) = shuffling::complete(adjacency, &wanted, x);
+    let wanted = check_room(journal, adjacency, log, output)?;
+    let (joins, last) = emptying(adjacency, log, |adjacency| {
+        shuffling::complete(adjacency, &wanted, x)
+    });
     Ok((write_records(&joins, output), last))
 }
 
 /// Writes the edges, 2 bytes each. Returns the written length.
 pub fn edge_list(journal: &[u8], adjacency: &[u8], output: &mut [u8]) -> Result<u64, Refused> {
-    check_laid(journal, adjacency)?;
+    check_state(journal, adjacency)?;
+    check_phase(journal)?;
     let mut bytes = Vec::new();
     for (v, w) in adjacency::edges(adjacency) {
         bytes.push(v as u8);

@@ -1,5 +1,5 @@
-//! A second implementation of document 01 and of document 02's P1, P2, P4, P5 and P7, written from
-//! the documents alone.
+//! A second implementation of document 01 and of document 02's P1, P2, P4, P5, P7 and P8, written
+//! from the documents alone.
 //!
 //! It is meant to be read and believed, not to be fast: every call recounts everything from the
 //! bytes it is lent. It shares nothing with the library it is compared with.
@@ -8,14 +8,18 @@
 //! * [`table`]: the matrix and the isolated vertices beside it, N, test 12, the numbering
 //! * [`journal`]: blocks, records and slots
 //! * [`adjacency`]: the adjacency matrix and its counts
-//! * [`validity`]: when journal and adjacency together are a valid state
+//! * [`log`]: the log of swaps
+//! * [`validity`]: when journal and adjacency together are a valid state, and when the log lent
+//!   with them is valid
 //! * [`switching`]: the neighbour switch, adding one edge, completing
 //! * [`shuffling`]: completing by pairs that a number chooses
+//! * [`swapping`]: the swap, and undoing all of a log
 //! * [`join_record`]: the record that completing writes of a join
-//! * [`player`]: plays such records onto an adjacency matrix, knowing nothing of switching
+//! * [`player`]: plays such records, and those of a log, onto an adjacency matrix, knowing nothing
+//!   of switching
 //! * [`graph6`]: graphs as McKay's graph6, and back
-//! * [`entries`]: the thirteen entries, in document 01's order of checks
-//! * [`numbers`]: the same thirteen entries, answering with the numbers of the C interface
+//! * [`entries`]: the fifteen entries, in document 01's order of checks
+//! * [`numbers`]: the same fifteen entries, answering with the numbers of the C interface
 //! * [`program`]: what the program prints for an input
 //! * [`search`]: a second builder, by exhaustive search instead of switching; all graphs of a small
 //!   table
@@ -27,6 +31,7 @@ pub mod graph6;
 pub mod graphs;
 pub mod join_record;
 pub mod journal;
+pub mod log;
 pub mod matrix;
 pub mod numbers;
 pub mod player;
@@ -34,12 +39,14 @@ pub mod program;
 pub mod random;
 pub mod search;
 pub mod shuffling;
+pub mod swapping;
 pub mod switching;
 pub mod table;
 pub mod validity;
 
 pub use entries::*;
 pub use matrix::Matrix;
+pub use swapping::Swap;
 pub use switching::Switch;
 pub use table::Table;
 
@@ -47,6 +54,10 @@ pub use table::Table;
 pub const JOURNAL_BYTES: usize = 4162;
 /// Bytes of an adjacency matrix: 200 rows of 200 bytes.
 pub const ADJACENCY_BYTES: usize = 40_000;
+/// Bytes of a log: the count, and 1,024 records of 4 bytes.
+pub const LOG_BYTES: usize = 4098;
+/// Most swaps in a log.
+pub const MAX_SWAPS: usize = 1_024;
 /// Most blocks in a journal.
 pub const MAX_BLOCKS: usize = 64;
 /// Most bytes in a block.

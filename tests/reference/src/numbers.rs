@@ -1,4 +1,4 @@
-//! The thirteen entries answering as the C interface does: in numbers, the first 0 when the call did
+//! The fifteen entries answering as the C interface does: in numbers, the first 0 when the call did
 //! its work, else the refusal's number with its places in the second and third. Adding an edge answers
 //! with nine, all others with six.
 
@@ -82,8 +82,8 @@ fn nine(answer: Result<Vec<Switch>, Refused>) -> Nine {
     numbers
 }
 
-pub fn clear(journal: &mut [u8], adjacency: &mut [u8]) -> Six {
-    six(crate::clear(journal, adjacency).map(|()| [0; 5]))
+pub fn clear(journal: &mut [u8], adjacency: &mut [u8], log: &mut [u8]) -> Six {
+    six(crate::clear(journal, adjacency, log).map(|()| [0; 5]))
 }
 
 pub fn take_block(journal: &mut [u8], adjacency: &[u8], number: u64, block: &[u8]) -> Six {
@@ -104,26 +104,39 @@ pub fn lay_out(journal: &mut [u8], adjacency: &[u8]) -> Six {
     six(crate::lay_out(journal, adjacency).map(|vertices| [vertices, 0, 0, 0, 0]))
 }
 
-pub fn add_edge(journal: &[u8], adjacency: &mut [u8], v: u64, w: u64) -> Nine {
-    nine(crate::add_edge(journal, adjacency, v, w))
+pub fn add_edge(journal: &[u8], adjacency: &mut [u8], log: &mut [u8], v: u64, w: u64) -> Nine {
+    nine(crate::add_edge(journal, adjacency, log, v, w))
 }
 
-pub fn remove_edge(journal: &[u8], adjacency: &mut [u8], v: u64, w: u64) -> Six {
-    six(crate::remove_edge(journal, adjacency, v, w).map(|()| [0; 5]))
+pub fn remove_edge(journal: &[u8], adjacency: &mut [u8], log: &mut [u8], v: u64, w: u64) -> Six {
+    six(crate::remove_edge(journal, adjacency, log, v, w).map(|()| [0; 5]))
 }
 
-pub fn complete(journal: &[u8], adjacency: &mut [u8], output: &mut [u8]) -> Six {
-    six(crate::complete(journal, adjacency, output)
+pub fn swap_edges(journal: &[u8], adjacency: &mut [u8], log: &mut [u8], named: [u64; 4]) -> Six {
+    six(crate::swap_edges(journal, adjacency, log, named).map(|()| [0; 5]))
+}
+
+pub fn undo_swap(journal: &[u8], adjacency: &mut [u8], log: &mut [u8]) -> Six {
+    six(crate::undo_swap(journal, adjacency, log).map(|()| [0; 5]))
+}
+
+pub fn complete(journal: &[u8], adjacency: &mut [u8], log: &mut [u8], output: &mut [u8]) -> Six {
+    six(crate::complete(journal, adjacency, log, output)
         .map(|done| [done.joins, done.switches, done.written, 0, 0]))
 }
 
-pub fn complete_shuffled(journal: &[u8], adjacency: &mut [u8], x: u32, output: &mut [u8]) -> Six {
-    six(
-        crate::complete_shuffled(journal, adjacency, x, output).map(|(done, last)| {
-            let last = u64::from(last);
-            [done.joins, done.switches, done.written, last, 0]
-        }),
-    )
+pub fn complete_shuffled(
+    journal: &[u8],
+    adjacency: &mut [u8],
+    log: &mut [u8],
+    x: u32,
+    output: &mut [u8],
+) -> Six {
+    let answer = crate::complete_shuffled(journal, adjacency, log, x, output);
+    six(answer.map(|(done, last)| {
+        let last = u64::from(last);
+        [done.joins, done.switches, done.written, last, 0]
+    }))
 }
 
 pub fn edge_list(journal: &[u8], adjacency: &[u8], output: &mut [u8]) -> Six {

@@ -1,14 +1,15 @@
-//! Plays records of joins onto an adjacency matrix. It knows nothing of degrees, cells or switching:
-//! it takes edges out and puts edges in as the bytes say, and stops where that cannot be done.
+//! Plays records of joins and of swaps onto an adjacency matrix. It knows nothing of degrees, cells
+//! or switching: it takes edges out and puts edges in as the bytes say, and stops where that cannot
+//! be done.
 
 use crate::adjacency::place;
 use crate::join_record::{LENGTH, UNUSED};
-use crate::MAX_VERTICES;
+use crate::{log, MAX_VERTICES};
 
 /// What is wrong with a record.
 #[derive(Clone, Copy, Debug, PartialEq, Eq)]
 pub enum Fault {
-    /// Fewer than 8 bytes, a number that is no vertex, an edge from a vertex to itself, or a triple
+    /// A part of a record, a number that is no vertex, an edge from a vertex to itself, or a triple
     /// behind an unused one.
     Malformed,
     /// This edge is to be taken out and is not there.
@@ -26,6 +27,25 @@ pub fn play(records: &[u8], adjacency: &mut [u8]) -> Result<(), (usize, Fault)> 
     Ok(())
 }
 
+/// Plays the records of a log in the same way.
+pub fn play_swaps(records: &[u8], adjacency: &mut [u8]) -> Result<(), (usize, Fault)> {
+    for (index, record) in records.chunks(log::RECORD_BYTES).enumerate() {
+        play_swap(record, adjacency).map_err(|fault| (index, fault))?;
+    }
+    Ok(())
+}
+
+/// Edges a-b and c-d are taken out, and then a-d and b-c put in.
+fn play_swap(record: &[u8], adjacency: &mut [u8]) -> Result<(), Fault> {
+    let &[a, b, c, d] = record else {
+        return Err(Fault::Malformed);
+    };
+    take_out(adjacency, a, b)?;
+    take_out(adjacency, c, d)?;
+    put_in(adjacency, a, d)?;
+    put_in(adjacency, b, c)
+}
+
 /// The triples a, b, t first, each taking out a-t and putting in b-t; then the edge v-w is put in.
 fn play_record(record: &[u8], adjacency: &mut [u8]) -> Result<(), Fault> {
     let &[v, w, ref triples @ ..] = record else {
@@ -38,13 +58,20 @@ fn play_record(record: &[u8], adjacency: &mut [u8]) -> Result<(), Fault> {
     let used = triples.chunks(3).filter(is_used).count();
     for triple in triples.chunks(3).take(used) {
         let (a, b, t) = (triple[0], triple[1], triple[2]);
-        if !turn(adjacency, a, t, 1, 0)? {
-            return Err(Fault::Missing(a, t));
-        }
-        if !turn(adjacency, b, t, 0, 1)? {
-            return Err(Fault::Present(b, t));
-        }
+        take_out(adjacency, a, t)?;
+        put_in(adjacency, b, t)?;
     }
+    put_in(adjacency, v, w)
+}
+
+fn take_out(adjacency: &mut [u8], v: u8, w: u8) -> Result<(), Fault> {
+    match turn(adjacency, v, w, 1, 0)? {
+        true => Ok(()),
+        false => Err(Fault::Missing(v, w)),
+    }
+}
+
+fn put_in(adjacency: &mut [u8], v: u8, w: u8) -> Result<(), Fault> {
     match turn(adjacency, v, w, 0, 1)? {
         true => Ok(()),
         false => Err(Fault::Present(v, w)),

@@ -2,8 +2,8 @@
 
 use crate::graphs::Graph;
 use crate::{
-    add_edge, adjacency, complete, complete_shuffled, graph6, join_record, lay_out, take_block,
-    Refused, ADJACENCY_BYTES, MAX_BLOCK_BYTES, JOURNAL_BYTES, MAX_EDGES,
+    add_edge, adjacency, complete, complete_shuffled, graph6, join_record, lay_out, log,
+    take_block, Refused, ADJACENCY_BYTES, JOURNAL_BYTES, MAX_BLOCK_BYTES, MAX_EDGES,
 };
 
 /// What the program's arguments ask for.
@@ -120,18 +120,19 @@ pub fn lay_with(
 ) -> Result<Laid, Refused> {
     let mut journal = vec![0; JOURNAL_BYTES];
     let mut adjacency = vec![0; ADJACENCY_BYTES];
+    let mut log = log::empty();
     for (number, block) in records.chunks(MAX_BLOCK_BYTES).enumerate() {
         take_block(&mut journal, &adjacency, number as u64, block)?;
     }
     let vertices = lay_out(&mut journal, &adjacency)?;
     for &(v, w) in by_hand {
-        add_edge(&journal, &mut adjacency, v, w)?;
+        add_edge(&journal, &mut adjacency, &mut log, v, w)?;
     }
     // Room for any completion.
     let mut records = vec![0; join_record::LENGTH * MAX_EDGES];
     let done = match shuffle {
-        None => complete(&journal, &mut adjacency, &mut records)?,
-        Some(x) => complete_shuffled(&journal, &mut adjacency, x, &mut records)?.0,
+        None => complete(&journal, &mut adjacency, &mut log, &mut records)?,
+        Some(x) => complete_shuffled(&journal, &mut adjacency, &mut log, x, &mut records)?.0,
     };
     records.truncate(done.written as usize);
     Ok(Laid {

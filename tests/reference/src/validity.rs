@@ -1,6 +1,7 @@
-//! When journal and adjacency together are a valid state (document 01: a sound bench).
+//! When journal and adjacency together are a valid state (document 01: a sound bench), and when the
+//! log that is lent with them is valid too.
 
-use crate::{adjacency, journal, Matrix, Table, MAX_DEGREE};
+use crate::{adjacency, journal, log, swapping, Matrix, Table, MAX_DEGREE};
 
 /// For a journal and an adjacency matrix of the right lengths.
 pub fn valid(journal: &[u8], adjacency: &[u8]) -> bool {
@@ -12,6 +13,16 @@ pub fn valid(journal: &[u8], adjacency: &[u8]) -> bool {
     }
     let wanted = journal::summed_table(journal);
     wanted.check().is_ok() && valid_when_laid(&wanted, adjacency)
+}
+
+/// For a log of the right length, beside a valid state: an empty one is always valid, and in phase
+/// 0 no other; once laid, its swaps can be undone.
+pub fn log_valid(journal: &[u8], adjacency: &[u8], log: &[u8]) -> bool {
+    if journal::phase(journal) == journal::TAKING {
+        return log.iter().all(|&byte| byte == 0);
+    }
+    let degrees = journal::summed_table(journal).degrees();
+    log::well_formed(log) && swapping::all_undone(adjacency, &degrees, log).is_some()
 }
 
 fn valid_when_laid(wanted: &Table, adjacency: &[u8]) -> bool {

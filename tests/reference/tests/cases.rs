@@ -4,8 +4,8 @@ use reference::journal::record;
 use reference::program::{lay, output, Laid};
 use reference::{
     add_edge, adjacency, clear, complete, edge_list, figures, held_block, jdm_of_edges, lay_out,
-    refused, refused_at, remove_edge, take_block, Refused, Switch, Table, Take, ADJACENCY_BYTES,
-    JOURNAL_BYTES,
+    log, refused, refused_at, remove_edge, take_block, Refused, Switch, Table, Take,
+    ADJACENCY_BYTES, JOURNAL_BYTES, LOG_BYTES,
 };
 
 fn records(cells: &[(usize, usize, u64)]) -> Vec<u8> {
@@ -71,7 +71,7 @@ fn a_square_from_empty() {
 #[test]
 fn a_square_from_a_triangle() {
     let (journal, mut adjacency) = empty(&SQUARE);
-    let mut add = |v, w| add_edge(&journal, &mut adjacency, v, w);
+    let mut add = |v, w| add_edge(&journal, &mut adjacency, &mut log::empty(), v, w);
     for (v, w) in [(0, 1), (0, 2), (1, 2)] {
         assert_eq!(add(v, w), Ok(vec![]));
     }
@@ -145,12 +145,12 @@ fn the_diagonal_counts_twice() {
 fn the_other_named_vertex_may_take_the_edge() {
     let (journal, mut adjacency) = empty(&SQUARE);
     for (v, w) in [(0, 1), (0, 2), (1, 2)] {
-        add_edge(&journal, &mut adjacency, v, w).unwrap();
+        add_edge(&journal, &mut adjacency, &mut log::empty(), v, w).unwrap();
     }
     let switch = Switch { a: 0, b: 3, t: 1 };
     for (v, w) in [(0, 3), (3, 0)] {
         let mut adjacency = adjacency.clone();
-        let switches = add_edge(&journal, &mut adjacency, v, w);
+        let switches = add_edge(&journal, &mut adjacency, &mut log::empty(), v, w);
         assert_eq!(switches, Ok(vec![switch]));
         assert_eq!(adjacency::edges(&adjacency), SQUARE_EDGES);
     }
@@ -279,7 +279,7 @@ fn sixty_four_blocks() {
 #[test]
 fn order_of_checks_when_joining() {
     let (journal, mut adjacency) = empty(&PAPER);
-    let mut add = |v, w| add_edge(&journal, &mut adjacency, v, w);
+    let mut add = |v, w| add_edge(&journal, &mut adjacency, &mut log::empty(), v, w);
     assert_eq!(add(4, 4), Err(refused(13)));
     assert_eq!(add(0, u64::MAX), Err(refused(13)));
     assert_eq!(add(3, 3), Err(refused(14)));
@@ -287,7 +287,7 @@ fn order_of_checks_when_joining() {
     assert_eq!(add(0, 3), Err(refused(15)));
     assert_eq!(add(3, 0), Err(refused(15)));
     assert_eq!(add(2, 0), Err(refused_at(16, 1, 2)));
-    let mut remove = |v, w| remove_edge(&journal, &mut adjacency, v, w);
+    let mut remove = |v, w| remove_edge(&journal, &mut adjacency, &mut log::empty(), v, w);
     assert_eq!(remove(4, 4), Err(refused(13)));
     assert_eq!(remove(1, 1), Err(refused(14)));
     assert_eq!(remove(1, 2), Err(refused(17)));
@@ -298,9 +298,15 @@ fn order_of_checks_when_joining() {
 fn entries_that_need_vertices() {
     let journal = vec![0; JOURNAL_BYTES];
     let mut adjacency = vec![0; ADJACENCY_BYTES];
-    assert_eq!(add_edge(&journal, &mut adjacency, 0, 0), Err(refused(3)));
-    assert_eq!(remove_edge(&journal, &mut adjacency, 0, 0), Err(refused(3)));
-    let answer = complete(&journal, &mut adjacency, &mut []);
+    assert_eq!(
+        add_edge(&journal, &mut adjacency, &mut log::empty(), 0, 0),
+        Err(refused(3))
+    );
+    assert_eq!(
+        remove_edge(&journal, &mut adjacency, &mut log::empty(), 0, 0),
+        Err(refused(3))
+    );
+    let answer = complete(&journal, &mut adjacency, &mut log::empty(), &mut []);
     assert_eq!(answer, Err(refused(3)));
     assert_eq!(edge_list(&journal, &adjacency, &mut []), Err(refused(3)));
     assert_eq!(held_block(&journal, &adjacency, 0), Err(refused(6)));
@@ -352,20 +358,30 @@ fn refusals_of_edge_lists() {
 
 #[test]
 fn lengths_come_before_bytes() {
+    let journal = vec![7; JOURNAL_BYTES];
+    let adjacency = vec![7; ADJACENCY_BYTES];
+    assert_eq!(figures(&journal, &adjacency[1..]), Err(refused(1)));
+    assert_eq!(figures(&journal, &adjacency), Err(refused(2)));
+}
+
+#[test]
+fn clearing_looks_at_lengths_alone() {
     let mut journal = vec![7; JOURNAL_BYTES];
     let mut adjacency = vec![7; ADJACENCY_BYTES - 1];
-    assert_eq!(figures(&journal, &adjacency), Err(refused(1)));
-    assert_eq!(clear(&mut journal, &mut adjacency), Err(refused(1)));
+    let mut log = vec![7; LOG_BYTES];
+    let mut clear = |adjacency: &mut [u8], log: &mut [u8]| clear(&mut journal, adjacency, log);
+    assert_eq!(clear(&mut adjacency, &mut log), Err(refused(1)));
     adjacency.push(7);
-    assert_eq!(figures(&journal, &adjacency), Err(refused(2)));
-    assert_eq!(clear(&mut journal, &mut adjacency), Ok(()));
-    assert!(journal.iter().chain(&adjacency).all(|&byte| byte == 0));
+    assert_eq!(clear(&mut adjacency, &mut log[1..]), Err(refused(1)));
+    assert_eq!(clear(&mut adjacency, &mut log), Ok(()));
+    let bytes = [journal, adjacency, log].concat();
+    assert!(bytes.iter().all(|&byte| byte == 0));
 }
 
 #[test]
 fn figures_of_a_state() {
     let (journal, mut adjacency) = empty(&PAPER);
-    add_edge(&journal, &mut adjacency, 0, 3).unwrap();
+    add_edge(&journal, &mut adjacency, &mut log::empty(), 0, 3).unwrap();
     let found = figures(&journal, &adjacency).unwrap();
     let numbers = (found.phase, found.blocks, found.vertices);
     assert_eq!(numbers, (1, 1, 4));

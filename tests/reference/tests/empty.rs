@@ -4,7 +4,7 @@
 use reference::journal::summed_table;
 use reference::program::output;
 use reference::{
-    complete, figures, held_block, lay_out, refused, refused_at, take_block, Table, Take,
+    complete, figures, held_block, lay_out, log, refused, refused_at, take_block, Table, Take,
     ADJACENCY_BYTES, JOURNAL_BYTES,
 };
 
@@ -117,7 +117,7 @@ fn built(blocks: &[&[u8]]) -> (u64, Table, Vec<u8>, Vec<u8>) {
     let (mut journal, mut adjacency) = taken(blocks);
     let vertices = lay_out(&mut journal, &adjacency).unwrap();
     let mut records = vec![9; 40];
-    complete(&journal, &mut adjacency, &mut records).unwrap();
+    complete(&journal, &mut adjacency, &mut log::empty(), &mut records).unwrap();
     (vertices, summed_table(&journal), adjacency, records)
 }
 

@@ -4,8 +4,9 @@
 use reference::journal::record;
 use reference::program::{lay, output};
 use reference::{
-    add_edge, adjacency, complete, edge_list, figures, jdm_of_edges, journal, lay_out, refused,
-    refused_at, remove_edge, take_block, Refused, Table, Take, ADJACENCY_BYTES, JOURNAL_BYTES,
+    add_edge, adjacency, complete, edge_list, figures, jdm_of_edges, journal, lay_out, log,
+    refused, refused_at, remove_edge, take_block, Refused, Table, Take, ADJACENCY_BYTES,
+    JOURNAL_BYTES,
 };
 
 /// Three isolated vertices and the table of document 004.
@@ -114,7 +115,7 @@ fn isolated_vertices_are_numbered_first() {
 #[test]
 fn joining_and_removing_at_isolated_vertices() {
     let (journal, mut adjacency) = empty(&TABLE);
-    let mut add = |v, w| add_edge(&journal, &mut adjacency, v, w);
+    let mut add = |v, w| add_edge(&journal, &mut adjacency, &mut log::empty(), v, w);
     assert_eq!(add(0, 7), Err(refused(13)));
     assert_eq!(add(0, 0), Err(refused(14)));
     assert_eq!(add(0, 1), Err(refused_at(16, 0, 0)));
@@ -123,15 +124,15 @@ fn joining_and_removing_at_isolated_vertices() {
     assert_eq!(add(6, 0), Err(refused_at(16, 0, 3)));
     assert_eq!(add(3, 6), Ok(vec![]));
     assert_eq!(add(3, 6), Err(refused(15)));
-    let mut remove = |v, w| remove_edge(&journal, &mut adjacency, v, w);
+    let mut remove = |v, w| remove_edge(&journal, &mut adjacency, &mut log::empty(), v, w);
     assert_eq!(remove(0, 7), Err(refused(13)));
     assert_eq!(remove(1, 1), Err(refused(14)));
     assert_eq!(remove(0, 1), Err(refused(17)));
     assert_eq!(remove(6, 0), Err(refused(17)));
-    let done = complete(&journal, &mut adjacency, &mut [0; 24]).unwrap();
+    let done = complete(&journal, &mut adjacency, &mut log::empty(), &mut [0; 24]).unwrap();
     assert_eq!((done.joins, done.switches), (3, 0));
     assert_eq!(
-        add_edge(&journal, &mut adjacency, 1, 2),
+        add_edge(&journal, &mut adjacency, &mut log::empty(), 1, 2),
         Err(refused_at(16, 0, 0))
     );
 }
@@ -144,7 +145,7 @@ fn figures_count_them_among_the_vertices_only() {
         (found.vertices, found.edges_wanted, found.edges_laid)
     };
     assert_eq!(numbers(&adjacency), (7, 4, 0));
-    add_edge(&journal, &mut adjacency, 3, 6).unwrap();
+    add_edge(&journal, &mut adjacency, &mut log::empty(), 3, 6).unwrap();
     assert_eq!(numbers(&adjacency), (7, 4, 1));
 }
 

@@ -8,7 +8,7 @@ use reference::player::{play, Fault};
 use reference::program::lay;
 use reference::random::Random;
 use reference::{
-    add_edge, complete, figures, lay_out, refused, take_block, Completion, Switch, Table,
+    add_edge, complete, figures, lay_out, log, refused, take_block, Completion, Switch, Table,
     ADJACENCY_BYTES, JOURNAL_BYTES,
 };
 
@@ -43,7 +43,7 @@ fn completed(records: &[u8], edges: &[(usize, usize)]) -> Vec<[u8; 8]> {
     let (journal, mut adjacency) = with_edges(records, edges);
     let mut output = vec![7; 32_000];
     let mut played = adjacency.clone();
-    let done = complete(&journal, &mut adjacency, &mut output).unwrap();
+    let done = complete(&journal, &mut adjacency, &mut log::empty(), &mut output).unwrap();
     let (written, rest) = output.split_at(done.written as usize);
     assert!(rest.iter().all(|&byte| byte == 7));
     assert_eq!(play(written, &mut played), Ok(()));
@@ -93,7 +93,7 @@ fn a_square_from_a_triangle() {
     assert_eq!(completed(&SQUARE, &triangle), [[0, 3, 0, 3, 1, U, U, U]]);
     for (v, w) in [(0, 3), (3, 0)] {
         let (journal, mut adjacency) = with_edges(&SQUARE, &triangle);
-        let switches = add_edge(&journal, &mut adjacency, v, w);
+        let switches = add_edge(&journal, &mut adjacency, &mut log::empty(), v, w);
         assert_eq!(switches, Ok(vec![switch(0, 3, 1)]));
     }
 }
@@ -112,7 +112,7 @@ fn two_switches() {
     let laid = [(0, 2), (1, 3)];
     let add = |v, w| {
         let (journal, mut adjacency) = with_edges(&[1, 1, 6, 0], &laid);
-        add_edge(&journal, &mut adjacency, v, w)
+        add_edge(&journal, &mut adjacency, &mut log::empty(), v, w)
     };
     assert_eq!(add(0, 1), Ok(vec![switch(0, 4, 2), switch(1, 5, 3)]));
     assert_eq!(add(1, 0), Ok(vec![switch(1, 4, 3), switch(0, 5, 2)]));
@@ -164,13 +164,19 @@ fn room() {
         let (journal, adjacency) = with_edges(&SQUARE, &edges[..laid]);
         for length in 0..8 * missing {
             let (mut after, mut output) = (adjacency.clone(), vec![7; length]);
-            let answer = complete(&journal, &mut after, &mut output);
+            let answer = complete(&journal, &mut after, &mut log::empty(), &mut output);
             assert_eq!(answer, Err(refused(18)), "{length} bytes");
             assert!(after == adjacency && output.iter().all(|&byte| byte == 7));
         }
         for more in [0, 1, 7, 8, 9] {
             let mut output = vec![7; 8 * missing + more];
-            let done = complete(&journal, &mut adjacency.clone(), &mut output).unwrap();
+            let done = complete(
+                &journal,
+                &mut adjacency.clone(),
+                &mut log::empty(),
+                &mut output,
+            )
+            .unwrap();
             assert_eq!(done.joins as usize, missing);
             assert_eq!(done.written as usize, 8 * missing);
             assert!(output[8 * missing..].iter().all(|&byte| byte == 7));
@@ -183,7 +189,13 @@ fn room() {
 fn order_of_checks() {
     let (journal, adjacency) = empty(&SQUARE);
     let answer = |journal: &[u8], adjacency: &[u8]| {
-        complete(journal, &mut adjacency.to_vec(), &mut [0; 31]).unwrap_err()
+        complete(
+            journal,
+            &mut adjacency.to_vec(),
+            &mut log::empty(),
+            &mut [0; 31],
+        )
+        .unwrap_err()
     };
     assert_eq!(answer(&journal, &adjacency), refused(18));
     assert_eq!(answer(&journal[1..], &adjacency), refused(1));
@@ -200,7 +212,12 @@ fn order_of_checks() {
 fn the_most_records() {
     let (journal, mut adjacency) = empty(&[40, 40, 64, 31]);
     let mut output = vec![7; 32_000];
-    let short = complete(&journal, &mut adjacency, &mut output[..31_999]);
+    let short = complete(
+        &journal,
+        &mut adjacency,
+        &mut log::empty(),
+        &mut output[..31_999],
+    );
     assert_eq!(short, Err(refused(18)));
     let expected = Completion {
         joins: 4_000,
@@ -208,7 +225,7 @@ fn the_most_records() {
         written: 32_000,
     };
     let mut played = adjacency.clone();
-    let done = complete(&journal, &mut adjacency, &mut output);
+    let done = complete(&journal, &mut adjacency, &mut log::empty(), &mut output);
     assert_eq!(done, Ok(expected));
     assert_eq!(play(&output, &mut played), Ok(()));
     assert!(played == adjacency);
@@ -230,7 +247,7 @@ fn random_states_are_played() {
             let vertex = |random: &mut Random| random.below(graph.vertices()) as u64;
             let (v, w) = (vertex(&mut random), vertex(&mut random));
             let mut played = adjacency.clone();
-            if let Ok(switches) = add_edge(&journal, &mut adjacency, v, w) {
+            if let Ok(switches) = add_edge(&journal, &mut adjacency, &mut log::empty(), v, w) {
                 play(&record_by_hand(v, w, &switches), &mut played).unwrap();
                 assert!(played == adjacency, "{v}, {w}: {switches:?}");
             }
