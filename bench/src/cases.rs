@@ -1,11 +1,12 @@
 //! The calls that are measured, and the states they are made on.
 
 use comparison::call::{room, Call, Completing, Entry, Memory};
+use comparison::swaps::{any_allowed_among, swap_call};
 use reference::graphs::{self, Graph};
 use reference::journal::{self, record, LAID, TAKING};
 use reference::random::Random;
-use reference::{adjacency, graph6, Matrix, Table};
-use reference::{ADJACENCY_BYTES, MAX_BLOCK_BYTES, JOURNAL_BYTES, MAX_BLOCKS};
+use reference::{adjacency, graph6, log, swapping, Matrix, Table};
+use reference::{ADJACENCY_BYTES, JOURNAL_BYTES, MAX_BLOCKS, MAX_BLOCK_BYTES, MAX_SWAPS};
 
 const SIZES: [usize; 4] = [25, 50, 100, 200];
 
@@ -15,6 +16,7 @@ pub struct Case {
     pub call: Call,
     journal: Vec<u8>,
     adjacency: Vec<u8>,
+    log: Vec<u8>,
 }
 
 impl Case {
@@ -24,16 +26,23 @@ impl Case {
 
     /// Fresh copies of all bytes of the call.
     pub fn memory(&self) -> Memory {
-        Memory::of(&self.journal, &self.adjacency, &self.call)
+        Memory::of(&self.journal, &self.adjacency, &self.log, &self.call)
+    }
+
+    fn with_log(self, log: &[u8]) -> Case {
+        let log = log.to_vec();
+        Case { log, ..self }
     }
 }
 
+/// With an empty log.
 fn case(name: &str, call: Call, journal: Vec<u8>, adjacency: Vec<u8>) -> Case {
     Case {
         name: name.to_string(),
         call,
         journal,
         adjacency,
+        log: log::empty(),
     }
 }
 
@@ -60,6 +69,7 @@ pub fn all() -> Vec<Case> {
     for size in SIZES {
         cases.extend(edges_by_hand(size));
     }
+    cases.extend(with_swaps());
     cases.extend(blocks());
     for size in SIZES {
         cases.extend(layings_out(size));
@@ -73,12 +83,7 @@ pub fn all() -> Vec<Case> {
     let uniform = graphs::uniform(200, 4_000, &mut Random::new(4));
     cases.extend(exchanges("uniform-200", &uniform));
     cases.extend(half_isolated());
-    cases.push(case(
-        "any",
-        Call::Clear,
-        vec![1; JOURNAL_BYTES],
-        no_edges(),
-    ));
+    cases.push(case("any", Call::Clear, vec![1; JOURNAL_BYTES], no_edges()));
     cases.sort_by_key(|case| case.entry() as usize);
     cases
 }
@@ -233,6 +238,51 @@ fn edges_by_hand(size: usize) -> Vec<Case> {
             one_missing,
         ),
     ]
+}
+
+/// The state of the edges by hand at 200 vertices with so many swaps in its log, none of them at
+/// vertices 0 and 1, so that the same edges are added and removed; and a swap that can be made
+/// next.
+fn swapped(swaps: usize) -> (Vec<u8>, Vec<u8>, Vec<u8>, Call) {
+    let graph = regular(200);
+    let mut random = Random::new(5);
+    let (mut adjacency, mut log) = (graph.adjacency(), log::empty());
+    adjacency::remove(&mut adjacency, 0, 1);
+    let degrees = graph.degrees();
+    let mut next = |adjacency: &[u8]| {
+        let found = any_allowed_among(adjacency, &degrees, |v| v > 1, &mut random);
+        found.expect("a swap among 198 vertices")
+    };
+    for _ in 0..swaps {
+        let swap = next(&adjacency);
+        swapping::make(&mut adjacency, swap);
+        log::push(&mut log, swap);
+    }
+    let call = swap_call(next(&adjacency));
+    (laid(&graph.matrix()), adjacency, log, call)
+}
+
+/// Swaps and takings-back, with few swaps in the log and with one less than it holds; and adding
+/// and removing with so many.
+fn with_swaps() -> Vec<Case> {
+    let mut cases = Vec::new();
+    let mut add = |name: &str, swaps: usize, call: Option<Call>| {
+        let (journal, adjacency, log, swap) = swapped(swaps);
+        let call = call.unwrap_or(swap);
+        cases.push(case(name, call, journal, adjacency).with_log(&log));
+    };
+    let most = MAX_SWAPS - 1;
+    add("empty-200", 0, None);
+    add("swaps-200", most, None);
+    add("one-200", 1, Some(Call::UndoSwap));
+    add("swaps-200", most, Some(Call::UndoSwap));
+    add("plain-swaps-200", most, Some(Call::AddEdge { v: 0, w: 1 }));
+    add(
+        "plain-swaps-200",
+        most,
+        Some(Call::RemoveEdge { v: 0, w: 2 }),
+    );
+    cases
 }
 
 fn blocks() -> Vec<Case> {

@@ -49,32 +49,28 @@ fn list() {
 
 /// The call on the library.
 fn once(call: &Call, memory: &mut Memory) -> Numbers {
-    on_library(
-        call,
-        &mut memory.journal,
-        &mut memory.adjacency,
-        &memory.input,
-        &mut memory.output,
-    )
+    on_library(call, memory.slices())
 }
 
-/// The call on the twin, which has six of the entries.
+/// The call on the twin, which has eight of the entries.
 fn on_twin(call: &Call, memory: &mut Memory) -> Option<Numbers> {
-    let (journal, adjacency) = (&memory.journal, &mut memory.adjacency);
+    let lent = twin::Lent {
+        journal: &memory.journal,
+        adjacency: &mut memory.adjacency,
+        log: &mut memory.log,
+    };
     let (input, output) = (&memory.input, &mut memory.output);
-    Some(match *call {
-        Call::AddEdge { v, w } => Numbers::Nine(twin::twin_add_edge(journal, adjacency, v, w)),
-        Call::RemoveEdge { v, w } => Numbers::Six(twin::twin_remove_edge(journal, adjacency, v, w)),
-        Call::Complete { .. } => Numbers::Six(twin::twin_complete(journal, adjacency, output)),
-        Call::CompleteShuffled { x, .. } => {
-            Numbers::Six(twin::twin_complete_shuffled(journal, adjacency, x, output))
-        }
-        Call::Graph6Write { total, .. } => {
-            Numbers::Six(twin::twin_graph6_write(input, total, output))
-        }
-        Call::Graph6Read { .. } => Numbers::Six(twin::twin_graph6_read(input, output)),
+    Some(Numbers::Six(match *call {
+        Call::AddEdge { v, w } => return Some(Numbers::Nine(twin::twin_add_edge(lent, v, w))),
+        Call::RemoveEdge { v, w } => twin::twin_remove_edge(lent, v, w),
+        Call::SwapEdges(named) => twin::twin_swap_edges(lent, named),
+        Call::UndoSwap => twin::twin_undo_swap(lent),
+        Call::Complete { .. } => twin::twin_complete(lent, output),
+        Call::CompleteShuffled { x, .. } => twin::twin_complete_shuffled(lent, x, output),
+        Call::Graph6Write { total, .. } => twin::twin_graph6_write(input, total, output),
+        Call::Graph6Read { .. } => twin::twin_graph6_read(input, output),
         _ => return None,
-    })
+    }))
 }
 
 fn found(entry: &str, name: &str) -> Option<Case> {
@@ -108,10 +104,11 @@ fn call_once(
 mod tests {
     use super::*;
     use comparison::call::{any_output, on_reference, room, Completing};
+    use comparison::swaps::{any_allowed, any_edges, spoil, swap_call};
     use comparison::{edge_lists, exchange};
     use reference::journal::LAID;
     use reference::random::Random;
-    use reference::{adjacency, graph6, graphs};
+    use reference::{adjacency, graph6, graphs, journal, log, swapping, MAX_SWAPS};
     use std::collections::BTreeSet;
 
     /// The twin answers as the library does and leaves the same bytes.
@@ -131,8 +128,11 @@ mod tests {
         }
     }
 
-    /// A part of a random graph's edges laid, and the bytes damaged in some cases.
-    fn any_state(random: &mut Random) -> (Vec<u8>, Vec<u8>) {
+    /// The bytes of a state: journal, matrix and log.
+    type Bytes = (Vec<u8>, Vec<u8>, Vec<u8>);
+
+    /// A part of a random graph's edges laid, some swaps, and the bytes damaged in some cases.
+    fn any_state(random: &mut Random) -> Bytes {
         let most = *random.pick(&[4, 10, 60, 200]);
         let graph = graphs::any(most, random).by_rising_degree();
         let percent = random.between(0, 100);
@@ -144,7 +144,8 @@ mod tests {
         }
         let mut journal = cases::journal_of(LAID, &graph.table().records());
         let mut adjacency = part.adjacency();
-        match random.below(12) {
+        let mut log = any_log(&graph.degrees(), &mut adjacency, random);
+        match random.below(16) {
             0 => journal[random.below(200)] ^= 1 << random.below(8),
             1 => adjacency[random.below(40_000)] ^= 1 << random.below(8),
             2 => drop(adjacency.pop()),
@@ -155,9 +156,49 @@ mod tests {
                 let (v, w) = (random.below(200), random.below(graph.isolated().max(1)));
                 adjacency::insert(&mut adjacency, v, w);
             }
+            7 => drop(log.pop()),
+            8 | 9 => log = spoil(&log, graph.vertices(), random),
             _ => {}
         }
-        (journal, adjacency)
+        (journal, adjacency, log)
+    }
+
+    /// A few swaps, made on the matrix, or as many as there is room for, of which most are taken
+    /// back by the next.
+    fn any_log(degrees: &[usize], adjacency: &mut [u8], random: &mut Random) -> Vec<u8> {
+        let mut log = log::empty();
+        for _ in 0..random.below(4) {
+            let Some(swap) = any_allowed(adjacency, degrees, random) else {
+                break;
+            };
+            if random.chance(30) {
+                while log::count(&log) + 2 < MAX_SWAPS {
+                    log::push(&mut log, swap);
+                    log::push(&mut log, swap.back());
+                }
+            }
+            if log::count(&log) < MAX_SWAPS {
+                swapping::make(adjacency, swap);
+                log::push(&mut log, swap);
+            }
+        }
+        log
+    }
+
+    /// The degrees of a valid state.
+    fn degrees_of(journal: &[u8], adjacency: &[u8]) -> Option<Vec<usize>> {
+        reference::figures(journal, adjacency).ok()?;
+        Some(journal::summed_table(journal).degrees())
+    }
+
+    /// A swap of two edges, in every second case of two that can be swapped.
+    fn any_swap(adjacency: &[u8], degrees: &[usize], random: &mut Random) -> Call {
+        let found = match random.chance(50) {
+            true => any_allowed(adjacency, degrees, random),
+            false => any_edges(adjacency, random),
+        };
+        let none = Call::SwapEdges([0, 1, 2, degrees.len() as u64]);
+        found.map_or(none, swap_call)
     }
 
     /// Random states, and outputs with room for the records of completing or without: every answer is
@@ -167,22 +208,29 @@ mod tests {
         let mut random = Random::new(8);
         let mut answered = BTreeSet::new();
         for number in 0..3_000 {
-            let (journal, adjacency) = any_state(&mut random);
-            let vertices = reference::figures(&journal, &adjacency).map_or(9, |f| f.vertices);
-            let mut vertex = || random.below(vertices as usize + 2) as u64;
+            let (journal, adjacency, log) = any_state(&mut random);
+            let degrees = degrees_of(&journal, &adjacency);
+            let vertices = degrees.as_ref().map_or(9, Vec::len);
+            let mut vertex = || random.below(vertices + 2) as u64;
             let (v, w) = (vertex(), vertex());
+            let swap = match degrees {
+                Some(degrees) => any_swap(&adjacency, &degrees, &mut random),
+                None => Call::SwapEdges([0, 1, 2, 3]),
+            };
             let output = any_output(room(&journal, &adjacency), &mut random);
             for call in [
                 Call::AddEdge { v, w },
                 Call::RemoveEdge { v, w },
+                swap,
+                Call::UndoSwap,
                 Completing::any_shuffled(&mut random).call(output.clone()),
                 Completing::Lowest.call(output),
             ] {
-                let memory = Memory::of(&journal, &adjacency, &call);
+                let memory = Memory::of(&journal, &adjacency, &log, &call);
                 answered.extend(compare(&call, memory, &format!("state {number}, {call:?}")));
             }
         }
-        let refusals = [1, 2, 3, 13, 14, 15, 16, 17, 18];
+        let refusals = [1, 2, 3, 13, 14, 15, 16, 17, 18, 23, 24, 25];
         assert!([0].iter().chain(&refusals).eq(&answered), "{answered:?}");
     }
 
@@ -192,10 +240,10 @@ mod tests {
         let mut random = Random::new(10);
         let states = (0..300).map(|_| any_state(&mut random));
         let calls: Vec<_> = states
-            .map(|(journal, adjacency)| {
+            .map(|(journal, adjacency, log)| {
                 let output = vec![7; room(&journal, &adjacency) + 3];
                 let call = Call::CompleteShuffled { x: 5, output };
-                (Memory::of(&journal, &adjacency, &call), call)
+                (Memory::of(&journal, &adjacency, &log, &call), call)
             })
             .collect();
         let shuffled = |case: &Case| matches!(case.call, Call::CompleteShuffled { .. });
@@ -206,7 +254,7 @@ mod tests {
             let numbers = on_twin(&call, &mut twin);
             assert_eq!(
                 numbers,
-                Some(on_reference(&call, &mut expected)),
+                Some(on_reference(&call, expected.slices())),
                 "{call:?}"
             );
             assert!(twin == expected, "{call:?}: other bytes");
@@ -237,7 +285,7 @@ mod tests {
             };
             let output = any_output(listed, &mut random);
             for call in [write, Call::Graph6Read { text, output }] {
-                let memory = Memory::of(&[], &[], &call);
+                let memory = Memory::of(&[], &[], &[], &call);
                 answered.extend(compare(&call, memory, &format!("graph {number}, {call:?}")));
             }
         }

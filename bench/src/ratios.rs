@@ -16,16 +16,8 @@ pub fn print(cases: &[Case]) {
         "entry", "case", "library ns", "reference ns", "ratio"
     );
     for case in cases {
-        let library = time(case, |memory| {
-            on_library(
-                &case.call,
-                &mut memory.journal,
-                &mut memory.adjacency,
-                &memory.input,
-                &mut memory.output,
-            )
-        });
-        let reference = time(case, |memory| on_reference(&case.call, memory));
+        let library = time(case, |memory| on_library(&case.call, memory.slices()));
+        let reference = time(case, |memory| on_reference(&case.call, memory.slices()));
         println!(
             "{:<18}{:<16}{:>14}{:>14}{:>10.1}",
             case.entry().name(),
@@ -67,7 +59,7 @@ mod tests {
     fn no_case_is_refused() {
         for case in cases::all() {
             let mut memory = case.memory();
-            let numbers = on_reference(&case.call, &mut memory);
+            let numbers = on_reference(&case.call, memory.slices());
             assert_eq!(numbers[0], 0, "{} {}", case.entry().name(), case.name);
             if matches!(case.call, Call::AddEdge { .. }) {
                 let switches = if case.name.starts_with("plain") { 0 } else { 2 };

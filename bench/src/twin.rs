@@ -1,18 +1,26 @@
-//! add_edge, remove_edge, complete, complete_shuffled, graph6_write and graph6_read written by hand to
-//! be fast, to hold the library's instructions against. It makes the library's savings (docs/DECISIONS.md 17
-//! and 21), and what the check of a state has counted is handed on. Answers are the numbers of the
-//! C interface.
+//! The entries that may change the graph, clear apart, graph6_write and graph6_read, written by
+//! hand to be fast, to hold the library's instructions against. It makes the library's savings
+//! (docs/DECISIONS.md 17 and 21), and what the check of a state has counted is handed on. Answers
+//! are the numbers of the C interface.
 
 use reference::join_record::{self, UNUSED};
 use reference::numbers::{refusal, Nine, Six};
 use reference::{refused, refused_at, Refused};
-use reference::{MAX_BLOCK_BYTES, JOURNAL_BYTES, MAX_BLOCKS, MAX_DEGREE, MAX_VERTICES};
+use reference::{JOURNAL_BYTES, LOG_BYTES, MAX_BLOCKS, MAX_BLOCK_BYTES, MAX_DEGREE, MAX_VERTICES};
 
 mod shuffle;
+mod swap;
 
 const DEGREES: usize = MAX_DEGREE + 1;
 const SIDE: usize = MAX_VERTICES;
 const SLOT_BYTES: usize = 1 + MAX_BLOCK_BYTES;
+
+/// What these calls are lent.
+pub struct Lent<'a> {
+    pub journal: &'a [u8],
+    pub adjacency: &'a mut [u8],
+    pub log: &'a mut [u8],
+}
 
 /// The adjacency matrix, row by row.
 type Rows = [[u8; SIDE]; SIDE];
@@ -191,18 +199,29 @@ fn rows_of(adjacency: &mut [u8]) -> Option<&mut Rows> {
     rows.try_into().ok()
 }
 
+/// A laid state that is valid, its log too.
+struct Checked<'a> {
+    laid: Laid,
+    rows: &'a mut Rows,
+    log: &'a mut [u8; LOG_BYTES],
+}
+
 /// Checks 1, 2 and 3.
-fn check<'a>(journal: &[u8], adjacency: &'a mut [u8]) -> Result<(Laid, &'a mut Rows), Refused> {
-    let journal: &[u8; JOURNAL_BYTES] = journal.try_into().map_err(|_| refused(1))?;
-    let rows = rows_of(adjacency).ok_or(refused(1))?;
+fn check(lent: Lent<'_>) -> Result<Checked<'_>, Refused> {
+    let journal: &[u8; JOURNAL_BYTES] = lent.journal.try_into().map_err(|_| refused(1))?;
+    let rows = rows_of(lent.adjacency).ok_or(refused(1))?;
+    let log: &mut [u8; LOG_BYTES] = lent.log.try_into().map_err(|_| refused(1))?;
     let table = table_of(journal).ok_or(refused(2))?;
     if journal[0] == 0 {
-        let valid = all_zero(rows.as_flattened());
+        let valid = all_zero(rows.as_flattened()) && all_zero(log);
         return Err(refused(if valid { 3 } else { 2 }));
     }
     let counts = counts_of(&table).ok_or(refused(2))?;
     let laid = checked_rows(table, &counts, rows).ok_or(refused(2))?;
-    Ok((laid, rows))
+    if !swap::undoable(&laid, rows, log) {
+        return Err(refused(2));
+    }
+    Ok(Checked { laid, rows, log })
 }
 
 /// Checks 13 and 14.
@@ -339,8 +358,12 @@ fn fill_cell(
     switches
 }
 
-fn add(journal: &[u8], adjacency: &mut [u8], v: u64, w: u64) -> Result<Nine, Refused> {
-    let (mut laid, rows) = check(journal, adjacency)?;
+fn add(lent: Lent, v: u64, w: u64) -> Result<Nine, Refused> {
+    let Checked {
+        mut laid,
+        rows,
+        log,
+    } = check(lent)?;
     let (v, w) = pair_of(&laid, v, w)?;
     if rows[v][w] == 1 {
         return Err(refused(15));
@@ -352,18 +375,20 @@ fn add(journal: &[u8], adjacency: &mut [u8], v: u64, w: u64) -> Result<Nine, Ref
     let start = |laid: &Laid, vertex: usize| laid.starts[laid.classes[vertex] as usize];
     let from = (start(&laid, v), start(&laid, w));
     let switches = join(&mut laid, rows, (v, w), from);
+    swap::empty(log);
     let (made, [_, _, triples @ ..]) = told((v, w), switches);
     let [a1, b1, t1, a2, b2, t2] = triples.map(u64::from);
     Ok([0, made, 0, a1, b1, t1, a2, b2, t2])
 }
 
-fn remove(journal: &[u8], adjacency: &mut [u8], v: u64, w: u64) -> Result<Six, Refused> {
-    let (laid, rows) = check(journal, adjacency)?;
+fn remove(lent: Lent, v: u64, w: u64) -> Result<Six, Refused> {
+    let Checked { laid, rows, log } = check(lent)?;
     let (v, w) = pair_of(&laid, v, w)?;
     if rows[v][w] == 0 {
         return Err(refused(17));
     }
     set(rows, v, w, 0);
+    swap::empty(log);
     Ok([0; 6])
 }
 
@@ -373,10 +398,17 @@ fn missing_records<'a>(laid: &Laid, output: &'a mut [u8]) -> Result<&'a mut [Joi
     records.get_mut(..laid.missing()).ok_or(refused(18))
 }
 
-fn fill(journal: &[u8], adjacency: &mut [u8], output: &mut [u8]) -> Result<Six, Refused> {
-    let (mut laid, rows) = check(journal, adjacency)?;
+fn fill(lent: Lent, output: &mut [u8]) -> Result<Six, Refused> {
+    let Checked {
+        mut laid,
+        rows,
+        log,
+    } = check(lent)?;
     let mut records = missing_records(&laid, output)?;
     let missing = records.len();
+    if missing > 0 {
+        swap::empty(log);
+    }
     let mut switches = 0;
     for k in 1..DEGREES {
         for l in k..DEGREES {
@@ -518,31 +550,38 @@ fn read_graph6(text: &[u8], output: &mut [u8]) -> Result<Six, Refused> {
 
 #[no_mangle]
 #[inline(never)]
-pub fn twin_add_edge(journal: &[u8], adjacency: &mut [u8], v: u64, w: u64) -> Nine {
-    add(journal, adjacency, v, w).unwrap_or_else(refusal)
+pub fn twin_add_edge(lent: Lent, v: u64, w: u64) -> Nine {
+    add(lent, v, w).unwrap_or_else(refusal)
 }
 
 #[no_mangle]
 #[inline(never)]
-pub fn twin_remove_edge(journal: &[u8], adjacency: &mut [u8], v: u64, w: u64) -> Six {
-    remove(journal, adjacency, v, w).unwrap_or_else(refusal)
+pub fn twin_remove_edge(lent: Lent, v: u64, w: u64) -> Six {
+    remove(lent, v, w).unwrap_or_else(refusal)
 }
 
 #[no_mangle]
 #[inline(never)]
-pub fn twin_complete(journal: &[u8], adjacency: &mut [u8], output: &mut [u8]) -> Six {
-    fill(journal, adjacency, output).unwrap_or_else(refusal)
+pub fn twin_swap_edges(lent: Lent, named: [u64; 4]) -> Six {
+    swap::swap_edges(lent, named).unwrap_or_else(refusal)
 }
 
 #[no_mangle]
 #[inline(never)]
-pub fn twin_complete_shuffled(
-    journal: &[u8],
-    adjacency: &mut [u8],
-    x: u32,
-    output: &mut [u8],
-) -> Six {
-    shuffle::fill_shuffled(journal, adjacency, x, output).unwrap_or_else(refusal)
+pub fn twin_undo_swap(lent: Lent) -> Six {
+    swap::undo_swap(lent).unwrap_or_else(refusal)
+}
+
+#[no_mangle]
+#[inline(never)]
+pub fn twin_complete(lent: Lent, output: &mut [u8]) -> Six {
+    fill(lent, output).unwrap_or_else(refusal)
+}
+
+#[no_mangle]
+#[inline(never)]
+pub fn twin_complete_shuffled(lent: Lent, x: u32, output: &mut [u8]) -> Six {
+    shuffle::fill_shuffled(lent, x, output).unwrap_or_else(refusal)
 }
 
 #[no_mangle]

@@ -1,8 +1,8 @@
 //! Completing by open pairs that numbers choose: how many there are is kept row by row, so that a pair
 //! is found by its position.
 
-use super::{check, join, missing_records, told, unsaturated, Laid, Rows};
-use super::{DEGREES, SIDE};
+use super::{check, join, missing_records, swap, told, unsaturated};
+use super::{Checked, Laid, Lent, Rows, DEGREES, SIDE};
 use reference::numbers::Six;
 use reference::{join_record, Refused};
 
@@ -127,14 +127,16 @@ fn column_at(short: &[u8; SIDE], row: &[u8; SIDE], first: usize, position: u64) 
     }
 }
 
-pub fn fill_shuffled(
-    journal: &[u8],
-    adjacency: &mut [u8],
-    mut x: u32,
-    output: &mut [u8],
-) -> Result<Six, Refused> {
-    let (mut laid, rows) = check(journal, adjacency)?;
+pub fn fill_shuffled(lent: Lent, mut x: u32, output: &mut [u8]) -> Result<Six, Refused> {
+    let Checked {
+        mut laid,
+        rows,
+        log,
+    } = check(lent)?;
     let records = missing_records(&laid, output)?;
+    if !records.is_empty() {
+        swap::empty(log);
+    }
     let mut open = Open::new(&laid, rows);
     // The lowest unsaturated vertex of each class never falls.
     let mut low = laid.starts;
