@@ -243,46 +243,55 @@ fn edges_by_hand(size: usize) -> Vec<Case> {
 /// The state of the edges by hand at 200 vertices with so many swaps in its log, none of them at
 /// vertices 0 and 1, so that the same edges are added and removed; and a swap that can be made
 /// next.
-fn swapped(swaps: usize) -> (Vec<u8>, Vec<u8>, Vec<u8>, Call) {
-    let graph = regular(200);
-    let mut random = Random::new(5);
-    let (mut adjacency, mut log) = (graph.adjacency(), log::empty());
-    adjacency::remove(&mut adjacency, 0, 1);
-    let degrees = graph.degrees();
-    let mut next = |adjacency: &[u8]| {
-        let found = any_allowed_among(adjacency, &degrees, |v| v > 1, &mut random);
-        found.expect("a swap among 198 vertices")
-    };
-    for _ in 0..swaps {
-        let swap = next(&adjacency);
-        swapping::make(&mut adjacency, swap);
-        log::push(&mut log, swap);
+struct Rewired {
+    journal: Vec<u8>,
+    adjacency: Vec<u8>,
+    log: Vec<u8>,
+    next: Call,
+}
+
+impl Rewired {
+    fn new(swaps: usize) -> Rewired {
+        let graph = regular(200);
+        let mut random = Random::new(5);
+        let (mut adjacency, mut log) = (graph.adjacency(), log::empty());
+        adjacency::remove(&mut adjacency, 0, 1);
+        let degrees = graph.degrees();
+        let mut next = |adjacency: &[u8]| {
+            let found = any_allowed_among(adjacency, &degrees, |v| v > 1, &mut random);
+            found.expect("a swap among 198 vertices")
+        };
+        for _ in 0..swaps {
+            let swap = next(&adjacency);
+            swapping::make(&mut adjacency, swap);
+            log::push(&mut log, swap);
+        }
+        Rewired {
+            next: swap_call(next(&adjacency)),
+            journal: laid(&graph.matrix()),
+            adjacency,
+            log,
+        }
     }
-    let call = swap_call(next(&adjacency));
-    (laid(&graph.matrix()), adjacency, log, call)
+
+    fn case(&self, name: &str, call: &Call) -> Case {
+        let (journal, adjacency) = (self.journal.clone(), self.adjacency.clone());
+        case(name, call.clone(), journal, adjacency).with_log(&self.log)
+    }
 }
 
 /// Swaps and takings-back, with few swaps in the log and with one less than it holds; and adding
 /// and removing with so many.
 fn with_swaps() -> Vec<Case> {
-    let mut cases = Vec::new();
-    let mut add = |name: &str, swaps: usize, call: Option<Call>| {
-        let (journal, adjacency, log, swap) = swapped(swaps);
-        let call = call.unwrap_or(swap);
-        cases.push(case(name, call, journal, adjacency).with_log(&log));
-    };
-    let most = MAX_SWAPS - 1;
-    add("empty-200", 0, None);
-    add("swaps-200", most, None);
-    add("one-200", 1, Some(Call::UndoSwap));
-    add("swaps-200", most, Some(Call::UndoSwap));
-    add("plain-swaps-200", most, Some(Call::AddEdge { v: 0, w: 1 }));
-    add(
-        "plain-swaps-200",
-        most,
-        Some(Call::RemoveEdge { v: 0, w: 2 }),
-    );
-    cases
+    let [none, one, most] = [0, 1, MAX_SWAPS - 1].map(Rewired::new);
+    vec![
+        none.case("empty-200", &none.next),
+        most.case("swaps-200", &most.next),
+        one.case("one-200", &Call::UndoSwap),
+        most.case("swaps-200", &Call::UndoSwap),
+        most.case("plain-swaps-200", &Call::AddEdge { v: 0, w: 1 }),
+        most.case("plain-swaps-200", &Call::RemoveEdge { v: 0, w: 2 }),
+    ]
 }
 
 fn blocks() -> Vec<Case> {
