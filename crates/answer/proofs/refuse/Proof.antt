@@ -1,8 +1,0 @@
--- `answer::refuse` meets its contract.
--- Assumes nothing.
-use mathlib.Core.Path.{refl}
-use Rattle.answer.proofs.refuse.Statement.{statement}
-use Rattle.answer.proofs.refuse.Tie as tie
-
-pub refuse_spec : {M : Type 1} → statement M
-refuse_spec = tie.close (tie.spec (λ c. refl))  -- returns

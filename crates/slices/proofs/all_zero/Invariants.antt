@@ -1,0 +1,10 @@
+-- `slices::all_zero` meets its contract: the largest of the bytes passed is 0 where all of them are.
+use mathlib.Core.Path.{◌≡◌}
+use Prim.Native.Nat.{◌≤◌, ◌-◌}
+use lib.Dec.{eqb}
+use lib.ListN.{length, get_or}
+use Rattle.finite.specs.Range.{all_to}
+use Rattle.slices.proofs.all_zero.Given as goal
+
+abbrev pub invariant-loop-i : goal.invariant-loop-i
+invariant-loop-i l = (l.i ≤ length l.s) × (eqb l.most 0 ≡ all_to l.i (λ i. eqb (get_or l.s i 0) 0))
