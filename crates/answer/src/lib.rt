@@ -8,7 +8,7 @@ pub mod switches;
 use crate::switches::Switches;
 
 // Why a call is refused: one case for each number of document 01's table, and of document 02's where a request adds to it.
-#[derive(Drop)]
+#[derive(Clone, Copy)]
 pub enum Cause {
     WrongLength,
     InvalidState,
@@ -38,7 +38,7 @@ pub enum Cause {
 }
 
 // A cause with two places, 0 where none is named.
-#[derive(Drop)]
+#[derive(Clone, Copy)]
 pub struct Refusal {
     pub cause: Cause,
     pub first: usize,
@@ -46,20 +46,20 @@ pub struct Refusal {
 }
 
 // Whether a call may go on.
-#[derive(Drop)]
+#[derive(Clone, Copy)]
 pub enum Verdict {
     Go,
     Stop(Refusal),
 }
 
-#[derive(Drop)]
+#[derive(Clone, Copy)]
 pub enum ClearAnswer {
     Cleared,
     Refused(Refusal),
 }
 
 // Taking a block: taken, with the number of the next block; held already; or refused.
-#[derive(Drop)]
+#[derive(Clone, Copy)]
 pub enum TakeAnswer {
     Taken(usize),
     Held,
@@ -67,20 +67,20 @@ pub enum TakeAnswer {
 }
 
 // The length of a held block.
-#[derive(Drop)]
+#[derive(Clone, Copy)]
 pub enum LengthAnswer {
     Length(usize),
     Refused(Refusal),
 }
 
 // Laying out: the number of vertices.
-#[derive(Drop)]
+#[derive(Clone, Copy)]
 pub enum LayOutAnswer {
     LaidOut(usize),
     Refused(Refusal),
 }
 
-#[derive(Drop)]
+#[derive(Clone, Copy)]
 pub struct Figures {
     pub phase: usize,
     pub blocks: usize,
@@ -89,33 +89,33 @@ pub struct Figures {
     pub laid: usize,
 }
 
-#[derive(Drop)]
+#[derive(Clone, Copy)]
 pub enum FiguresAnswer {
     Reported(Figures),
     Refused(Refusal),
 }
 
 // Adding an edge: the switches made.
-#[derive(Drop)]
+#[derive(Clone, Copy)]
 pub enum AddAnswer {
     Added(Switches),
     Refused(Refusal),
 }
 
-#[derive(Drop)]
+#[derive(Clone, Copy)]
 pub enum RemoveAnswer {
     Removed,
     Refused(Refusal),
 }
 
-#[derive(Drop)]
+#[derive(Clone, Copy)]
 pub enum SwapAnswer {
     Swapped,
     Refused(Refusal),
 }
 
 // Taking the last swap back.
-#[derive(Drop)]
+#[derive(Clone, Copy)]
 pub enum UndoAnswer {
     Undone,
     Refused(Refusal),
@@ -123,35 +123,35 @@ pub enum UndoAnswer {
 
 // Which open pair completing joins next (document 01: finish): the lowest one of the lowest short cell, or the one that x picks, from this x on
 // (document 02, P7).
-#[derive(Drop)]
+#[derive(Clone, Copy)]
 pub enum Choice {
     Lowest,
     Picked(u32),
 }
 
 // Completing: the edges added, the switches made, and the written length.
-#[derive(Drop)]
+#[derive(Clone, Copy)]
 pub enum CompleteAnswer {
     Completed(usize, usize, usize),
     Refused(Refusal),
 }
 
 // Completing by shuffled choice: the same, and the last x.
-#[derive(Drop)]
+#[derive(Clone, Copy)]
 pub enum ShuffleAnswer {
     Completed(usize, usize, usize, u32),
     Refused(Refusal),
 }
 
 // Writing to an output: the written length.
-#[derive(Drop)]
+#[derive(Clone, Copy)]
 pub enum WrittenAnswer {
     Written(usize),
     Refused(Refusal),
 }
 
 // Reading a text: the written length, and the total of vertices.
-#[derive(Drop)]
+#[derive(Clone, Copy)]
 pub enum ReadAnswer {
     Read(usize, usize),
     Refused(Refusal),

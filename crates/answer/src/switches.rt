@@ -3,7 +3,7 @@ ghost use Rattle.std.specs.Prelude.{◌≡◌, ◌≤◌};
 ghost use Rattle.answer.specs.Switches.{switch_count, no_switches, first_switch, second_switch};
 
 // A neighbour switch: the edge a – t went, b – t came.
-#[derive(Drop)]
+#[derive(Clone, Copy)]
 pub struct Switch {
     pub a: usize,
     pub b: usize,
@@ -11,7 +11,7 @@ pub struct Switch {
 }
 
 // The switches of a join, in the order made. The case is their number, so no count can disagree with them.
-#[derive(Drop)]
+#[derive(Clone, Copy)]
 pub enum Switches {
     None,
     One(Switch),

@@ -19,13 +19,13 @@ use switching::End;
 use table::class::class_degree;
 
 // Where the searches in a cell go on: at a row and a column, and for an unsaturated vertex of either class.
-#[derive(Drop)]
+#[derive(Clone, Copy)]
 pub struct Cursor {
     pub at: Pair,
     pub low: Pair,
 }
 
-#[derive(Drop)]
+#[derive(Clone, Copy)]
 pub struct Step {
     pub cursor: Cursor,
     pub totals: Totals,

@@ -9,14 +9,14 @@ use adjacency::SIDE;
 use progress::Pair;
 
 // The vertices from, .., to - 1.
-#[derive(Drop)]
+#[derive(Clone, Copy)]
 pub struct Span {
     pub from: usize,
     pub to: usize,
 }
 
 // Cell (k, l): the vertices of class k, and those of class l.
-#[derive(Drop)]
+#[derive(Clone, Copy)]
 pub struct Cell {
     pub k: usize,
     pub l: usize,

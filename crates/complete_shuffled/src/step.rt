@@ -25,7 +25,7 @@ use table::class::class_degree;
 use tracking::update;
 
 // Edges added and switches made, and x.
-#[derive(Drop)]
+#[derive(Clone, Copy)]
 pub struct Shuffle {
     pub totals: Totals,
     pub x: u32,

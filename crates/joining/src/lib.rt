@@ -15,14 +15,14 @@ use switching::{End, link, neighbor_switch};
 use table::class::class_degree;
 
 // What making room at an end took: nothing, or a switch.
-#[derive(Drop)]
+#[derive(Clone, Copy)]
 pub enum Relief {
     Room,
     Switched(Switch),
 }
 
 // What making room took at both ends of a join.
-#[derive(Drop)]
+#[derive(Clone, Copy)]
 pub struct Reliefs {
     pub v: Relief,
     pub w: Relief,

@@ -156,7 +156,7 @@ pub fn vertex_count(cells: &[u32; CELLS], counts: &[usize; MAX_CLASSES]) -> usiz
 }
 
 // A class, and the first vertex past it.
-#[derive(Drop)]
+#[derive(Clone, Copy)]
 struct Run {
     class: usize,
     end: usize,

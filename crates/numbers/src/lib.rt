@@ -15,7 +15,7 @@ use table::cells::wide32;
 
 // number is 0 where the call did its work, else the refusal's number with its places in first and second. What is not named is 0.
 #[repr(C)]
-#[derive(Drop)]
+#[derive(Clone, Copy)]
 pub struct ReplicaAnswer {
     pub number: usize,
     pub first: usize,
@@ -28,7 +28,7 @@ pub struct ReplicaAnswer {
 // An added edge: number is 0, first the switches made, then the vertices a, b and t of each in the order made, 255 for a switch that was not needed;
 // else the refusal's number with its places in first and second, and 0.
 #[repr(C)]
-#[derive(Drop)]
+#[derive(Clone, Copy)]
 pub struct ReplicaJoin {
     pub number: usize,
     pub first: usize,

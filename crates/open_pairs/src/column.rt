@@ -12,7 +12,7 @@ use slices::wide;
 const LANES: usize = 16;
 
 // A column, and how many free ones are still to pass from it on.
-#[derive(Drop)]
+#[derive(Clone, Copy)]
 pub struct Column {
     pub w: usize,
     pub rest: usize,

@@ -12,7 +12,7 @@ const ROWS: usize = 8;
 pub const SUMS: usize = MAX_VERTICES / ROWS;
 
 // An entry of an array of counts, and how many of what it counts are still to pass from it on.
-#[derive(Drop)]
+#[derive(Clone, Copy)]
 pub struct Place {
     pub at: usize,
     pub rest: usize,

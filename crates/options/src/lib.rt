@@ -6,21 +6,21 @@ use answer::Choice;
 use slices::{same_bytes, wide};
 
 // How the completed graph is shown: N, its edges and the switches, then a line for each edge; or one line of graph6.
-#[derive(Drop)]
+#[derive(Clone, Copy)]
 pub enum Form {
     Lines,
     Graph6,
 }
 
 // What the arguments ask for.
-#[derive(Drop)]
+#[derive(Clone, Copy)]
 pub enum Request {
     Show(Form, Choice),
     Usage,
 }
 
 // What a word says.
-#[derive(Drop)]
+#[derive(Clone, Copy)]
 pub enum Number {
     Value(u32),
     NoNumber,

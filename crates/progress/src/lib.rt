@@ -18,21 +18,21 @@ use table::cells::CELLS;
 use table::class::MAX_CLASSES;
 
 // Two vertices.
-#[derive(Drop)]
+#[derive(Clone, Copy)]
 pub struct Pair {
     pub v: usize,
     pub w: usize,
 }
 
 // Edges added and switches made.
-#[derive(Drop)]
+#[derive(Clone, Copy)]
 pub struct Totals {
     pub joins: usize,
     pub switches: usize,
 }
 
 // How many vertices there are, and how many edges are missing.
-#[derive(Drop)]
+#[derive(Clone, Copy)]
 pub struct Start {
     pub n: usize,
     pub missing: usize,

@@ -8,7 +8,7 @@ use adjacency::{SIDE, set_edge};
 use layout::MAX_VERTICES;
 
 // The four vertices, as they are named.
-#[derive(Drop)]
+#[derive(Clone, Copy)]
 pub struct Swap {
     pub a: usize,
     pub b: usize,

@@ -21,7 +21,7 @@ use table::class::class_degree;
 const LANES: usize = 16;
 
 // An end of the edge to be: the vertex, its class, and a vertex of the class before which all but the other end are saturated.
-#[derive(Drop)]
+#[derive(Clone, Copy)]
 pub struct End {
     pub at: usize,
     pub class: usize,

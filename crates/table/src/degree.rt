@@ -3,11 +3,11 @@ ghost use Rattle.std.specs.Prelude.{◌≡◌, leb};
 ghost use Rattle.table.specs.Block.{made_degree};
 
 // The field is private: from_byte is the only way to make one.
-#[derive(Drop)]
+#[derive(Clone, Copy)]
 pub struct Degree(u8);
 
 // A degree made from a record byte, or none.
-#[derive(Drop)]
+#[derive(Clone, Copy)]
 pub enum MadeDegree {
     Made(Degree),
     OutOfRange,
