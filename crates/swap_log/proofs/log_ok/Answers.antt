@@ -1,5 +1,6 @@
 -- `swap_log::log_ok` meets its contract.
 use mathlib.Core.Path.{refl, sym, ap, ◌∙◌}
+use mathlib.Core.Bool.{not}
 use native.Mathlib.Omega.{arith}
 use Rattle.graph.specs.Tests.{vertex_class}
 use Rattle.slices.proofs.PartSum.{rest}
@@ -16,7 +17,7 @@ returns-then-m-eq0 c =
     let a = c.args in
     let cls = vertex_class (table_in a.cells.now (count_in a.counts.now 0)) in
     let zero = rw rest at c.all_zero.ensures in
-    let checked = by_records a.n cls a.adjacency.now a.log.now e.2 e.0 (omega arith) zero c.if-not-all_zero.false in
+    let checked = by_records a.n cls a.adjacency.now a.log.now e.2 e.0 (omega arith) zero (ap not c.if-not-all_zero.false) in
     record { value = sym (checked ∙ rw (c.if-m-eq0.true, undo-none)); adjacency_unchanged = refl }
 
 pub returns : goal.returns
@@ -27,5 +28,5 @@ returns c =
     let zero = rw rest at c.all_zero.ensures in
     let same = class-at t (omega arith) c.requires.4 c.classes-c.ensures in
     let undone = undo-same a.n (class_in c.classes-c.result) a.log.now (vertex_class t) same c.swap_count-m.result a.adjacency.now in
-    let checked = by_records a.n (vertex_class t) a.adjacency.now a.log.now e.2 e.0 (omega arith) zero c.if-not-all_zero.false in
+    let checked = by_records a.n (vertex_class t) a.adjacency.now a.log.now e.2 e.0 (omega arith) zero (ap not c.if-not-all_zero.false) in
     record { value = c.undoable.ensures.value ∙ ap (λ (o : Undone). o.legal) undone ∙ sym checked; adjacency_unchanged = c.undoable.ensures.adjacency_unchanged }
