@@ -10,8 +10,8 @@ use Rattle.loan.proofs.open_loan.Goals as goal
 pub log_ok-requires : goal.log_ok-requires
 log_ok-requires c =
     let e = c.if-not-open.false in
-    let o = c.«open».ensures.1 e in
-    let l = laid-facts (state_of c.args.journal.now c.args.adjacency.now) c.requires.0.journal-ok (sym c.«open».ensures.0 ∙ e) in
+    let o = c.«open».ensures.opened e in
+    let l = laid-facts (state_of c.args.journal.now c.args.adjacency.now) c.requires.0.journal-ok (sym c.«open».ensures.value ∙ e) in
     let same = c.vertex_count-n.ensures ∙ ap vertices o.said in (
     rw same (record { sized = c.requires.0.adjacency_length; few = l.vertices-le; simple = l.partial.simple; outside = l.outside }),
     c.requires.1,
