@@ -1,11 +1,15 @@
 // The tables of document 01 that are not starred, its wrong turns, figures to check by hand, and blocks read back.
+#![tactic(auto)]
+
 mod read_back;
 mod tables;
 
-fn main() {
-    tables::sizes();
-    tables::small();
-    tables::sum_over_blocks();
-    tables::inputs();
-    read_back::parts();
+use std::io;
+
+fn main(rt: HostRuntime) -> io::Result<()> {
+    tables::sizes(&rt)?;
+    tables::small(&rt)?;
+    tables::sum_over_blocks(&rt)?;
+    tables::inputs(&rt)?;
+    read_back::parts(&rt)
 }

@@ -4,52 +4,52 @@ use answer::LengthAnswer;
 use held_block::{held_block, held_block_length};
 use journal::JOURNAL_BYTES;
 use lay_out::lay_out;
-use libc::STDOUT_FILENO;
+use std::io;
 use take_block::take_block;
 
 // An empty part is a block of no bytes, or there is none: the companion tells.
-fn tell_empty(journal: &[u8], adjacency: &[u8], number: usize) {
+fn tell_empty(rt: &impl Print, journal: &[u8], adjacency: &[u8], number: usize) -> io::Result<()> {
     match held_block_length(journal, adjacency, number) {
-        LengthAnswer::Length(_) => {
-            io::write_all(STDOUT_FILENO, b" empty\n");
-        }
-        LengthAnswer::Refused(_) => {
-            io::write_all(STDOUT_FILENO, b" none\n");
-        }
+        LengthAnswer::Length(_) => rt.print(" empty\n"),
+        LengthAnswer::Refused(_) => rt.print(" none\n"),
     }
 }
 
 // The part of the journal for a number, against the block sent under it.
-fn compare<'a>(journal: &'a [u8], adjacency: &'a [u8], number: usize, block: &[u8]) {
+fn compare<'a>(
+    rt: &impl Print,
+    journal: &'a [u8],
+    adjacency: &'a [u8],
+    number: usize,
+    block: &[u8],
+) -> io::Result<()> {
     let part = held_block(journal, adjacency, number);
-    io::write_all(STDOUT_FILENO, b"part ");
-    io::print_decimal(STDOUT_FILENO, number as u64);
+    print!(rt; "part {number}")?;
     if part.len() == 0 {
-        tell_empty(journal, adjacency, number);
-        return;
+        return tell_empty(rt, journal, adjacency, number);
     }
     if slices::same_bytes(part, block) {
-        io::write_all(STDOUT_FILENO, b" same\n");
-        return;
+        return rt.print(" same\n");
     }
-    io::write_all(STDOUT_FILENO, b" other\n");
+    rt.print(" other\n")
 }
 
 // Four blocks of different lengths and bytes, the last without any, and a number that none was sent under.
-fn compare_all<'a>(journal: &'a [u8], adjacency: &'a [u8]) {
-    compare(journal, adjacency, 0, &[1u8, 3, 1, 0]);
-    compare(journal, adjacency, 1, &[2u8, 2, 2, 0, 2, 3, 1, 0]);
+fn compare_all<'a>(rt: &impl Print, journal: &'a [u8], adjacency: &'a [u8]) -> io::Result<()> {
+    compare(rt, journal, adjacency, 0, &[1u8, 3, 1, 0])?;
+    compare(rt, journal, adjacency, 1, &[2u8, 2, 2, 0, 2, 3, 1, 0])?;
     compare(
+        rt,
         journal,
         adjacency,
         2,
         &[2u8, 3, 1, 0, 1, 1, 0, 0, 2, 2, 0, 0],
-    );
-    compare(journal, adjacency, 3, &[]);
-    compare(journal, adjacency, 4, &[]);
+    )?;
+    compare(rt, journal, adjacency, 3, &[])?;
+    compare(rt, journal, adjacency, 4, &[])
 }
 
-pub fn parts() {
+pub fn parts(rt: &impl Print) -> io::Result<()> {
     let mut journal = [0u8; JOURNAL_BYTES];
     let adjacency = [0u8; ADJACENCY_BYTES];
     take_block(&mut journal, &adjacency, 0, &[1u8, 3, 1, 0]);
@@ -61,9 +61,9 @@ pub fn parts() {
         &[2u8, 3, 1, 0, 1, 1, 0, 0, 2, 2, 0, 0],
     );
     take_block(&mut journal, &adjacency, 3, &[]);
-    io::write_all(STDOUT_FILENO, b"four blocks, read back\n");
-    compare_all(&journal, &adjacency);
+    rt.print("four blocks, read back\n")?;
+    compare_all(rt, &journal, &adjacency)?;
     lay_out(&mut journal, &adjacency);
-    io::write_all(STDOUT_FILENO, b"and after laying out\n");
-    compare_all(&journal, &adjacency);
+    rt.print("and after laying out\n")?;
+    compare_all(rt, &journal, &adjacency)
 }

@@ -1,4 +1,6 @@
 // What the program's arguments ask for.
+#![tactic(auto)]
+
 ghost use Rattle.std.specs.Prelude.{◌≡◌, ◌-◌};
 ghost use Rattle.options.specs.Options.{is_digit, word_number, shuffled_by, one_word, two_words, three_words, request_of};
 

@@ -19,7 +19,6 @@ use complete_shuffled::complete_shuffled;
 use input_blocks::take_all;
 use join_records::JOIN_RECORD_BYTES;
 use journal::JOURNAL_BYTES;
-use libc::STDOUT_FILENO;
 use options::Form;
 use state_text::{MAX_LIST_BYTES, MAX_TEXT_BYTES, put_state_text};
 use swap_log::LOG_BYTES;
@@ -121,9 +120,9 @@ pub fn program_text(
     }
 }
 
-// Prints the lines for an input, completed by the lowest open pairs.
-pub fn run(input: &[u8]) -> bool {
+// Prints the lines for an input, completed by the lowest open pairs. Whether they were written.
+pub fn run(rt: &impl Print, input: &[u8]) -> bool {
     let mut output = [0u8; MAX_TEXT_BYTES];
     let len = program_text(Form::Lines, Choice::Lowest, input, &mut output);
-    io::write_all(STDOUT_FILENO, &output[..len])
+    rt.write_all(&output[..len]).is_ok()
 }

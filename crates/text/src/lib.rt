@@ -1,4 +1,6 @@
 // The program's lines, written into a lent output from a place on. Each answers the place behind what it wrote.
+#![tactic(auto)]
+
 ghost use Rattle.std.specs.Prelude.{◌≡◌, ◌+◌, ◌≤◌, length};
 ghost use Rattle.std.proofs.lemmas.List.Edits.{sets};
 ghost use Rattle.text.specs.Text.{decimal_most, decimal, field, refused_line, head_line, edge_line, edge_lines, head_most};
