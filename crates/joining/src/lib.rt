@@ -1,5 +1,7 @@
 // Joining two vertices of the adjacency matrix, with at most two neighbour switches. The degrees that the vertices have so far
 // stand beside the matrix.
+#![tactic(auto)]
+
 ghost use Rattle.std.specs.Prelude.{◌≡◌};
 ghost use Rattle.adjacency.specs.Inner.Degrees.{degrees_of};
 ghost use Rattle.join_bytes.specs.Join.{relieve_bytes, join_bytes, join_switches};

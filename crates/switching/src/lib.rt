@@ -1,5 +1,7 @@
 // The neighbour switch, its two searches, and the edges that it moves. Beside the matrix stand the degrees that the vertices
 // have so far.
+#![tactic(auto)]
+
 ghost use Rattle.std.specs.Prelude.{◌≡◌, false, ℕ, ◌+◌, ◌*◌, ◌≤◌, ◌<◌, leb, length, get_or};
 ghost use Rattle.finite.specs.Range.{all_to};
 ghost use Rattle.graph.specs.Switch.{unsaturated, can_transfer, transfer};
