@@ -1,4 +1,6 @@
 // Document 01's numbers of each answer, in the struct that the C interface hands back.
+#![tactic(auto)]
+
 ghost use Rattle.std.specs.Prelude.{◌≡◌, ℕ, ◌<◌};
 ghost use Rattle.answer.specs.Numbers.{refused, clear_numbers, take_numbers, lay_out_numbers, figures_numbers, add_numbers, remove_numbers, swap_numbers, undo_numbers, complete_numbers, shuffle_numbers, written_numbers, read_numbers};
 ghost use Rattle.table.specs.Block.{most_blocks};
