@@ -35,14 +35,14 @@ returns c =
     let e = c.open_pair-pair.ensures in
     let ex = rw c.class_degree.ensures at c.advance-v.ensures in
     let ey = rw c.class_degree-2.ensures at c.advance-w.ensures in
-    let wrote = (c.record_join-sum.ensures.value, c.record_join-sum.ensures.output_after) in
     let made = c.both_reliefs-made.ensures ∙ c.join-done.ensures.w_value.0 in
     let freed = c.cut_off.ensures ∙ c.join-done.ensures.w_value.1 in
-    let both = rw wrote.0.0 (
-    (
-    step_ran c.requires.0 _ _ e.0 e.1 made _ _ _ refl refl wrote.1 c.join-done.ensures.adjacency_after.0,
-    step_resumes c.requires.0 _ _ e.0 e.1 _ _ ex ey _ _ _ c.join-done.ensures.adjacency_after.0 freed c.least-next.ensures,
-    ),
-    (rw wrote.0.0 at wrote.0.1, rw c.join-done.ensures.adjacency_after.0 c.join-done.ensures.adjacency_after.1),
-    ) in
-    record { totals_after = both.0; wrote_records = both.1; degrees_after = both.2 }
+    record {
+      totals_after =
+          rw c.record_join-sum.ensures.value.0 (
+          step_ran c.requires.0 _ _ e.0 e.1 made _ _ _ refl refl c.record_join-sum.ensures.output_after c.join-done.ensures.adjacency_after,
+          step_resumes c.requires.0 _ _ e.0 e.1 _ _ ex ey _ _ _ c.join-done.ensures.adjacency_after freed c.least-next.ensures,
+          );
+      wrote_records = c.record_join-sum.ensures.value.1;
+      degrees_after = rw c.join-done.ensures.adjacency_after c.join-done.ensures.degrees_after;
+    }

@@ -30,7 +30,7 @@ loop-preserved c =
     omega (arith, c.loop.invariant.0),
     fold_to-after (λ i. cell_step a.n (class_from a.starts.now) a.cell.k a.cell.l)
     _ c.loop.counter _ _ c.loop.invariant.1 c.cell_step-step.ensures.totals_after.0,
-    c.cell_step-step.ensures.wrote_records.1,
+    c.cell_step-step.ensures.degrees_after,
     c.cell_step-step.ensures.totals_after.1,
-    wrote_then c.loop.invariant.4 c.cell_step-step.ensures.wrote_records.0,
+    wrote_then c.loop.invariant.4 c.cell_step-step.ensures.wrote_records,
     )
