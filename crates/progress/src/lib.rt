@@ -1,5 +1,7 @@
 // The progress of completing, whichever pairs it joins: what is missing at its beginning, where the search for an unsaturated vertex goes on, and the
 // record and the totals of each join; and what becomes of the log.
+#![tactic(auto)]
+
 ghost use Rattle.std.specs.Prelude.{◌≡◌, true, ◌*◌, ◌≤◌, ltb, length, get_or};
 ghost use Rattle.std.proofs.lemmas.List.Edits.{sets};
 ghost use Rattle.finite.specs.Range.{lowest};
