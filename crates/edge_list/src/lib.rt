@@ -1,4 +1,6 @@
 // Listing the edges (document 01: list).
+#![tactic(auto)]
+
 ghost use Rattle.std.specs.Prelude.{◌≡◌, ◌≤◌, length};
 ghost use Rattle.std.proofs.lemmas.List.Edits.{sets};
 ghost use Rattle.answer.specs.declared.Verdict.TheVariants.{Go};

@@ -1,4 +1,6 @@
 // Figures.
+#![tactic(auto)]
+
 ghost use Rattle.std.specs.Prelude.{◌≡◌, false};
 ghost use Rattle.answer.specs.declared.Verdict.TheVariants.{Go};
 ghost use Rattle.journal.specs.Journal.{phase_laid, phase};

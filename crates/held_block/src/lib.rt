@@ -1,4 +1,6 @@
 // Reading a held block back.
+#![tactic(auto)]
+
 ghost use Rattle.std.specs.Prelude.{◌≡◌};
 ghost use Rattle.slices.specs.Slices.{further};
 ghost use Rattle.state.specs.State.{state_of};

@@ -1,4 +1,6 @@
 // Laying out.
+#![tactic(auto)]
+
 ghost use Rattle.std.specs.Prelude.{◌≡◌, true, length};
 ghost use Rattle.graph.specs.Tests.{vertices};
 ghost use Rattle.layout.specs.Layout.{layout_verdict};

@@ -1,4 +1,6 @@
 // Taking a block.
+#![tactic(auto)]
+
 ghost use Rattle.std.specs.Prelude.{◌≡◌, true, ◌<◌, length};
 ghost use Rattle.journal.specs.Journal.{journal_size, blocks, journal_ok};
 ghost use Rattle.state.specs.State.{state_of};
