@@ -1,4 +1,6 @@
 // Filling one cell: its lowest open pair is joined, as often as it misses an edge.
+#![tactic(auto)]
+
 ghost use Rattle.std.specs.Prelude.{◌≡◌, length};
 ghost use Rattle.finite.specs.Range.{fold_to};
 ghost use Rattle.adjacency.specs.Inner.Degrees.{degrees_of};

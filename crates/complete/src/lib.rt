@@ -1,5 +1,7 @@
 // Completing (document 01: finish): the checks 1, 2, 3 and 18, then cell by cell each cell gets the joins that it misses; for each join a record
 // is written.
+#![tactic(auto)]
+
 ghost use Rattle.std.specs.Prelude.{◌≡◌, length};
 ghost use Rattle.answer.specs.declared.Verdict.TheVariants.{Go};
 ghost use Rattle.journal.specs.Journal.{phase_laid};

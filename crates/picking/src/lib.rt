@@ -1,4 +1,6 @@
 // Picking: x steps, and names an open pair by its position.
+#![tactic(auto)]
+
 ghost use Rattle.std.specs.Prelude.{◌≡◌, ◌*◌, ◌%◌, ◌<◌};
 ghost use Rattle.shuffled_completion.specs.Choice.{next_x, open_count, pair_v, pair_w, position};
 ghost use Rattle.table.specs.Inner.Cells.{matrix_of};

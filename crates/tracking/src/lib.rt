@@ -1,5 +1,7 @@
 // What is kept beside the matrix so that the open pairs need not be counted again for each join: how much each cell has, flags of the full ones,
 // the open pairs of each row, and sums of these.
+#![tactic(auto)]
+
 ghost use Rattle.std.specs.Prelude.{◌≡◌, ◌+◌, ◌≤◌, ◌<◌, replicate};
 ghost use Rattle.graph.specs.Tests.{most_classes};
 ghost use Rattle.table.specs.Inner.Cells.{cells_size, matrix_of};

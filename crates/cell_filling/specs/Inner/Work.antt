@@ -1,6 +1,6 @@
 -- What the filling of a cell keeps from join to join, and what it may rely on.
 -- Assumes nothing.
-use Rattle.std.specs.Prelude.{◌≡◌, List, ℕ, ◌+◌, ◌-◌, ◌≤◌, get_or}
+use Rattle.std.specs.Prelude.{◌≡◌, List, ℕ, ◌+◌, ◌≤◌, get_or}
 use Rattle.graph.specs.Target.{Short}
 use Rattle.adjacency.specs.Adjacency.{edge}
 use Rattle.adjacency.specs.Inner.Degrees.{degrees_of}
