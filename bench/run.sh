@@ -2,7 +2,7 @@
 # Prints the instructions that one call of each entry takes, counted by callgrind: those of the
 # library, those of the twin written by hand where there is one, and how many times as many.
 #   run.sh [ENTRY [CASE]]
-# The library is looked for as the Rust crate does: REPLICA_LIB_DIR, else target/staticlib.
+# The library is looked for as the Rust crate does: REPLICA_LIB_DIR, else crates/capi/out.
 set -eu
 cd "$(dirname "$0")/.."
 cargo build --release --quiet --package bench

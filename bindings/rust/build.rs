@@ -1,14 +1,14 @@
 //! Links the proved library statically.
 //!
 //! REPLICA_LIB_DIR names the folder of an installed libreplica.a, an absolute path; without it the
-//! archive is the repository's own, target/staticlib/libcapi.a.
+//! archive is the repository's own, crates/capi/out/libcapi.a.
 
 use std::env;
 use std::path::{Path, PathBuf};
 use std::process::exit;
 
 const VARIABLE: &str = "REPLICA_LIB_DIR";
-const OWN_FOLDER: &str = "../../target/staticlib";
+const OWN_FOLDER: &str = "../../crates/capi/out";
 
 fn main() {
     println!("cargo:rerun-if-env-changed={VARIABLE}");
@@ -20,7 +20,7 @@ fn main() {
     println!("cargo:rerun-if-changed={}", archive.display());
     if !archive.is_file() {
         fail(&format!(
-            "{} is not there: run `rt staticlib capi` at the top of the repository, \
+            "{} is not there: run `rt lib` in the repository's crates/capi, \
              or set {VARIABLE} to the folder of an installed libreplica.a",
             archive.display()
         ));

@@ -1,4 +1,6 @@
 // Taking the last swap back (document 02, P8).
+#![tactic(auto)]
+
 ghost use Rattle.std.specs.Prelude.{◌≡◌};
 ghost use Rattle.answer.specs.declared.Verdict.TheVariants.{Go};
 ghost use Rattle.loan.specs.Loan.{loan_of};

@@ -8,13 +8,13 @@ use std::time::{Duration, Instant};
 /// No input takes longer than a fraction of this.
 const MAX_TIME: Duration = Duration::from_secs(30);
 
-/// The program that `rt check replica` builds, or the one that REPLICA_PROGRAM names.
+/// The program that `rt run` in crates/replica builds, as rt ci does, or the one that REPLICA_PROGRAM names.
 pub fn program() -> Command {
-    let own = concat!(env!("CARGO_MANIFEST_DIR"), "/../../target/bin/replica");
+    let own = concat!(env!("CARGO_MANIFEST_DIR"), "/../../crates/replica/out/replica");
     let program = PathBuf::from(std::env::var_os("REPLICA_PROGRAM").unwrap_or(own.into()));
     assert!(
         program.is_file(),
-        "{} is not there: run `rt check replica`, or name a program in REPLICA_PROGRAM",
+        "{} is not there: run `rt run` in crates/replica, or name a program in REPLICA_PROGRAM",
         program.display()
     );
     Command::new(program)
