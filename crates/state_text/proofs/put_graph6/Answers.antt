@@ -22,5 +22,5 @@ returns-in-Written c =
     let w = c.graph6_write-answer in
     record {
       value = line_length a.edges.now a.n a.output.now c.requires.0 c.requires.1 _ _ (w.ensures.value, w.ensures.output_after) _ c.in-Written.is;
-      output_after = c.put.ensures ∙ line_written a.edges.now a.n a.output.now c.requires.0 c.requires.1 _ _ (w.ensures.value, w.ensures.output_after) _ c.in-Written.is
+      output_after = c.put.ensures ∙ line_written a.edges.now a.n a.output.now c.requires.0 c.requires.1 _ _ (w.ensures.value, w.ensures.output_after) _ c.in-Written.is;
     }

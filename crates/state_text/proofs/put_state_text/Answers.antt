@@ -11,10 +11,11 @@ put_state_list-len-requires c = (c.requires.0, rw length-replicate (omega arith)
 pub put_list_text-requires : goal.put_list_text-requires
 put_list_text-requires c =
     let a = c.args in
-    rw (c.put_state_list-len.ensures.list_after, c.requires.1)
-    (passes (state_of a.journal.now a.adjacency.now) c.requires.0,
-    c.requires.2,
-    omega (arith, lines_fit (state_of a.journal.now a.adjacency.now) c.requires.0, c.requires.2))
+    rw (c.put_state_list-len.ensures.list_after, c.requires.1) (
+      passes (state_of a.journal.now a.adjacency.now) c.requires.0,
+      c.requires.2,
+      omega (arith, lines_fit (state_of a.journal.now a.adjacency.now) c.requires.0, c.requires.2),
+    )
 
 pub returns-clause-value : goal.returns-clause-value
 returns-clause-value c = rw c.put_state_list-len.ensures.list_after at c.put_list_text.ensures.value
