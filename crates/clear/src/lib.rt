@@ -1,4 +1,6 @@
 // Clearing.
+#![tactic(auto)]
+
 ghost use Rattle.std.specs.Prelude.{◌≡◌};
 ghost use Rattle.loan.specs.Loan.{loan_of};
 ghost use Rattle.clear.specs.Clear.{clear_answer, clear_after};
