@@ -7,7 +7,7 @@ use native.Mathlib.Numerals.{add-one}
 use native.Mathlib.Decide.{dec_lt}
 use native.Mathlib.Omega.{arith}
 use lib.ListN.{length, take, drop, length-take}
-use lib.Seq.{take_all, get_or-take, ext_get_or}
+use lib.Seq.{take_all as whole_taken, get_or-take, ext_get_or}
 use Rattle.finite.proofs.Fold.{fold_to-none, fold_to-more}
 use Rattle.answer.specs.declared.Verdict.{Verdict}
 use Rattle.answer.specs.declared.Verdict.TheVariants.{Go, Stop}
@@ -68,4 +68,4 @@ takes_enough s input = go (dec_lt input_most (length input))
   where
     go : Dec (input_most < length input) → take_all s input ≡ take_all s (take input_most input)
     go (yes h) = same-all s input h
-    go (no h) = ap (take_all s) (sym (take_all input_most input (omega arith)))
+    go (no h) = ap (take_all s) (sym (whole_taken input_most input (omega arith)))

@@ -7,7 +7,7 @@ use native.Mathlib.Nat.{add-zero}
 use native.Mathlib.Decide.{dec_lt}
 use native.Mathlib.Omega.{arith}
 use lib.ListN.{length, take, drop, length-drop}
-use lib.Seq.{take_all}
+use lib.Seq.{take_all as whole_taken}
 use Rattle.finite.specs.Range.{fold_to}
 use Rattle.finite.proofs.Fold.{fold_to-more, fold_to-keeps}
 use Rattle.answer.specs.declared.Refusal.{Refusal}
@@ -32,8 +32,8 @@ pub rest_block : (input : List ℕ) (i : ℕ) → length input - block_most * i 
     → take (length input - block_most * i) (drop (block_most * i) input) ≡ block_in input i
 rest_block input i h =
     let e = length-drop (block_most * i) input in
-    take_all (length input - block_most * i) (drop (block_most * i) input) (omega (arith, e))
-    ∙ sym (take_all block_most (drop (block_most * i) input) (omega (arith, e)))
+    whole_taken (length input - block_most * i) (drop (block_most * i) input) (omega (arith, e))
+    ∙ sym (whole_taken block_most (drop (block_most * i) input) (omega (arith, e)))
 
 -- taking leaves the matrix
 take-matrix : (s : State) (i : ℕ) (b : List ℕ) → take_after s i b ≡ with_journal s (take_after s i b).journal

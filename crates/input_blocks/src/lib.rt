@@ -1,4 +1,6 @@
 // The blocks of the program's input: cut from it, and taken one after the other.
+#![tactic(auto)]
+
 ghost use Rattle.std.specs.Prelude.{◌≡◌, ◌+◌, ◌-◌, ◌*◌, ◌/◌, ◌≤◌, eqb, length};
 ghost use Rattle.table.specs.Block.{block_most};
 ghost use Rattle.state.specs.State.{state_of};

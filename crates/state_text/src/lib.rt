@@ -1,4 +1,6 @@
 // The text of a completed state, in the form asked for: a first line and a line for each edge, or one line of graph6.
+#![tactic(auto)]
+
 ghost use Rattle.std.specs.Prelude.{◌≡◌, ◌++◌, ◌+◌, ◌*◌, ◌/◌, ◌≤◌, length, take};
 ghost use Rattle.std.proofs.lemmas.List.Edits.{sets};
 ghost use Rattle.answer.specs.declared.Verdict.TheVariants.{Go};
