@@ -2,13 +2,23 @@
 -- Assumes nothing.
 use mathlib.Core.Path.{◌≡◌, refl, ap, ◌∙◌}
 use Prim.Native.Nat.{ℕ, zero, suc, ◌+◌, ◌-◌, ◌≤◌, ◌<◌}
+use lib.Dec.{eqb}
+use lib.ListN.{get_or}
 use native.Mathlib.Nat.{suc-mul, mul-suc, add-zero}
 use native.Mathlib.Decide.{dec_lt}
 use native.Mathlib.Omega.{arith}
+use borrow.Author.Tests.{eqb-true}
 use Rattle.finite.specs.Range.{sum_to}
+use Rattle.finite.proofs.All.{all_to-at}
 use Rattle.finite.proofs.Sum.{sum_to-split}
 use Rattle.layout.specs.Layout.{most_vertices}
 use Rattle.graph6.specs.Format.{column_start, most_bits}
+use Rattle.graph6.proofs.Starts.{column_starts, starts_test}
+
+-- entry w of the constant is where column w starts
+pub column-start : (w : ℕ) → w < most_vertices → get_or column_starts w 0 ≡ column_start w
+column-start w l =
+    eqb-true (get_or column_starts w 0) (column_start w) (all_to-at (λ w. eqb (get_or column_starts w 0) (column_start w)) most_vertices starts_test w l)
 
 pub columns_none : column_start 0 ≡ 0
 unfolding column_start

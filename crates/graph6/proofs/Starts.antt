@@ -1,14 +1,12 @@
--- The constant of the column starts: one test over all its entries, and what each entry is.
+-- The constant of the column starts, and one test over all its entries. What each entry is: proofs/Columns.antt.
 -- Assumes nothing.
 use mathlib.Core.Path.{◌≡◌, refl}
 use mathlib.Core.Bool.{true}
 use mathlib.Core.List.{List, [], ◌∷◌}
-use Prim.Native.Nat.{ℕ, ◌<◌}
+use Prim.Native.Nat.{ℕ}
 use lib.Dec.{eqb}
 use lib.ListN.{get_or}
-use borrow.Author.Tests.{eqb-true}
 use Rattle.finite.specs.Range.{all_to}
-use Rattle.finite.proofs.All.{all_to-at}
 use Rattle.layout.specs.Layout.{most_vertices}
 use Rattle.graph6.specs.Format.{column_start}
 
@@ -27,11 +25,6 @@ column_starts =
     16110 ∷ 16290 ∷ 16471 ∷ 16653 ∷ 16836 ∷ 17020 ∷ 17205 ∷ 17391 ∷ 17578 ∷ 17766 ∷ 17955 ∷ 18145 ∷ 18336 ∷ 18528 ∷ 18721 ∷ 18915 ∷ 19110 ∷ 19306 ∷ 19503 ∷ 19701 ∷ []
 
 -- its rule, computed over all 200 entries
-starts_test : all_to most_vertices (λ w. eqb (get_or column_starts w 0) (column_start w)) ≡ true
+pub starts_test : all_to most_vertices (λ w. eqb (get_or column_starts w 0) (column_start w)) ≡ true
 unfolding all_to column_start
 starts_test = refl
-
--- so entry w is where column w starts
-pub column-start : (w : ℕ) → w < most_vertices → get_or column_starts w 0 ≡ column_start w
-column-start w l =
-    eqb-true (get_or column_starts w 0) (column_start w) (all_to-at (λ w. eqb (get_or column_starts w 0) (column_start w)) most_vertices starts_test w l)

@@ -11,8 +11,8 @@ use Rattle.layout.specs.Layout.{most_vertices}
 use Rattle.edge_lists.specs.EdgeList.{row_bytes}
 use Rattle.edge_lists.proofs.Listing.{row_cong}
 use Rattle.graph6.specs.Format.{column_start}
-use Rattle.graph6.proofs.Starts.{column_starts, column-start}
-use Rattle.graph6.proofs.Columns.{columns_most, place-before}
+use Rattle.graph6.proofs.Starts.{column_starts}
+use Rattle.graph6.proofs.Columns.{column-start, columns_most, place-before}
 use Rattle.graph6_read.specs.Inner.Bits.{bits_most, rows_of, HasRow}
 
 -- in the code's words: where it reads the start x of column w

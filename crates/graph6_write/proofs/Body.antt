@@ -19,8 +19,8 @@ use Rattle.layout.specs.Layout.{most_vertices}
 use Rattle.edge_lists.specs.EdgeList.{listed, end_v, end_w, graph_of}
 use Rattle.edge_lists.proofs.List.{Passed, good, list-simple}
 use Rattle.graph6.specs.Format.{offset, triangle, six_bits, packed, column_start, body_length, body_most}
-use Rattle.graph6.proofs.Starts.{column_starts, column-start}
-use Rattle.graph6.proofs.Columns.{columns_most, place-before, place_of, place_same}
+use Rattle.graph6.proofs.Starts.{column_starts}
+use Rattle.graph6.proofs.Columns.{column-start, columns_most, place-before, place_of, place_same}
 use Rattle.graph6.proofs.Bits.{triangle-length, triangle-at, triangle-past, triangle-binary, packed-length, packed-at}
 use Rattle.graph6_write.specs.Inner.Body.{weight_of, bit_place, add_bit, body_to}
 
