@@ -129,10 +129,10 @@ complete-refused s r out q e = (
   (refused-leaves s r out q e).1,
 )
 
-complete-written : (f : Choice) (s : Loan) (out : List ℕ) (joins switches n : ℕ)
+complete_written : (f : Choice) (s : Loan) (out : List ℕ) (joins switches n : ℕ)
     → choice_answer f s (length out) ≡ Complete.Completed joins switches n
     → (n ≡ join_record_size * joins) × SamePast n out (choice_output f s out)
-complete-written f s out joins switches n e =
+complete_written f s out joins switches n e =
     let r = outcome f s.state in
     let c = completed-facts s r (length out) joins switches n e in
     let x = outcome-works f s.state (laid-state s c.loan) in (
@@ -169,7 +169,7 @@ demand_1 =
             (length-chain (ltb number (blocks s.journal)) (slot_length s.journal number))),
         ap (λ (a : LengthAnswer). part_held a s.journal number) e,
       );
-      lay-out = λ s r e. (
+      lay_out = λ s r e. (
         subst (OfLayOut (1 ∷ 2 ∷ 3 ∷ 9 ∷ 10 ∷ 11 ∷ 12 ∷ [])) e
             (behind OfLayOut (1 ∷ 2 ∷ 3 ∷ 9 ∷ 10 ∷ 11 ∷ 12 ∷ []) (phase_verdict phase_taking s) LayOut.Refused _ (λ r h. h)
             (phase-numbers phase_taking s (9 ∷ 10 ∷ 11 ∷ 12 ∷ []))
@@ -204,11 +204,11 @@ demand_1 =
         ap (λ (a : UndoAnswer). after_undo a s) e,
       );
       complete = λ s. complete-refused s (completed s.state);
-      complete-written = λ s. complete-written Lowest s;
+      complete_written = λ s. complete_written Lowest s;
       shuffle = λ s x out q e.
           complete-refused s (shuffled s.state x).ran out q (with_x-refused (shuffled s.state x).x _ q e);
       shuffle_written = λ s x out joins switches n y e.
-          complete-written (Picked x) s out joins switches n (with_x-completed (shuffled s.state x).x _ joins switches n y e).0;
+          complete_written (Picked x) s out joins switches n (with_x-completed (shuffled s.state x).x _ joins switches n y e).0;
       list = λ s out r e. (
         subst (OfWritten (1 ∷ 2 ∷ 3 ∷ 18 ∷ []) (length (list_bytes (vertex_count s) s.adjacency)) (length out)) e (edges-numbers s (length out)),
         ap (λ (a : WrittenAnswer). output_listed a s out) e,
@@ -221,17 +221,17 @@ demand_1 =
         subst (OfWritten (19 ∷ 20 ∷ 18 ∷ []) (length (survey_records e total)) (length out)) p (survey-numbers e total (length out)),
         ap (λ (a : WrittenAnswer). survey_output a e total out) p,
       );
-      survey-written = λ e total out n p.
+      survey_written = λ e total out n p.
           let h = subst (OfWritten (19 ∷ 20 ∷ 18 ∷ []) (length (survey_records e total)) (length out)) p (survey-numbers e total (length out)) in
           subst (SamePast n out) (sym (ap (λ (a : WrittenAnswer). survey_output a e total out) p)) (past out (survey_records e total) n h.0 h.1);
-      graph6-write = λ e total out r p. (
+      graph6_write = λ e total out r p. (
         subst (OfWritten (19 ∷ 18 ∷ []) (length (write_text e total)) (length out)) p (write_numbers e total (length out)),
         ap (λ (a : WrittenAnswer). write_output a e total out) p,
       );
       graph6_written = λ e total out n p.
           let h = subst (OfWritten (19 ∷ 18 ∷ []) (length (write_text e total)) (length out)) p (write_numbers e total (length out)) in
           subst (SamePast n out) (sym (ap (λ (a : WrittenAnswer). write_output a e total out) p)) (past out (write_text e total) n h.0 h.1);
-      graph6-read = λ t out r p. (
+      graph6_read = λ t out r p. (
         subst (OfRead (22 ∷ 21 ∷ 18 ∷ []) (length (read_list t)) (length out)) p (read-numbers t (length out)),
         ap (λ (a : ReadAnswer). read_output a t out) p,
       );
