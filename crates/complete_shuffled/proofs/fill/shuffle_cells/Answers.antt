@@ -1,12 +1,10 @@
 -- `complete_shuffled::fill::shuffle_cells` meets its contract: after i turns i joins are made, and what is left of the run goes on from there.
 use mathlib.Core.Path.{refl, ap, ◌∙◌}
-use Prim.Native.Nat.{◌-◌}
 use native.Mathlib.Omega.{arith}
 use Rattle.graph.specs.Graph.{edges}
 use Rattle.table.specs.Inner.Cells.{matrix_of}
 use Rattle.adjacency.specs.Adjacency.{edge}
 use Rattle.classes.specs.Inner.Block.{class_from}
-use Rattle.progress.specs.Inner.Work.{ran}
 use Rattle.progress.proofs.Output.{wrote_none, wrote_then}
 use Rattle.shuffled_completion.specs.Shuffle.{Shuffled}
 use Rattle.complete_shuffled.specs.Inner.Work.{shuffled_at}
@@ -15,14 +13,13 @@ use Rattle.complete_shuffled.proofs.Counting.{next_more, still_short, not_short,
 use Rattle.complete_shuffled.proofs.fill.shuffle_cells.Goals as goal
 
 pub refresh_range-requires : goal.refresh_range-requires
-refresh_range-requires c =
-    (
-    c.count_cells.ensures.scannable,
-    begin_classed c.args.classes.now c.requires.0 c.requires.1,
-    begin_summed,
-    omega arith,
-    omega arith,
-    )
+refresh_range-requires c = (
+  c.count_cells.ensures.scannable,
+  begin_classed c.args.classes.now c.requires.0 c.requires.1,
+  begin_summed,
+  omega arith,
+  omega arith,
+)
 
 pub loop-init : goal.loop-init
 loop-init c =
@@ -33,9 +30,9 @@ pub shuffle_step-done-requires : goal.shuffle_step-done-requires
 shuffle_step-done-requires c =
     let i = c.loop.invariant in
     let s = i.1 in (
-    s,
-    still_short c.args.n (class_from c.args.starts.now) (matrix_of c.args.cells.now) (shuffled_at c.loop.adjacency c.loop.output c.loop.done)
-    s.is-valid.filling (omega (arith, i.3, c.requires.2.0, c.loop-test.true)),
+      s,
+      still_short c.args.n (class_from c.args.starts.now) (matrix_of c.args.cells.now) (shuffled_at c.loop.adjacency c.loop.output c.loop.done)
+          s.is-valid.filling (omega (arith, i.3, c.requires.2.0, c.loop-test.true)),
     )
 
 pub loop-preserved : goal.loop-preserved
@@ -45,14 +42,13 @@ loop-preserved c =
     let was = shuffled_at c.loop.adjacency c.loop.output c.loop.done in
     let short = still_short a.n (class_from a.starts.now) (matrix_of a.cells.now) was i.1.is-valid.filling
     (omega (arith, i.3, c.requires.2.0, c.loop-test.true)) in
-    let one = next_more a.n (class_from a.starts.now) (matrix_of a.cells.now) was i.1.is-valid.filling short in
-    let made = c.shuffle_step-done.ensures in (
-    omega (arith, c.loop-test.true),
-    rw made.wrote_records.sized made.shuffling,
-    rw made.result_after (run-next a.n (class_from a.starts.now) (matrix_of a.cells.now) c.loop.counter was
-    (omega (arith, c.loop-test.true, c.requires.2.1)) short i.2),
-    ap (λ (r : Shuffled). edges a.n (edge r.ran.adjacency)) made.result_after ∙ omega (arith, one, i.3),
-    wrote_then i.4 made.wrote_records,
+    let one = next_more a.n (class_from a.starts.now) (matrix_of a.cells.now) was i.1.is-valid.filling short in (
+      omega (arith, c.loop-test.true),
+      rw c.shuffle_step-done.ensures.wrote_records.sized c.shuffle_step-done.ensures.shuffling,
+      rw c.shuffle_step-done.ensures.result_after (run-next a.n (class_from a.starts.now) (matrix_of a.cells.now) c.loop.counter was
+          (omega (arith, c.loop-test.true, c.requires.2.1)) short i.2),
+      ap (λ (r : Shuffled). edges a.n (edge r.ran.adjacency)) c.shuffle_step-done.ensures.result_after ∙ omega (arith, one, i.3),
+      wrote_then i.4 c.shuffle_step-done.ensures.wrote_records,
     )
 
 pub returns : goal.returns
