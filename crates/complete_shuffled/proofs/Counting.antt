@@ -14,7 +14,6 @@ use Rattle.layout.specs.Layout.{wanted}
 use Rattle.adjacency.specs.Adjacency.{edge}
 use Rattle.completion.specs.Complete.{Ran, most_edges, is_incomplete}
 use Rattle.completion.specs.Inner.Cellwise.{Filling}
-use Rattle.progress.specs.Inner.Work.{ran}
 use Rattle.completion.proofs.Cellwise.{edges-within}
 use Rattle.completion.proofs.Chosen.{Stepped, opened}
 use Rattle.completion.proofs.Works.{stops}

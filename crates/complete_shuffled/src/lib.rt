@@ -1,5 +1,7 @@
 // Completing by shuffled choice (document 02, P7): the checks 1, 2, 3 and 18, then while a cell is short x steps and picks an open pair, which is
 // joined; for each join a record is written.
+#![tactic(auto)]
+
 ghost use Rattle.std.specs.Prelude.{◌≡◌, length};
 ghost use Rattle.answer.specs.declared.Verdict.TheVariants.{Go};
 ghost use Rattle.journal.specs.Journal.{phase_laid};

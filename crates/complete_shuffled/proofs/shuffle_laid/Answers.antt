@@ -16,7 +16,8 @@ pub returns-then-output-missing : goal.returns-then-output-missing
 returns-then-output-missing c =
     let s = state_of c.args.journal.now c.args.adjacency.now in
     let short = rw (lacks_missing s c.requires.0 c.requires.1 c.begin-begun.ensures) at c.if-output-missing.true in
-    record { value = rw (laid-short s (shuffled s c.args.x).ran _ short) (ap Refused c.refuse.ensures); adjacency_after = rw (laid-short s (shuffled s c.args.x).ran _ short) (refl); output_after = rw (laid-short s (shuffled s c.args.x).ran _ short) (refl) }
+    let e = laid-short s (shuffled s c.args.x).ran _ short in
+    record { value = rw e (ap Refused c.refuse.ensures); adjacency_after = rw e; output_after = rw e }
 
 pub starts-starts-requires : goal.starts-starts-requires
 starts-starts-requires c = total-few (state_of c.args.journal.now c.args.adjacency.now) c.requires.0 c.requires.1
@@ -25,9 +26,9 @@ pub shuffle_cells-done-requires : goal.shuffle_cells-done-requires
 shuffle_cells-done-requires c =
     let s = state_of c.args.journal.now c.args.adjacency.now in
     let u = c.begin-begun.ensures in (
-    begin_working s c.requires.0 c.requires.1 u c.starts-starts.ensures _ (rw (lacks_missing s c.requires.0 c.requires.1 u) at c.if-output-missing.false),
-    begin_classes s c.requires.0 c.requires.1 u c.starts-starts.ensures c.classes-vertex_classes.ensures,
-    begin_lacks s c.requires.0 c.requires.1 u c.starts-starts.ensures,
+      begin_working s c.requires.0 c.requires.1 u c.starts-starts.ensures _ (rw (lacks_missing s c.requires.0 c.requires.1 u) at c.if-output-missing.false),
+      begin_classes s c.requires.0 c.requires.1 u c.starts-starts.ensures c.classes-vertex_classes.ensures,
+      begin_lacks s c.requires.0 c.requires.1 u c.starts-starts.ensures,
     )
 
 pub overflow_mul-result : goal.overflow_mul-result

@@ -18,10 +18,10 @@ join-joined-requires c =
     let kd = rw (← c.requires.4) at (c.requires.0.target.classed _ c.requires.0.pair.first) in
     let ld = rw (← c.requires.5) at (c.requires.0.target.classed _ c.requires.0.pair.second) in
     let once = rw (← c.low_of-row.ensures.low_after) at (lows_set c.requires.3 c.requires.2 c.requires.1 _ kd) in (
-    c.requires.0,
-    c.requires.1,
-    end_placed c.requires.3 c.requires.2 c.requires.1 _ kd _ _ _ _ refl c.requires.4 c.low_of-row.ensures.value,
-    end_placed c.requires.3 once c.requires.1 _ ld _ _ _ _ refl c.requires.5 c.low_of-column.ensures.value,
+      c.requires.0,
+      c.requires.1,
+      end_placed c.requires.3 c.requires.2 c.requires.1 _ kd _ _ _ _ refl c.requires.4 c.low_of-row.ensures.value,
+      end_placed c.requires.3 once c.requires.1 _ ld _ _ _ _ refl c.requires.5 c.low_of-column.ensures.value,
     )
 
 pub returns : goal.returns
@@ -30,4 +30,9 @@ returns c =
     let ld = rw (← c.requires.5) at (c.requires.0.target.classed _ c.requires.0.pair.second) in
     let once = rw (← c.low_of-row.ensures.low_after) at (lows_set c.requires.3 c.requires.2 c.requires.1 _ kd) in
     let twice = rw (← c.low_of-column.ensures.low_after) at (lows_set c.requires.3 once c.requires.1 _ ld) in
-    record { value = c.both_reliefs.ensures ∙ c.join-joined.ensures.w_value.0; adjacency_after = c.join-joined.ensures.adjacency_after; degrees_after = c.join-joined.ensures.degrees_after; lows = lows_stay c.requires.3 twice c.requires.0 }
+    record {
+      value = c.both_reliefs.ensures ∙ c.join-joined.ensures.w_value.0;
+      adjacency_after = c.join-joined.ensures.adjacency_after;
+      degrees_after = c.join-joined.ensures.degrees_after;
+      lows = lows_stay c.requires.3 twice c.requires.0;
+    }

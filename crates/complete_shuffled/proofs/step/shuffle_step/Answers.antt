@@ -13,15 +13,14 @@ pub bounds-classes-w : goal.bounds-classes-w
 bounds-classes-w c = omega (arith, (step_few c.args.output.now c.args.done c.requires.0 c.requires.1 _ _ _ c.pick-pair.ensures.v_value c.pick-pair.ensures.w_value).1)
 
 pub join_pair-made-requires : goal.join_pair-made-requires
-join_pair-made-requires c =
-    (
-    step_joinable c.args.output.now c.args.done c.requires.0 c.requires.1 _ _ _ c.pick-pair.ensures.v_value c.pick-pair.ensures.w_value,
-    c.requires.0.degrees_right,
-    c.requires.0.lows,
-    c.requires.0.tracked.arranged,
-    row_of c.args.output.now c.args.done c.requires.0 c.requires.1 _ _ _ c.pick-pair.ensures.v_value c.pick-pair.ensures.w_value c.wide-k.ensures.0,
-    column_of c.args.output.now c.args.done c.requires.0 c.requires.1 _ _ _ c.pick-pair.ensures.v_value c.pick-pair.ensures.w_value c.wide-l.ensures.0,
-    )
+join_pair-made-requires c = (
+  step_joinable c.args.output.now c.args.done c.requires.0 c.requires.1 _ _ _ c.pick-pair.ensures.v_value c.pick-pair.ensures.w_value,
+  c.requires.0.degrees_right,
+  c.requires.0.lows,
+  c.requires.0.tracked.arranged,
+  row_of c.args.output.now c.args.done c.requires.0 c.requires.1 _ _ _ c.pick-pair.ensures.v_value c.pick-pair.ensures.w_value c.wide-k.ensures.0,
+  column_of c.args.output.now c.args.done c.requires.0 c.requires.1 _ _ _ c.pick-pair.ensures.v_value c.pick-pair.ensures.w_value c.wide-l.ensures.0,
+)
 
 pub record_join-totals-requires : goal.record_join-totals-requires
 record_join-totals-requires c = step_recordable c.args.output.now c.args.done c.requires.0 c.requires.1 _ _ _ c.pick-pair.ensures.v_value c.pick-pair.ensures.w_value c.join_pair-made.ensures.value
@@ -32,7 +31,8 @@ update-requires c =
     (row_of c.args.output.now c.args.done c.requires.0 c.requires.1 _ _ _ c.pick-pair.ensures.v_value c.pick-pair.ensures.w_value c.wide-k.ensures.0)
     (column_of c.args.output.now c.args.done c.requires.0 c.requires.1 _ _ _ c.pick-pair.ensures.v_value c.pick-pair.ensures.w_value c.wide-l.ensures.0)
     c.join_pair-made.ensures.adjacency_after c.join_pair-made.ensures.value in
-    let joinable = step_joinable c.args.output.now c.args.done c.requires.0 c.requires.1 _ _ _ c.pick-pair.ensures.v_value c.pick-pair.ensures.w_value in record {
+    let joinable = step_joinable c.args.output.now c.args.done c.requires.0 c.requires.1 _ _ _ c.pick-pair.ensures.v_value c.pick-pair.ensures.w_value in
+    record {
       scannable = (asks.0.0, asks.0.1, c.requires.0.tracked.summed, c.requires.0.tracked.arranged, asks.0.2);
       v_lt_n = (joinable.pair.first, asks.1.0, asks.1.1, asks.1.2);
     }
@@ -43,5 +43,9 @@ returns c =
     let column = column_of c.args.output.now c.args.done c.requires.0 c.requires.1 _ _ _ c.pick-pair.ensures.v_value c.pick-pair.ensures.w_value c.wide-l.ensures.0 in
     let made = c.join_pair-made.ensures.value in
     let bytes = c.join_pair-made.ensures.adjacency_after in
-    record { result_after = rw c.record_join-totals.ensures.value.0 (step_next c.args.output.now c.args.done c.requires.0 c.requires.1 _ _ _ c.pick-pair.ensures.v_value c.pick-pair.ensures.w_value row column bytes made c.record_join-totals.ensures.output_after c.next_x-stepped.ensures); wrote_records = c.record_join-totals.ensures.value.1; shuffling = rw c.record_join-totals.ensures.value.0 (step_shuffling c.args.output.now c.args.done c.requires.0 c.requires.1 _ _ _ c.pick-pair.ensures.v_value c.pick-pair.ensures.w_value row column bytes made c.record_join-totals.ensures.output_after
-    c.update.ensures.have_after c.update.ensures.full_after c.update.ensures.pairs_after c.update.ensures.summed c.join_pair-made.ensures.lows c.join_pair-made.ensures.degrees_after) }
+    record {
+      result_after = rw c.record_join-totals.ensures.value.0 (step_next c.args.output.now c.args.done c.requires.0 c.requires.1 _ _ _ c.pick-pair.ensures.v_value c.pick-pair.ensures.w_value row column bytes made c.record_join-totals.ensures.output_after c.next_x-stepped.ensures);
+      wrote_records = c.record_join-totals.ensures.value.1;
+      shuffling = rw c.record_join-totals.ensures.value.0 (step_shuffling c.args.output.now c.args.done c.requires.0 c.requires.1 _ _ _ c.pick-pair.ensures.v_value c.pick-pair.ensures.w_value row column bytes made c.record_join-totals.ensures.output_after
+          c.update.ensures.have_after c.update.ensures.full_after c.update.ensures.pairs_after c.update.ensures.summed c.join_pair-made.ensures.lows c.join_pair-made.ensures.degrees_after);
+    }
