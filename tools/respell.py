@@ -21,6 +21,18 @@ OTHER = {
     "removeEdge": "edge_removed",
     "in_order": "played_in_order",
     "text_in": "written_text_in",
+    "is-valid": "is_valid",
+    "lay-out": "lay_out",
+    "graph6-read": "graph6_read",
+    "graph6-write": "graph6_write",
+    "survey-written": "survey_written",
+    "complete-written": "complete_written",
+    "no-log": "no_log",
+    "no-substitute": "no_substitute",
+    "no-swap": "no_swap",
+    "adds-nothing": "adds_nothing",
+    "length-0": "length_0",
+    "complete-already": "complete_already",
 }
 # words of the library that lemmas are named after
 LIBRARY = set(
@@ -91,7 +103,7 @@ def table():
                 if n != new and n not in OTHER:
                     turned[n] = snake(n)
     for n, new in list(turned.items()):
-        if "-" in n and new != n and new not in declared and (new in all_words or new in src):
+        if "-" in n and n not in OTHER and new != n and new not in declared and (new in all_words or new in src):
             print("stands elsewhere:", n, "->", new, "; keeps its dash as", snake(n))
             turned[n] = snake(n)
     return {n: new for n, new in turned.items() if n != new}

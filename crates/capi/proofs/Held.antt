@@ -14,4 +14,4 @@ use Rattle.held_block.proofs.Held.{length-facts}
 pub held_low : (s : State) (number n : ℕ) → length_answer s number ≡ Length n → number < most_blocks
 held_low s number n e =
     let f = length-facts s number n e in
-    omega (arith, f.low, (journal_facts s.journal (valid-journal s f.is-valid)).blocks-le)
+    omega (arith, f.low, (journal_facts s.journal (valid-journal s f.is_valid)).blocks-le)

@@ -41,19 +41,19 @@ start_resumes n cls g c r =
 module _ {n : ℕ} {cls : ℕ → ℕ} {c : Cell} {m room : ℕ} {s : Ran} {degrees₀ : List ℕ} (p : Fillable n cls c m room s degrees₀)
     (i : ℕ) (x : Ran) (e : x ≡ fold_to i (λ i. cell_step n cls c.k c.l) s) where
   fill-valid : i ≤ m → ValidRun n cls p.table room x
-  fill-valid h = rw e (part-valid n cls p.table room s p.is-valid c.k c.l p.ranged.first p.ranged.second i (omega (arith, p.missing)))
+  fill-valid h = rw e (part-valid n cls p.table room s p.is_valid c.k c.l p.ranged.first p.ranged.second i (omega (arith, p.missing)))
 
   pub fill_sized : i ≤ m → length x.adjacency ≡ length s.adjacency
-  fill_sized h = (fill-valid h).filling.sized ∙ sym p.is-valid.filling.sized
+  fill_sized h = (fill-valid h).filling.sized ∙ sym p.is_valid.filling.sized
 
   pub fill_steppable : i < m → (u : Cursor) (degrees : List ℕ) → Resumes n cls x.adjacency c u → degrees ≡ degrees_of n x.adjacency
       → {left : ℕ} → left ≡ room → Steppable n cls c u left x degrees
   fill_steppable h u degrees r d er =
       record {
         table = p.table;
-        is-valid = rw er (fill-valid (omega arith));
+        is_valid = rw er (fill-valid (omega arith));
         short =
-            rw e (part-short n cls p.table s p.is-valid.filling c.k c.l p.ranged.first p.ranged.second i (omega (arith, p.missing)));
+            rw e (part-short n cls p.table s p.is_valid.filling c.k c.l p.ranged.first p.ranged.second i (omega (arith, p.missing)));
         ranged = p.ranged;
         resumes = r;
         degrees_right = d;

@@ -44,7 +44,7 @@ module _ {n : ℕ} {cls : ℕ → ℕ} {c : Cell} {u : Cursor} {room : ℕ} {s :
   l = c.l
 
   filling : Filling n cls p.table s.adjacency
-  filling = p.is-valid.filling
+  filling = p.is_valid.filling
 
   chose : Chosen n cls p.table g k l (open_v n cls g k l) (open_w n cls g k l (open_v n cls g k l))
   chose = chosen n cls p.table g filling k l p.ranged.first p.ranged.second p.short
@@ -65,7 +65,7 @@ module _ {n : ℕ} {cls : ℕ → ℕ} {c : Cell} {u : Cursor} {room : ℕ} {s :
 
   -- the record fits
   pub step_room : join_record_size * s.joins + join_record_size ≤ room
-  step_room = joined-room n cls p.table room s p.is-valid (open_v n cls g k l) (open_w n cls g k l (open_v n cls g k l)) chose.pair
+  step_room = joined-room n cls p.table room s p.is_valid (open_v n cls g k l) (open_w n cls g k l (open_v n cls g k l)) chose.pair
 
   -- v and w: what the search for a pair found; x and y: what those for unsaturated vertices did
   module _ (v w : ℕ) (ev : v ≡ lowest u.at.v c.rows.to (has_column g c)) (ew : v < c.rows.to → w ≡ lowest_column g c v) where

@@ -25,7 +25,7 @@ zeros-cleared m n a b =
     let s = state_of j (replicate n 0) in
     record {
       lengths = lengths_both s (length-replicate {A = ℕ} m 0 ∙ a) (length-replicate {A = ℕ} n 0 ∙ b);
-      is-valid = facts_valid_0 s (phase-empty j (get_d_zeros m)) (valid-empty j (get_d_zeros m)) (get_d_zeros n);
+      is_valid = facts_valid_0 s (phase-empty j (get_d_zeros m)) (valid-empty j (get_d_zeros m)) (get_d_zeros n);
       taking = phase-empty j (get_d_zeros m);
       no_blocks = blocks-empty j (get_d_zeros m);
       no_table = table_empty j (get_d_zeros m);
@@ -39,7 +39,7 @@ pub cleared-loan : ValidLoan cleared_loan
 cleared-loan =
     record {
       lengths = lengths_loan cleared_loan cleared-state.lengths empty_log-length;
-      is-valid = valid-loan cleared_loan cleared-state.is-valid (empty-valid cleared_loan.state);
+      is_valid = valid-loan cleared_loan cleared-state.is_valid (empty-valid cleared_loan.state);
     }
 
 -- clearing any three lists of the right lengths gives that loan

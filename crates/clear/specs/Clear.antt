@@ -28,7 +28,7 @@ clear_after b = after_clear (clear_answer b) b
 -- a state just cleared
 pub record ClearedState (s : State) : Type 0 where
   pub lengths : lengths_ok s ≡ true
-  pub is-valid : valid s ≡ true
+  pub is_valid : valid s ≡ true
   pub taking : phase s.journal ≡ phase_taking
   pub no_blocks : blocks s.journal ≡ 0
   pub no_table : table_of s.journal ≡ empty_table

@@ -49,12 +49,12 @@ module _ {n : ℕ} {cells starts degrees : List ℕ} {room : ℕ} {s : Ran} (p :
             record {
               n = n;
               few = p.arranged.few;
-              simple = p.is-valid.filling.partial.simple;
+              simple = p.is_valid.filling.partial.simple;
               rows = (r.rows.ordered, r.rows.within);
               columns = (r.columns.ordered, r.columns.within);
             };
         within =
-            rw (block-cell p.arranged.numbered (edge s.adjacency) k l kC lC) (p.is-valid.filling.partial.within k l kC lC);
+            rw (block-cell p.arranged.numbered (edge s.adjacency) k l kC lC) (p.is_valid.filling.partial.within k l kC lC);
       }
 
   pub cell_of : CellOf n starts (cell_in starts k l)
@@ -71,7 +71,7 @@ module _ {n : ℕ} {cells starts degrees : List ℕ} {room : ℕ} {s : Ran} (p :
     fillable =
         record {
           table = matrix_of cells;
-          is-valid = p.is-valid;
+          is_valid = p.is_valid;
           missing = omega (arith, missing-count);
           ranged = ranged n starts p.arranged.numbered k l kC lC;
           degrees_right = p.degrees_right;
@@ -84,20 +84,20 @@ module _ {n : ℕ} {cells starts degrees : List ℕ} {room : ℕ} {s : Ran} (p :
 module _ {n : ℕ} {cells starts degrees : List ℕ} {room : ℕ} {s : Ran} (p : Working n cells starts degrees room s) where
   pub working : (x : Ran) → ValidRun n (class_from starts) (matrix_of cells) room x → (h : List ℕ) → h ≡ degrees_of n x.adjacency
       → {left : ℕ} → left ≡ room → Working n cells starts h left x
-  working x v h e er = record { arranged = p.arranged; is-valid = rw er v; degrees_right = e }
+  working x v h e er = record { arranged = p.arranged; is_valid = rw er v; degrees_right = e }
 
   pub working_sized : (x : Ran) → ValidRun n (class_from starts) (matrix_of cells) room x → length x.adjacency ≡ length s.adjacency
-  working_sized x v = v.filling.sized ∙ sym p.is-valid.filling.sized
+  working_sized x v = v.filling.sized ∙ sym p.is_valid.filling.sized
 
   -- x: the state after the first i cells of row k, and after the first i rows
   module _ (i : ℕ) (x : Ran) where
     pub cells-valid : (k : ℕ) → k + i ≤ most_classes → x ≡ fold_to i (λ i. fill_cell n (class_from starts) (matrix_of cells) k (k + i)) s
         → ValidRun n (class_from starts) (matrix_of cells) room x
-    cells-valid k h e = rw e (row_valid n (class_from starts) (matrix_of cells) room s p.is-valid k i h)
+    cells-valid k h e = rw e (row_valid n (class_from starts) (matrix_of cells) room s p.is_valid k i h)
 
     pub all_valid : i ≤ most_classes - least_class → x ≡ fold_to i (λ i. fill_row n (class_from starts) (matrix_of cells) (least_class + i)) s
         → ValidRun n (class_from starts) (matrix_of cells) room x
-    all_valid h e = rw e (rows_valid n (class_from starts) (matrix_of cells) room s p.is-valid i h)
+    all_valid h e = rw e (rows_valid n (class_from starts) (matrix_of cells) room s p.is_valid i h)
 
   -- a class without vertices has no cell to fill
   module _ (k : ℕ) (kC : k < most_classes) (empty : get_or starts k 0 ≡ get_or starts (k + 1) 0) where
@@ -111,7 +111,7 @@ module _ {n : ℕ} {cells starts degrees : List ℕ} {room : ℕ} {s : Ran} (p :
         omega (
           arith,
           sum_to-term most_classes (matrix_of cells k) l lC,
-          p.is-valid.filling.target.rows k kC ∙ ap (λ (m : ℕ). class_degree k * m) no-vertices ∙ mul-zero (class_degree k),
+          p.is_valid.filling.target.rows k kC ∙ ap (λ (m : ℕ). class_degree k * m) no-vertices ∙ mul-zero (class_degree k),
         )
 
     pub row_empty : s ≡ fill_row n (class_from starts) (matrix_of cells) k s

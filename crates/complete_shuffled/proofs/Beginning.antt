@@ -49,14 +49,14 @@ module _ {n : ℕ} {cells starts g degrees : List ℕ} {room : ℕ} (classes : L
   pub begin_countable : CellsCountable n cells starts g
   begin_countable =
       record {
-        sized = p.is-valid.filling.sized;
+        sized = p.is_valid.filling.sized;
         arranged = p.arranged;
-        simple = p.is-valid.filling.partial.simple;
-        within = p.is-valid.filling.partial.within;
+        simple = p.is_valid.filling.partial.simple;
+        within = p.is_valid.filling.partial.within;
       }
 
   pub begin_classed : Classed n classes
-  begin_classed v vn = rw (c v vn) (p.is-valid.filling.target.classed v vn)
+  begin_classed v vn = rw (c v vn) (p.is_valid.filling.target.classed v vn)
 
   -- the cells are counted, then all rows
   pub begin_shuffling : {have full pairs sums : List ℕ} → Counted cells_size n cells starts g have full
@@ -77,6 +77,6 @@ module _ {n : ℕ} {cells starts g degrees : List ℕ} {room : ℕ} (classes : L
               behind = λ v h. rw ec (range_else n classes g full v 0 n (replicate side 0) h ∙ get_d_zeros side v);
             };
         lows = begin_lows g p.arranged;
-        is-valid = p.is-valid;
+        is_valid = p.is_valid;
         degrees_right = p.degrees_right;
       }

@@ -36,7 +36,7 @@ module _ {n : ℕ} {cells starts classes g have full pairs sums low degrees : Li
     (p : Shuffling n cells starts classes g have full pairs sums low degrees (length out) (ran g out d.totals))
     (e : incomplete_shuffled n (class_from starts) (matrix_of cells) (shuffled_at g out d) ≡ true) where
   pub step_some : 0 < open_count n (class_from starts) (matrix_of cells) g
-  step_some = some_open n (class_from starts) (matrix_of cells) g p.is-valid.filling e
+  step_some = some_open n (class_from starts) (matrix_of cells) g p.is_valid.filling e
 
   -- v and w: the pair that x picks
   module _ (x v w : ℕ) (ev : v ≡ pair_v n (class_from starts) (matrix_of cells) g (position n (class_from starts) (matrix_of cells) g x))
@@ -44,7 +44,7 @@ module _ {n : ℕ} {cells starts classes g have full pairs sums low degrees : Li
     picks : Picked n (class_from starts) (matrix_of cells) g (position n (class_from starts) (matrix_of cells) g x)
     picks =
         picked n (class_from starts) (matrix_of cells) g (position n (class_from starts) (matrix_of cells) g x)
-        (position-below n (class_from starts) (matrix_of cells) g p.is-valid.filling e x)
+        (position-below n (class_from starts) (matrix_of cells) g p.is_valid.filling e x)
 
     pub step_pair : Open n (class_from starts) (matrix_of cells) (edge g) v w
     step_pair = rw (ew, ev) (passes-open n (class_from starts) (matrix_of cells) g _ _ picks.second picks.passes)
@@ -53,10 +53,10 @@ module _ {n : ℕ} {cells starts classes g have full pairs sums low degrees : Li
     step_rises = rw (ew, ev) (passes-rising n (class_from starts) (matrix_of cells) g _ _ picks.passes)
 
     pub step_few : (v < side) × (w < side)
-    step_few = (omega (arith, step_pair.first, p.is-valid.filling.few), omega (arith, step_pair.second, p.is-valid.filling.few))
+    step_few = (omega (arith, step_pair.first, p.is_valid.filling.few), omega (arith, step_pair.second, p.is_valid.filling.few))
 
     pub step_joinable : Joinable n (class_from starts) g v w
-    step_joinable = joinable p.tracked p.is-valid.filling v w step_rises step_pair
+    step_joinable = joinable p.tracked p.is_valid.filling v w step_rises step_pair
 
     -- the classes of both, as the array has them
     pub row_of : {k : ℕ} → k ≡ get_or classes v 0 → k ≡ class_from starts v
@@ -66,10 +66,10 @@ module _ {n : ℕ} {cells starts classes g have full pairs sums low degrees : Li
     column_of el = el ∙ p.tracked.classed w step_pair.second
 
     step_room : join_record_size * d.totals.joins + join_record_size ≤ length out
-    step_room = joined-room n (class_from starts) (matrix_of cells) (length out) (ran g out d.totals) p.is-valid v w step_pair
+    step_room = joined-room n (class_from starts) (matrix_of cells) (length out) (ran g out d.totals) p.is_valid v w step_pair
 
     pub step_recordable : {s : Switches} → s ≡ join_switches n (class_from starts) g v w → Recordable (length out) d.totals v w s
-    step_recordable es = join-recordable out p.is-valid step_room step_joinable es
+    step_recordable es = join-recordable out p.is_valid step_room step_joinable es
 
     -- k and l are their classes, g' the matrix after the join, s its switches
     module _ {k l : ℕ} (ek : k ≡ class_from starts v) (el : l ≡ class_from starts w) {g' : List ℕ}
@@ -78,14 +78,14 @@ module _ {n : ℕ} {cells starts classes g have full pairs sums low degrees : Li
       update_asks =
           rw (eg, es, ek, el) (
             (
-              scannable_after p.tracked p.is-valid.filling v w step_rises step_pair false,
-              (λ u un. rw (p.tracked.classed u un) (p.is-valid.filling.target.classed u un)),
+              scannable_after p.tracked p.is_valid.filling v w step_rises step_pair false,
+              (λ u un. rw (p.tracked.classed u un) (p.is_valid.filling.target.classed u un)),
               switches_below step_joinable,
             ),
             (
-              classes_rise p.tracked p.is-valid.filling v w step_rises step_pair,
-              column_class p.tracked p.is-valid.filling v w step_rises step_pair,
-              now_within p.tracked p.is-valid.filling v w step_rises step_pair,
+              classes_rise p.tracked p.is_valid.filling v w step_rises step_pair,
+              column_class p.tracked p.is_valid.filling v w step_rises step_pair,
+              now_within p.tracked p.is_valid.filling v w step_rises step_pair,
             ),
           )
 
@@ -95,7 +95,7 @@ module _ {n : ℕ} {cells starts classes g have full pairs sums low degrees : Li
           → Summed pairs' sums' → Tracked n cells starts classes g' have' full' pairs' sums'
       step-tracked eh ef ec summed =
           let ec' = rw (eg, ek, el, es) at ec in
-          rw (eg, eh, ef, ek, el) (tracked_after p.tracked p.is-valid.filling v w step_rises step_pair ec' summed)
+          rw (eg, eh, ef, ek, el) (tracked_after p.tracked p.is_valid.filling v w step_rises step_pair ec' summed)
 
       -- the output with the record
       module _ {out' : List ℕ} (eo : out' ≡ sets out (join_record_size * d.totals.joins) (join_record v w s)) where
@@ -133,8 +133,8 @@ module _ {n : ℕ} {cells starts classes g have full pairs sums low degrees : Li
             record {
               tracked = step-tracked eh ef ec summed;
               lows = rw eg lows;
-              is-valid =
+              is_valid =
                   rw step_ran
-                  (joined-valid n (class_from starts) (matrix_of cells) (length out) (ran g out d.totals) p.is-valid v w step_pair);
+                  (joined-valid n (class_from starts) (matrix_of cells) (length out) (ran g out d.totals) p.is_valid v w step_pair);
               degrees_right = rw eg ed;
             }

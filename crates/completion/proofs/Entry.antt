@@ -92,7 +92,7 @@ module _ (s : State) where
   -- a valid laid state is where a run may begin
   pub good_start : ValidLaid s → Good (vertex_count s) (class_at s) (jdm_of s.journal) (fresh s.adjacency)
   good_start f =
-      let facts = valid-facts s f.lengths f.is-valid in
+      let facts = valid-facts s f.lengths f.is_valid in
       let laid = facts.laid f.phased in
       (record { sized = facts.adjacency_length; few = laid.vertices-le; target = laid.target; partial = laid.partial }, laid.outside)
 
@@ -122,7 +122,7 @@ module _ (s : State) where
         state =
             record {
               lengths = lengths_both (with_matrix s g') facts.journal_length end.filling.sized;
-              is-valid = laid-valid s laid g' f.phased facts.journal-ok end.filling.sized end.filling.partial end.outside;
+              is_valid = laid-valid s laid g' f.phased facts.journal-ok end.filling.sized end.filling.partial end.outside;
               phased = f.phased;
             };
         more = omega (arith, end.counted);
@@ -139,7 +139,7 @@ module _ (s : State) where
       }
     where
       facts : StateFacts s
-      facts = valid-facts s f.lengths f.is-valid
+      facts = valid-facts s f.lengths f.is_valid
 
       laid : Laid s
       laid = facts.laid f.phased

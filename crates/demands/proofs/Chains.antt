@@ -173,7 +173,9 @@ take_more m ns (Take.Refused r) h = rw h (or-true (eqb (number_of r.cause) m))
 pub take-chain : (c : Bool) (a : TakeAnswer) → OfTake (5 ∷ 6 ∷ 7 ∷ 3 ∷ 8 ∷ []) a
     → OfTake (1 ∷ 2 ∷ 4 ∷ 5 ∷ 6 ∷ 7 ∷ 3 ∷ 8 ∷ []) (unless c (Take.Refused (refuse BlockLength 0 0)) a)
 take-chain false a h = refl
-take-chain true a h = take_more 1 _ a (take_more 2 _ a (take_more 4 _ a h))
+take-chain true a h =
+    let last = 5 ∷ 6 ∷ 7 ∷ 3 ∷ 8 ∷ [] in
+    take_more 1 (2 ∷ 4 ∷ last) a (take_more 2 (4 ∷ last) a (take_more 4 last a h))
 
 pub length-chain : (c : Bool) (n : ℕ) → OfLength (1 ∷ 2 ∷ 6 ∷ []) (unless c (Len.Refused (refuse BlockNumber 0 0)) (Len.Length n))
 length-chain false n = refl

@@ -122,16 +122,17 @@ complete-refused : (s : Loan) (r : Ran) (out : List ℕ) (q : Refusal) → ran_a
     → CarriesOneOf q (1 ∷ 2 ∷ 3 ∷ 18 ∷ []) × (ran_after r s (length out) ≡ s) × (ran_output r s out ≡ out)
 complete-refused s r out q e = (
   subst (OfComplete (1 ∷ 2 ∷ 3 ∷ 18 ∷ [])) e
-      (behind OfComplete _ (laid_verdict s) Complete.Refused (ran_laid r s.state (length out)) (λ r h. h) (laid-numbers s _)
+      (behind OfComplete (1 ∷ 2 ∷ 3 ∷ 18 ∷ []) (laid_verdict s) Complete.Refused (ran_laid r s.state (length out)) (λ r h. h)
+      (laid-numbers s (18 ∷ []))
       (complete-chain (leb (join_record_size * missing s.state) (length out)) r.joins r.switches (length r.records))),
   (refused-leaves s r out q e).0,
   (refused-leaves s r out q e).1,
 )
 
-complete-written : (f : Choice) (s : Loan) (out : List ℕ) (joins switches n : ℕ)
+complete_written : (f : Choice) (s : Loan) (out : List ℕ) (joins switches n : ℕ)
     → choice_answer f s (length out) ≡ Complete.Completed joins switches n
     → (n ≡ join_record_size * joins) × SamePast n out (choice_output f s out)
-complete-written f s out joins switches n e =
+complete_written f s out joins switches n e =
     let r = outcome f s.state in
     let c = completed-facts s r (length out) joins switches n e in
     let x = outcome-works f s.state (laid-state s c.loan) in (
@@ -143,7 +144,8 @@ complete-written f s out joins switches n e =
 -- adding, behind the checks 1 to 3
 add-numbers : (s : State) (v w : ℕ) → OfAdd (1 ∷ 2 ∷ 3 ∷ 13 ∷ 14 ∷ 15 ∷ 16 ∷ []) (add_laid s v w)
 add-numbers s v w =
-    behind OfAdd _ (pair_verdict (vertex_count s) v w) Add.Refused (add_pair s v w) (λ r h. h) (pair-numbers (vertex_count s) v w _)
+    behind OfAdd (1 ∷ 2 ∷ 3 ∷ 13 ∷ 14 ∷ 15 ∷ 16 ∷ []) (pair_verdict (vertex_count s) v w) Add.Refused (add_pair s v w) (λ r h. h)
+    (pair-numbers (vertex_count s) v w (15 ∷ 16 ∷ []))
     (add-chain (eqb (edge s.adjacency v w) 0) (short_at s (class_at s v) (class_at s w))
     (min (class_at s v) (class_at s w)) (max (class_at s v) (class_at s w)) (join_switches (vertex_count s) (class_at s) s.adjacency v w))
 
@@ -156,53 +158,57 @@ demand_1 =
       );
       take = λ s number b r e. (
         subst (OfTake (1 ∷ 2 ∷ 4 ∷ 5 ∷ 6 ∷ 7 ∷ 3 ∷ 8 ∷ [])) e
-            (behind OfTake _ (state_verdict s) Take.Refused (take_on_valid s.journal number b) (λ r h. h) (state_numbers s _)
+            (behind OfTake (1 ∷ 2 ∷ 4 ∷ 5 ∷ 6 ∷ 7 ∷ 3 ∷ 8 ∷ []) (state_verdict s) Take.Refused (take_on_valid s.journal number b) (λ r h. h)
+            (state_numbers s (4 ∷ 5 ∷ 6 ∷ 7 ∷ 3 ∷ 8 ∷ []))
             (take-chain (block_length (length b)) (take_later s.journal number b) (later_numbers s.journal number b))),
         ap (λ (a : TakeAnswer). after_take a s b) e,
       );
       held = λ s number r e. (
         subst (OfLength (1 ∷ 2 ∷ 6 ∷ [])) e
-            (behind OfLength _ (state_verdict s) Len.Refused _ (λ r h. h) (state_numbers s _)
+            (behind OfLength (1 ∷ 2 ∷ 6 ∷ []) (state_verdict s) Len.Refused _ (λ r h. h) (state_numbers s (6 ∷ []))
             (length-chain (ltb number (blocks s.journal)) (slot_length s.journal number))),
         ap (λ (a : LengthAnswer). part_held a s.journal number) e,
       );
-      lay-out = λ s r e. (
+      lay_out = λ s r e. (
         subst (OfLayOut (1 ∷ 2 ∷ 3 ∷ 9 ∷ 10 ∷ 11 ∷ 12 ∷ [])) e
-            (behind OfLayOut _ (phase_verdict phase_taking s) LayOut.Refused _ (λ r h. h) (phase-numbers phase_taking s _)
-            (behind OfLayOut _ (layout_verdict (table_of s.journal)) LayOut.Refused (LayOut.LaidOut (vertices (table_of s.journal))) (λ r h. h)
+            (behind OfLayOut (1 ∷ 2 ∷ 3 ∷ 9 ∷ 10 ∷ 11 ∷ 12 ∷ []) (phase_verdict phase_taking s) LayOut.Refused _ (λ r h. h)
+            (phase-numbers phase_taking s (9 ∷ 10 ∷ 11 ∷ 12 ∷ []))
+            (behind OfLayOut (1 ∷ 2 ∷ 3 ∷ 9 ∷ 10 ∷ 11 ∷ 12 ∷ []) (layout_verdict (table_of s.journal)) LayOut.Refused (LayOut.LaidOut (vertices (table_of s.journal))) (λ r h. h)
             (layout_numbers (table_of s.journal)) tt)),
         ap (λ (a : LayOutAnswer). after_lay_out a s) e,
       );
       add = λ s v w r e. (
         subst (OfAdd (1 ∷ 2 ∷ 3 ∷ 13 ∷ 14 ∷ 15 ∷ 16 ∷ [])) e
-            (behind OfAdd _ (laid_verdict s) Add.Refused (add_laid s.state v w) (λ r h. h) (laid-numbers s _) (add-numbers s.state v w)),
+            (behind OfAdd (1 ∷ 2 ∷ 3 ∷ 13 ∷ 14 ∷ 15 ∷ 16 ∷ []) (laid_verdict s) Add.Refused (add_laid s.state v w) (λ r h. h)
+            (laid-numbers s (13 ∷ 14 ∷ 15 ∷ 16 ∷ [])) (add-numbers s.state v w)),
         ap (λ (a : AddAnswer). after_add a s v w) e,
       );
       remove = λ s v w r e. (
         subst (OfRemove (1 ∷ 2 ∷ 3 ∷ 13 ∷ 14 ∷ 17 ∷ [])) e
-            (behind OfRemove _ (laid_verdict s) Remove.Refused _ (λ r h. h) (laid-numbers s _)
-            (behind OfRemove _ (pair_verdict (vertex_count s.state) v w) Remove.Refused _ (λ r h. h) (pair-numbers (vertex_count s.state) v w _)
+            (behind OfRemove (1 ∷ 2 ∷ 3 ∷ 13 ∷ 14 ∷ 17 ∷ []) (laid_verdict s) Remove.Refused _ (λ r h. h) (laid-numbers s (13 ∷ 14 ∷ 17 ∷ []))
+            (behind OfRemove (1 ∷ 2 ∷ 3 ∷ 13 ∷ 14 ∷ 17 ∷ []) (pair_verdict (vertex_count s.state) v w) Remove.Refused _ (λ r h. h)
+            (pair-numbers (vertex_count s.state) v w (17 ∷ []))
             (remove-chain (eqb (edge s.state.adjacency v w) 1)))),
         ap (λ (a : RemoveAnswer). after_remove a s v w) e,
       );
       swap = λ s x r e. (
         subst (OfSwap (1 ∷ 2 ∷ 3 ∷ 13 ∷ 23 ∷ 24 ∷ [])) e
-            (behind OfSwap _ (laid_verdict s) Swap.Refused _ (λ r h. h) (laid-numbers s _)
+            (behind OfSwap (1 ∷ 2 ∷ 3 ∷ 13 ∷ 23 ∷ 24 ∷ []) (laid_verdict s) Swap.Refused _ (λ r h. h) (laid-numbers s (13 ∷ 23 ∷ 24 ∷ []))
             (swap-chain (are_vertices (vertex_count s.state) x) (is_allowed (class_at s.state) s.state.adjacency x)
             (ltb (swap_count s.log) most_swaps))),
         ap (λ (a : SwapAnswer). after_swap a s x) e,
       );
       undo = λ s r e. (
         subst (OfUndo (1 ∷ 2 ∷ 3 ∷ 25 ∷ [])) e
-            (behind OfUndo _ (laid_verdict s) Undo.Refused _ (λ r h. h) (laid-numbers s _) (undo-chain (ltb 0 (swap_count s.log)))),
+            (behind OfUndo (1 ∷ 2 ∷ 3 ∷ 25 ∷ []) (laid_verdict s) Undo.Refused _ (λ r h. h) (laid-numbers s (25 ∷ [])) (undo-chain (ltb 0 (swap_count s.log)))),
         ap (λ (a : UndoAnswer). after_undo a s) e,
       );
       complete = λ s. complete-refused s (completed s.state);
-      complete-written = λ s. complete-written Lowest s;
+      complete_written = λ s. complete_written Lowest s;
       shuffle = λ s x out q e.
           complete-refused s (shuffled s.state x).ran out q (with_x-refused (shuffled s.state x).x _ q e);
       shuffle_written = λ s x out joins switches n y e.
-          complete-written (Picked x) s out joins switches n (with_x-completed (shuffled s.state x).x _ joins switches n y e).0;
+          complete_written (Picked x) s out joins switches n (with_x-completed (shuffled s.state x).x _ joins switches n y e).0;
       list = λ s out r e. (
         subst (OfWritten (1 ∷ 2 ∷ 3 ∷ 18 ∷ []) (length (list_bytes (vertex_count s) s.adjacency)) (length out)) e (edges-numbers s (length out)),
         ap (λ (a : WrittenAnswer). output_listed a s out) e,
@@ -215,17 +221,17 @@ demand_1 =
         subst (OfWritten (19 ∷ 20 ∷ 18 ∷ []) (length (survey_records e total)) (length out)) p (survey-numbers e total (length out)),
         ap (λ (a : WrittenAnswer). survey_output a e total out) p,
       );
-      survey-written = λ e total out n p.
+      survey_written = λ e total out n p.
           let h = subst (OfWritten (19 ∷ 20 ∷ 18 ∷ []) (length (survey_records e total)) (length out)) p (survey-numbers e total (length out)) in
           subst (SamePast n out) (sym (ap (λ (a : WrittenAnswer). survey_output a e total out) p)) (past out (survey_records e total) n h.0 h.1);
-      graph6-write = λ e total out r p. (
+      graph6_write = λ e total out r p. (
         subst (OfWritten (19 ∷ 18 ∷ []) (length (write_text e total)) (length out)) p (write_numbers e total (length out)),
         ap (λ (a : WrittenAnswer). write_output a e total out) p,
       );
       graph6_written = λ e total out n p.
           let h = subst (OfWritten (19 ∷ 18 ∷ []) (length (write_text e total)) (length out)) p (write_numbers e total (length out)) in
           subst (SamePast n out) (sym (ap (λ (a : WrittenAnswer). write_output a e total out) p)) (past out (write_text e total) n h.0 h.1);
-      graph6-read = λ t out r p. (
+      graph6_read = λ t out r p. (
         subst (OfRead (22 ∷ 21 ∷ 18 ∷ []) (length (read_list t)) (length out)) p (read-numbers t (length out)),
         ap (λ (a : ReadAnswer). read_output a t out) p,
       );
@@ -233,5 +239,5 @@ demand_1 =
           let h = subst (OfRead (22 ∷ 21 ∷ 18 ∷ []) (length (read_list t)) (length out)) p (read-numbers t (length out)) in
           subst (SamePast n out) (sym (ap (λ (a : ReadAnswer). read_output a t out) p)) (past out (read_list t) n h.0 h.1);
       figures = λ s r e.
-          subst (OfFigures (1 ∷ 2 ∷ [])) e (behind OfFigures _ (state_verdict s) Figs.Refused _ (λ r h. h) (state_numbers s _) tt);
+          subst (OfFigures (1 ∷ 2 ∷ [])) e (behind OfFigures (1 ∷ 2 ∷ []) (state_verdict s) Figs.Refused _ (λ r h. h) (state_numbers s []) tt);
     }

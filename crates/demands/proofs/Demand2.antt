@@ -183,9 +183,9 @@ answered-table calls =
     ∙ sym (reach calls).table
 
 -- laid, and no cell short: no cell is above the table on a valid state, so that every cell is the table's
-none_short_has : (s : State) (lengths : lengths_ok s ≡ true) (is-valid : valid s ≡ true)
+none_short_has : (s : State) (lengths : lengths_ok s ≡ true) (is_valid : valid s ≡ true)
     → phase s.journal ≡ phase_laid → ((k l : ℕ) → ShortFor (table_of s.journal) s k l → ⊥) → HasTable (table_of s.journal) s
-none_short_has s lengths is-valid phased full =
+none_short_has s lengths is_valid phased full =
     record {
       simple = laid.partial.simple;
       exact = has_table (table_of s.journal) table passed (edge s.adjacency) laid.partial filled;
@@ -194,7 +194,7 @@ none_short_has s lengths is-valid phased full =
     }
   where
     facts : StateFacts s
-    facts = valid-facts s lengths is-valid
+    facts = valid-facts s lengths is_valid
 
     laid : Laid s
     laid = facts.laid phased
@@ -218,7 +218,7 @@ record Done (s : Loan) : Type 0 where
 done-has : (s : Loan) → Done s → HasTable (table_of s.state.journal) s.state
 done-has s d =
     let l = laid-state s d.laid in
-    none_short_has s.state l.lengths l.is-valid l.phased (λ k l h. omega (arith, h, d.filled k l))
+    none_short_has s.state l.lengths l.is_valid l.phased (λ k l h. omega (arith, h, d.filled k l))
 
 done-completed : (s : Loan) (f : Choice) (out : List ℕ) (joins switches n : ℕ)
     → choice_answer f s (length out) ≡ Completed joins switches n
@@ -272,11 +272,11 @@ done-undo s d = go (undo_answer s) refl
 done-take : (s : Loan) → Done s → (number : ℕ) (b : List ℕ) → take_after s.state number b ≡ s.state
 done-take s d number b =
     let l = laid-state s d.laid in
-    (take-taken s.state number b l.lengths l.is-valid).1
+    (take-taken s.state number b l.lengths l.is_valid).1
     ∙ rw (l.phased, and-false (well_formed b && eqb number (blocks s.state.journal)))
 
 done-lay_out : (s : Loan) → Done s → lay_out_after s.state ≡ s.state
-done-lay_out s d = let l = laid-state s d.laid in (lay_out_laid_out s.state l.lengths l.is-valid).1 ∙ rw l.phased
+done-lay_out s d = let l = laid-state s d.laid in (lay_out_laid_out s.state l.lengths l.is_valid).1 ∙ rw l.phased
 
 done-add : (s : Loan) (v w : ℕ) → add_refused (add_answer s v w) ≡ true → add_after s v w ≡ s
 done-add s v w e = go (add_answer s v w) e

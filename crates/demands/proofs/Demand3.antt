@@ -106,10 +106,10 @@ module _ (b : Loan) (checked : LaidLoan b) where
             switches = join_switches (vertex_count s) (class_at s) s.adjacency v w;
             answer = e;
             lengths = subst (λ (y : Loan). loan_lengths_ok y ≡ true) (sym (to e)) x.loan.lengths;
-            is-valid = subst (λ (y : Loan). loan_valid y ≡ true) (sym (to e)) x.loan.is-valid;
+            is_valid = subst (λ (y : Loan). loan_valid y ≡ true) (sym (to e)) x.loan.is_valid;
             linked = subst (λ (y : Loan). edge y.state.adjacency v w ≡ 1) (sym (to e)) x.linked;
             one_more = subst (λ (y : Loan). D.edges_laid (table_of s.journal) y.state ≡ edge_total s + 1) (sym (to e)) x.one_more;
-            no-log = ap (λ (y : Loan). y.log) (to e);
+            no_log = ap (λ (y : Loan). y.log) (to e);
           }
 
   -- a short cell has an open pair; no cell past the classes is short

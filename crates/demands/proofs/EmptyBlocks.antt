@@ -26,13 +26,13 @@ use Rattle.demands.specs.EmptyBlocks.{TakesEmpty, EmptyBlocks}
 use Rattle.demands.proofs.Chains.{OfTake, later_numbers}
 use Rattle.demands.proofs.Kept.{reads_back}
 
-module _ (s : State) (lengths : lengths_ok s ≡ true) (is-valid : valid s ≡ true)
+module _ (s : State) (lengths : lengths_ok s ≡ true) (is_valid : valid s ≡ true)
     (taking : phase s.journal ≡ phase_taking) (room : blocks s.journal < most_blocks) where
   facts : TakenFacts s (blocks s.journal) []
   facts =
       record {
         lengths = lengths;
-        is-valid = is-valid;
+        is_valid = is_valid;
         good = empty-well_formed;
         next = refl;
         taking = taking;
@@ -44,8 +44,8 @@ module _ (s : State) (lengths : lengths_ok s ≡ true) (is-valid : valid s ≡ t
       let a = facts_taken s (blocks s.journal) [] facts in
       record {
         answer = a;
-        counted = rw (a, stored-empty s.journal (valid-journal s is-valid) room);
-        adds-nothing = taken-table s (blocks s.journal) [] _ a ∙ empty-adds (table_of s.journal);
+        counted = rw (a, stored-empty s.journal (valid-journal s is_valid) room);
+        adds_nothing = taken-table s (blocks s.journal) [] _ a ∙ empty-adds (table_of s.journal);
       }
 
 -- no check behind 4 gives that answer
@@ -74,7 +74,7 @@ empty-blocks =
           record {
             resent = h.resent;
             full_differs = λ b w l. h.differs b w (λ e. absurd (omega (arith, ap length e)));
-            length-0 = h.sized;
+            length_0 = h.sized;
             part = h.same;
           };
       differs = λ calls number b a l. (reads_back.accepted-held calls number b a).differs [] empty-well_formed (λ e. absurd (omega (arith, ap length e)));

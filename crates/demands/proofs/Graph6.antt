@@ -190,7 +190,7 @@ graph6 =
           same_refusal (list_verdict e total) (survey_listed e total k) (write_listed e total m) r
           (λ q. other_than_19 (20 ∷ 18 ∷ []) refl r (subst (OfWritten (20 ∷ 18 ∷ []) (length (survey_records e total)) k) q (survey-rest (20 ∷ 18 ∷ []) refl refl e total k)) nineteen) h;
       laid = λ s v.
-          let l = (valid-facts s v.lengths v.is-valid).laid v.phased in
+          let l = (valid-facts s v.lengths v.is_valid).laid v.phased in
           let n = vertex_count s in
           let g = s.adjacency in
           let e = text_cong n (edge g) (graph_of (list_bytes n g)) (same s l) in (

@@ -57,9 +57,9 @@ module _ (s : State) (facts : StateFacts s) (laid : Laid s) (v : ℕ) (h : v < v
           le-ltb (cell_at s (class_at s v) (class_at s w)) _ (rw (e, table.none_of_0 (class_at s w)) (omega arith)),
           le-ltb (cell_at s (class_at s w) (class_at s v)) _ (rw (e, table.symmetric (class_at s w) 0, table.none_of_0 (class_at s w)) (omega arith)),
         );
-        no-substitute = λ a other.
+        no_substitute = λ a other.
             rw (le-ltb (degree (vertex_count s) (edge s.adjacency) v) (class_degree (class_at s v)) (rw e (omega arith)), and-false (eqb (class_at s v) (class_at s a)));
-        no-swap = λ x can.
+        no_swap = λ x can.
             let c = rule_met x (vertex_count s) (class_at s) s.adjacency can in
             let p = no_end x.a x.b c.a_vertex c.b_vertex c.first in
             let q = no_end x.c x.d c.c_vertex c.d_vertex c.second in
@@ -68,5 +68,5 @@ module _ (s : State) (facts : StateFacts s) (laid : Laid s) (v : ℕ) (h : v < v
 
 pub isolated-alone : IsolatedAlone
 isolated-alone s x v h =
-    let facts = valid-facts s x.lengths x.is-valid in
+    let facts = valid-facts s x.lengths x.is_valid in
     (isolated-first s v h, alone s facts (facts.laid x.phased) v h)

@@ -69,7 +69,7 @@ module _ (s : Loan) (t : Tally) (r : Reach s t) where
       go (Taken m) e =
           let f = taken-facts s.state n x m e in
           let size = lengths_journal s.state f.lengths in
-          let ok = valid-journal s.state f.is-valid in
+          let ok = valid-journal s.state f.is_valid in
           record {
             low = omega (arith, h.low, blocks-stored s.state.journal x size ok f.room f.good);
             same = block_at-stored s.state.journal x size ok f.room f.good number h.low ∙ h.same;
@@ -101,7 +101,7 @@ module _ (s : Loan) (t : Tally) (r : Reach s t) where
           old (no p) =
               let f = taken-facts s.state n x m e in
               let size = lengths_journal s.state f.lengths in
-              let ok = valid-journal s.state f.is-valid in
+              let ok = valid-journal s.state f.is_valid in
               let q : n ≡ number = omega (arith, f.next, l, p, blocks-stored s.state.journal x size ok f.room f.good) in
               inr (subst (λ (i : ℕ). AcceptedFrom s (changes (take n x) ∷ cs) i) q (x, [], cs, refl, ap accepted e))
       go Held e l = inl l
@@ -170,11 +170,11 @@ reads_back =
         let s = (after_all cleared_loan calls).state in
         let l = reached_lengths (after_all cleared_loan calls) (tally_all cleared_loan no_tally calls) r in
         let v = reached_valid (after_all cleared_loan calls) (tally_all cleared_loan no_tally calls) r in
-        let q = read_back s number (record { lengths = l; is-valid = v; low = h.low }) in
+        let q = read_back s number (record { lengths = l; is_valid = v; low = h.low }) in
         record {
           low = h.low;
           sized = q.0 ∙ ap (λ (x : List ℕ). Length (length x)) h.same;
           same = q.1 ∙ h.same;
-          resent = facts_held s number b (record { lengths = l; is-valid = v; low = h.low; same = h.same });
+          resent = facts_held s number b (record { lengths = l; is_valid = v; low = h.low; same = h.same });
           differs = λ b' w other. take-differs s number b' l v w h.low (λ e. other (sym h.same ∙ e));
         }

@@ -69,4 +69,4 @@ list-surveyed s v = (
 )
   where
     laid : Laid s
-    laid = (valid-facts s v.lengths v.is-valid).laid v.phased
+    laid = (valid-facts s v.lengths v.is_valid).laid v.phased

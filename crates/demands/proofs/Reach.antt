@@ -78,23 +78,23 @@ reach_cleared =
     let c = cleared-state in
     record {
       lengths = cleared-loan.lengths;
-      is-valid = cleared-loan.is-valid;
+      is_valid = cleared-loan.is_valid;
       table = c.no_table;
       numbered = c.no_blocks;
       phased = c.taking;
-      counted = no-edges_yet cleared_loan.state c.lengths c.is-valid c.taking _;
+      counted = no-edges_yet cleared_loan.state c.lengths c.is_valid c.taking _;
     }
 
 -- a reached state by itself
 module _ (s : Loan) (t : Tally) (r : Reach s t) where
   pub reached_loan : ValidLoan s
-  reached_loan = record { lengths = r.lengths; is-valid = r.is-valid }
+  reached_loan = record { lengths = r.lengths; is_valid = r.is_valid }
 
   pub reached_lengths : lengths_ok s.state ≡ true
   reached_lengths = (loan_lengths s r.lengths).0
 
   pub reached_valid : valid s.state ≡ true
-  reached_valid = (loan-valid s r.is-valid).0
+  reached_valid = (loan-valid s r.is_valid).0
 
   -- what adding, removing or completing that was not refused needs: a laid state
   pub laid-tally : phase s.state.journal ≡ phase_laid → t.laid ≡ true
@@ -108,7 +108,7 @@ module _ (s : Loan) (t : Tally) (r : Reach s t) where
   phase-0 e = r.phased ∙ ap phase_of e
 
   pub reached_laid : t.laid ≡ true → LaidLoan s
-  reached_laid e = record { lengths = r.lengths; is-valid = r.is-valid; phased = r.phased ∙ ap phase_of e }
+  reached_laid e = record { lengths = r.lengths; is_valid = r.is_valid; phased = r.phased ∙ ap phase_of e }
 
 -- While blocks are taken the log is empty, and so it is valid beside any state that comes of a block or of a layout.
 pub still_valid : (s : Loan) → ValidLoan s → phase s.state.journal ≡ phase_taking → (s' : State) → lengths_ok s' ≡ true → valid s' ≡ true
@@ -116,14 +116,14 @@ pub still_valid : (s : Loan) → ValidLoan s → phase s.state.journal ≡ phase
 still_valid s v e s' l w =
     record {
       lengths = lengths_loan (with_state s s') l (loan_lengths s v.lengths).1;
-      is-valid = valid-loan (with_state s s') w (zero_valid s' s.log (λ p. rw (taking_empty s v e) (empty_log-zero p)));
+      is_valid = valid-loan (with_state s s') w (zero_valid s' s.log (λ p. rw (taking_empty s v e) (empty_log-zero p)));
     }
 
 -- the tally's edges moved on a laid state
 with-edges : (s : Loan) (g l : List ℕ) (t : Tally) (m : ℕ) → Reach s t → LaidLoan (record { state = with_matrix s.state g; log = l })
     → edge_total (with_matrix s.state g) ≡ m → Reach (record { state = with_matrix s.state g; log = l }) (with_edges t m)
 with-edges s g l t m r v count =
-    record { lengths = v.lengths; is-valid = v.is-valid; table = r.table; numbered = r.numbered; phased = r.phased; counted = count }
+    record { lengths = v.lengths; is_valid = v.is_valid; table = r.table; numbered = r.numbered; phased = r.phased; counted = count }
 
 module _ (s : Loan) (t : Tally) (r : Reach s t) where
   -- before laying out neither has an edge, whatever the vertices will be
@@ -154,12 +154,12 @@ module _ (s : Loan) (t : Tally) (r : Reach s t) where
           new : TakenFacts s.state number b → Reach (with_state s (with_journal s.state (stored s.state.journal b))) (with_block t b)
           new f =
               let size = lengths_journal s.state f.lengths in
-              let ok = valid-journal s.state f.is-valid in
+              let ok = valid-journal s.state f.is_valid in
               let v = still_valid s (reached_loan s t r) f.taking (with_journal s.state (stored s.state.journal b))
-              (rw e at (take-lengths s.state number b f.lengths)) (rw e at (take-valid s.state number b f.is-valid)) in
+              (rw e at (take-lengths s.state number b f.lengths)) (rw e at (take-valid s.state number b f.is_valid)) in
               record {
                 lengths = v.lengths;
-                is-valid = v.is-valid;
+                is_valid = v.is_valid;
                 table =
                     table_stored s.state.journal b size ok f.room f.good
                     ∙ ap (λ (u : DegreeTable). plus u b) r.table;
@@ -197,10 +197,10 @@ module _ (s : Loan) (t : Tally) (r : Reach s t) where
           new : LaidOutFacts s.state → Reach (with_state s (with_journal s.state (laid s.state.journal))) (now_laid t)
           new f =
               let v = still_valid s (reached_loan s t r) f.taking (with_journal s.state (laid s.state.journal))
-              (lay_out_lengths s.state (LaidOut n) f.lengths) (rw e at (lay_out_valid s.state f.lengths f.is-valid)) in
+              (lay_out_lengths s.state (LaidOut n) f.lengths) (rw e at (lay_out_valid s.state f.lengths f.is_valid)) in
               record {
                 lengths = v.lengths;
-                is-valid = v.is-valid;
+                is_valid = v.is_valid;
                 table = table_laid s.state.journal ∙ r.table;
                 numbered = blocks-laid s.state.journal ∙ r.numbered;
                 phased = phase-laid s.state.journal (lengths_journal s.state f.lengths);
@@ -254,7 +254,7 @@ module _ (s : Loan) (t : Tally) (r : Reach s t) where
   preserved g l p =
       record {
         lengths = p.laid.lengths;
-        is-valid = p.laid.is-valid;
+        is_valid = p.laid.is_valid;
         table = r.table;
         numbered = r.numbered;
         phased = r.phased;
@@ -309,13 +309,13 @@ module _ (s : Loan) (v : ValidLoan s) where
   Both s' = (loan_lengths_ok s' ≡ true) × (loan_valid s' ≡ true)
 
   same-both : Both s
-  same-both = (v.lengths, v.is-valid)
+  same-both = (v.lengths, v.is_valid)
 
   new-both : (s' : State) → phase s.state.journal ≡ phase_taking → lengths_ok s' ≡ true → valid s' ≡ true → Both (with_state s s')
-  new-both s' e l w = let b = still_valid s v e s' l w in (b.lengths, b.is-valid)
+  new-both s' e l w = let b = still_valid s v e s' l w in (b.lengths, b.is_valid)
 
   laid_both : {s' : Loan} → LaidLoan s' → Both s'
-  laid_both w = (w.lengths, w.is-valid)
+  laid_both w = (w.lengths, w.is_valid)
 
   stays-taken : (number : ℕ) (b : List ℕ) → Both (changed s (take number b))
   stays-taken number b = go (take_answer s.state number b) refl
@@ -324,7 +324,7 @@ module _ (s : Loan) (v : ValidLoan s) where
       go (Taken m) e =
           let f = taken-facts s.state number b m e in
           new-both (after_take (Taken m) s.state b) f.taking (rw e at (take-lengths s.state number b f.lengths))
-          (rw e at (take-valid s.state number b f.is-valid))
+          (rw e at (take-valid s.state number b f.is_valid))
       go Held e = same-both
       go (Refused q) e = same-both
 
@@ -335,7 +335,7 @@ module _ (s : Loan) (v : ValidLoan s) where
       go (LaidOut n) e =
           let f = lay_out_facts s.state n e in
           new-both (after_lay_out (LaidOut n) s.state) f.taking (lay_out_lengths s.state (LaidOut n) f.lengths)
-          (rw e at (lay_out_valid s.state f.lengths f.is-valid))
+          (rw e at (lay_out_valid s.state f.lengths f.is_valid))
       go (LayRefused q) e = same-both
 
   stays-added : (x y : ℕ) → Both (changed s (add x y))
@@ -385,5 +385,5 @@ module _ (s : Loan) (v : ValidLoan s) where
   stays-changed undo = stays-undone
 
 pub stays_valid : StaysValid
-stays_valid s l v (changes c) = stays-changed s (record { lengths = l; is-valid = v }) c
+stays_valid s l v (changes c) = stays-changed s (record { lengths = l; is_valid = v }) c
 stays_valid s l v (reads q) = (l, v)

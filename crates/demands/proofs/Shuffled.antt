@@ -85,7 +85,7 @@ pub shuffled-completing : ShuffledCompleting
 shuffled-completing =
     record {
       shuffles = shuffles;
-      complete-already = left_alone;
+      complete_already = left_alone;
       refused = λ b x out q e. with_x-refused (shuffled b.state x).x _ q e;
       same_state = λ s x out. refl;
     }

@@ -108,9 +108,9 @@ replays : (s : Loan) → ValidLoan s → replay s.log (swap_count s.log) (began_
 replays s v = go (ℕ_discrete (phase s.state.journal) phase_laid)
   where
     go : Dec (phase s.state.journal ≡ phase_laid) → replay s.log (swap_count s.log) (began_with s) ≡ s.state.adjacency
-    go (yes p) = loan_works.replayed s (record { lengths = v.lengths; is-valid = v.is-valid; phased = p })
+    go (yes p) = loan_works.replayed s (record { lengths = v.lengths; is_valid = v.is_valid; phased = p })
     go (no p) =
-        let taking : phase s.state.journal ≡ phase_taking = omega (arith, two_phases s.state (valid-journal s.state (loan-valid s v.is-valid).0), p) in
+        let taking : phase s.state.journal ≡ phase_taking = omega (arith, two_phases s.state (valid-journal s.state (loan-valid s v.is_valid).0), p) in
         let e = taking_empty s v taking in
         let none : swap_count s.log ≡ 0 = omega (arith, ap swap_count e, empty_log-zero 0, empty_log-zero 1) in
         ap (λ (m : ℕ). replay s.log m (began_with s)) none
@@ -291,7 +291,7 @@ swaps-and_undos =
       tells = tells;
       mixed = λ s v calls h.
           let m = mix calls s v h in
-          (m.0, tells_from (after_all s calls) (began_with s) (record { lengths = m.0.lengths; is-valid = m.0.is-valid }) m.1);
+          (m.0, tells_from (after_all s calls) (began_with s) (record { lengths = m.0.lengths; is_valid = m.0.is_valid }) m.1);
       kept = λ s c h. fate_kept s (changed s c) (fate s c h);
       emptied = λ s c h. fate_emptied s (changed s c) (fate s c h);
     }

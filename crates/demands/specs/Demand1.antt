@@ -70,7 +70,7 @@ pub record Demand1 : Type 0 where
       CarriesOneOf r (allowed (changes (take number b))) × (take_after s number b ≡ s)
   pub held : (s : State) (number : ℕ) (r : Refusal) → length_answer s number ≡ Len.Refused r →
       CarriesOneOf r (allowed (reads (read_back_call number))) × (held_part s number ≡ [])
-  pub lay-out : (s : State) (r : Refusal) → lay_out_answer s ≡ LayOut.Refused r → CarriesOneOf r (allowed (changes lay_out_call)) × (lay_out_after s ≡ s)
+  pub lay_out : (s : State) (r : Refusal) → lay_out_answer s ≡ LayOut.Refused r → CarriesOneOf r (allowed (changes lay_out_call)) × (lay_out_after s ≡ s)
   pub add : (s : Loan) (v w : ℕ) (r : Refusal) → add_answer s v w ≡ Add.Refused r →
       CarriesOneOf r (allowed (changes (add v w))) × (add_after s v w ≡ s)
   pub remove : (s : Loan) (v w : ℕ) (r : Refusal) → remove_answer s v w ≡ Remove.Refused r →
@@ -80,7 +80,7 @@ pub record Demand1 : Type 0 where
   pub undo : (s : Loan) (r : Refusal) → undo_answer s ≡ Undo.Refused r → CarriesOneOf r (allowed (changes undo)) × (undo_after s ≡ s)
   pub complete : (s : Loan) (out : List ℕ) (r : Refusal) → complete_answer s (length out) ≡ Complete.Refused r →
       CarriesOneOf r (allowed (changes (complete Lowest out))) × (complete_after s (length out) ≡ s) × (complete_output s out ≡ out)
-  pub complete-written : (s : Loan) (out : List ℕ) (joins switches n : ℕ) → complete_answer s (length out) ≡ Complete.Completed joins switches n →
+  pub complete_written : (s : Loan) (out : List ℕ) (joins switches n : ℕ) → complete_answer s (length out) ≡ Complete.Completed joins switches n →
       (n ≡ join_record_size * joins) × SamePast n out (complete_output s out)
   pub shuffle : (s : Loan) (x : ℕ) (out : List ℕ) (r : Refusal) → shuffle_answer s x (length out) ≡ Shuffle.Refused r →
       CarriesOneOf r (allowed (changes (Calls.complete (Picked x) out))) × (shuffle_after s x (length out) ≡ s) × (shuffle_output s x out ≡ out)
@@ -92,13 +92,13 @@ pub record Demand1 : Type 0 where
   pub list_written : (s : State) (out : List ℕ) (n : ℕ) → list_answer s (length out) ≡ Write.Written n → SamePast n out (list_output s out)
   pub survey : (e : List ℕ) (total : ℕ) (out : List ℕ) (r : Refusal) → survey_answer e total (length out) ≡ Write.Refused r →
       CarriesOneOf r (allowed (reads (survey e total out))) × (survey_output (survey_answer e total (length out)) e total out ≡ out)
-  pub survey-written : (e : List ℕ) (total : ℕ) (out : List ℕ) (n : ℕ) → survey_answer e total (length out) ≡ Write.Written n →
+  pub survey_written : (e : List ℕ) (total : ℕ) (out : List ℕ) (n : ℕ) → survey_answer e total (length out) ≡ Write.Written n →
       SamePast n out (survey_output (survey_answer e total (length out)) e total out)
-  pub graph6-write : (e : List ℕ) (total : ℕ) (out : List ℕ) (r : Refusal) → write_answer e total (length out) ≡ Write.Refused r →
+  pub graph6_write : (e : List ℕ) (total : ℕ) (out : List ℕ) (r : Refusal) → write_answer e total (length out) ≡ Write.Refused r →
       CarriesOneOf r (allowed (reads (writeGraph6 e total out))) × (write_output (write_answer e total (length out)) e total out ≡ out)
   pub graph6_written : (e : List ℕ) (total : ℕ) (out : List ℕ) (n : ℕ) → write_answer e total (length out) ≡ Write.Written n →
       SamePast n out (write_output (write_answer e total (length out)) e total out)
-  pub graph6-read : (t out : List ℕ) (r : Refusal) → read_answer t (length out) ≡ Read.Refused r →
+  pub graph6_read : (t out : List ℕ) (r : Refusal) → read_answer t (length out) ≡ Read.Refused r →
       CarriesOneOf r (allowed (reads (readGraph6 t out))) × (read_output (read_answer t (length out)) t out ≡ out)
   pub graph6_read_out : (t out : List ℕ) (n total : ℕ) → read_answer t (length out) ≡ Read.Read n total →
       SamePast n out (read_output (read_answer t (length out)) t out)

@@ -50,10 +50,10 @@ pub record CanBeJoined (t : DegreeTable) (s : Loan) (v w : ℕ) : Type 0 where
   pub switches : Switches
   pub answer : add_answer s v w ≡ Added switches
   pub lengths : loan_lengths_ok (add_after s v w) ≡ true
-  pub is-valid : loan_valid (add_after s v w) ≡ true
+  pub is_valid : loan_valid (add_after s v w) ≡ true
   pub linked : edge (add_after s v w).state.adjacency v w ≡ 1
   pub one_more : edges_laid t (add_after s v w).state ≡ edges_laid t s.state + 1
-  pub no-log : (add_after s v w).log ≡ empty_log
+  pub no_log : (add_after s v w).log ≡ empty_log
 
 -- Completing into the output is not refused; its joins and the tally's edges together are half the sum of all cells of T; the matrix then holds
 -- exactly that many edges more and, as a simple graph, has T in every cell and as many vertices without an edge as the tally's isolated ones. Its first join empties the log.

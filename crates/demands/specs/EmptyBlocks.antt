@@ -24,7 +24,7 @@ pub record TakesEmpty (s : State) : Type 0 where
   -- .. and that is the one byte that changes: only the count of blocks tells its slot from an unused one
   pub counted : take_after s (blocks s.journal) [] ≡ with_journal s (set s.journal 1 (blocks s.journal + 1))
   -- "and adds nothing"
-  pub adds-nothing : table_of (take_after s (blocks s.journal) []).journal ≡ table_of s.journal
+  pub adds_nothing : table_of (take_after s (blocks s.journal) []).journal ≡ table_of s.journal
 
 -- the block, held under this number
 pub record HoldsEmpty (s : State) (number : ℕ) : Type 0 where
@@ -32,7 +32,7 @@ pub record HoldsEmpty (s : State) (number : ℕ) : Type 0 where
   pub resent : take_answer s number [] ≡ Held
   pub full_differs : (b : List ℕ) → well_formed b ≡ true → 0 < length b → take_answer s number b ≡ Refused (refuse BlockDiffers 0 0)
   -- "with length 0"; "read back, it is an empty part"
-  pub length-0 : length_answer s number ≡ Length 0
+  pub length_0 : length_answer s number ≡ Length 0
   pub part : held_part s number ≡ []
 
 pub record EmptyBlocks : Type 0 where

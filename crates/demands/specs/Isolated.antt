@@ -16,8 +16,8 @@ use Rattle.swapping.specs.Swap.{can_swap}
 pub record Alone (s : State) (v : ℕ) : Type 0 where
   pub no_edge : (w : ℕ) → w < vertex_count s → edge s.adjacency v w ≡ 0
   pub no_cell : (w : ℕ) → (short_at s (class_at s v) (class_at s w) ≡ false) × (short_at s (class_at s w) (class_at s v) ≡ false)
-  pub no-substitute : (a other : ℕ) → can_substitute (vertex_count s) (class_at s) class_degree (edge s.adjacency) a other v ≡ false
-  pub no-swap : (x : Swap) → can_swap (vertex_count s) (class_at s) s.adjacency x ≡ true → (x.a ≢ v) × (x.b ≢ v) × (x.c ≢ v) × (x.d ≢ v)
+  pub no_substitute : (a other : ℕ) → can_substitute (vertex_count s) (class_at s) class_degree (edge s.adjacency) a other v ≡ false
+  pub no_swap : (x : Swap) → can_swap (vertex_count s) (class_at s) s.adjacency x ≡ true → (x.a ≢ v) × (x.b ≢ v) × (x.c ≢ v) × (x.d ≢ v)
 
 abbrev pub IsolatedAlone : Type 0
 IsolatedAlone =

@@ -14,7 +14,7 @@ use Rattle.demands.specs.Tally.{Tally, no_tally, tally_all}
 -- state and log are valid, and the tally t tells what is in the state
 pub record Reach (s : Loan) (t : Tally) : Type 0 where
   pub lengths : loan_lengths_ok s ≡ true
-  pub is-valid : loan_valid s ≡ true
+  pub is_valid : loan_valid s ≡ true
   -- its blocks add up to the tally's table, and are as many as the tally says
   pub table : table_of s.state.journal ≡ t.table
   pub numbered : blocks s.state.journal ≡ t.blocks

@@ -38,7 +38,7 @@ pub record LeftAlone (s : Loan) (x : ℕ) (out : List ℕ) : Type 0 where
 pub record ShuffledCompleting : Type 0 where
   pub shuffles : (s : Loan) (x : ℕ) (out : List ℕ) → LaidLoan s → join_record_size * missing s.state ≤ length out → Shuffles s x out
   -- a complete state, in which no cell is short, whatever the output
-  pub complete-already : (s : Loan) (x : ℕ) (out : List ℕ) → LaidLoan s → ((k l : ℕ) → ShortFor (table_of s.state.journal) s.state k l → ⊥) → LeftAlone s x out
+  pub complete_already : (s : Loan) (x : ℕ) (out : List ℕ) → LaidLoan s → ((k l : ℕ) → ShortFor (table_of s.state.journal) s.state k l → ⊥) → LeftAlone s x out
   -- the entry is the completing of the list of calls that x picks: it is refused where that is, and leaves what that leaves
   pub refused : (s : Loan) (x : ℕ) (out : List ℕ) (r : Refusal) →
       shuffle_answer s x (length out) ≡ Refused r → choice_answer (Picked x) s (length out) ≡ Complete.Refused r

@@ -30,7 +30,7 @@ refused-no_length r n e = subst IsLength (sym e) tt
 
 pub record LengthFacts (s : State) (number : ℕ) : Type 0 where
   pub lengths : lengths_ok s ≡ true
-  pub is-valid : valid s ≡ true
+  pub is_valid : valid s ≡ true
   pub low : number < blocks s.journal
 
 pub length-facts : (s : State) (number n : ℕ) → length_answer s number ≡ Length n → LengthFacts s number
@@ -38,7 +38,7 @@ length-facts s number n e =
     let v = unless_stopped_passed (state_verdict s) Refused _ (Length n) (λ r. refused-no_length r n) e in
     let k = unless_passed (ltb number (blocks s.journal)) _ _ (Length n) (refused-no_length _ n) v.1 in
     let p = state_passed s v.0 in
-    record { lengths = p.0; is-valid = p.1; low = ltb-true number (blocks s.journal) k.0 }
+    record { lengths = p.0; is_valid = p.1; low = ltb-true number (blocks s.journal) k.0 }
 
 -- a block of a valid state is read back as it stands in the journal, and its length is the block's
 pub read_back : (s : State) (number : ℕ) → LengthFacts s number
@@ -46,10 +46,10 @@ pub read_back : (s : State) (number : ℕ) → LengthFacts s number
 read_back s number f = (answer ∙ ap Length (sym sized), rw answer)
   where
     answer : length_answer s number ≡ Length (slot_length s.journal number)
-    answer = rw (state_go s f.lengths f.is-valid, lt-ltb number (blocks s.journal) f.low)
+    answer = rw (state_go s f.lengths f.is_valid, lt-ltb number (blocks s.journal) f.low)
 
     sized : length (block_at s.journal number) ≡ slot_length s.journal number
     sized =
-        let ok = journal_facts s.journal (valid-journal s f.is-valid) in
+        let ok = journal_facts s.journal (valid-journal s f.is_valid) in
         let m : number < most_blocks = omega (arith, ok.blocks-le, f.low) in
         length-block s.journal number (lengths_journal s f.lengths) m (slot_most s.journal ok number m)

@@ -42,7 +42,7 @@ table_to input i =
 -- i blocks were taken, and left the state s
 pub record Reached (input : List ℕ) (i : ℕ) (s : State) : Type 0 where
   pub lengths : lengths_ok s ≡ true
-  pub is-valid : valid s ≡ true
+  pub is_valid : valid s ≡ true
   pub taking : phase s.journal ≡ phase_taking
   pub numbered : blocks s.journal ≡ i
   pub table : table_of s.journal ≡ table_to input i
@@ -59,11 +59,11 @@ module _ (s₀ : State) (c : ClearedState s₀) (input : List ℕ) where
       let b = block_in input i in
       let f = taken-facts s i b m e in
       let size = lengths_journal s f.lengths in
-      let ok = valid-journal s f.is-valid in
+      let ok = valid-journal s f.is_valid in
       subst (Reached input (i + 1)) (sym (stored_next i m e))
       (record {
         lengths = rw e at (take-lengths s i b r.lengths);
-        is-valid = rw e at (take-valid s i b r.is-valid);
+        is_valid = rw e at (take-valid s i b r.is_valid);
         taking = phase-stored s.journal b size ok f.room f.good ∙ r.taking;
         numbered = blocks-stored s.journal b size ok f.room f.good ∙ ap (λ (m : ℕ). m + 1) r.numbered;
         table =
@@ -77,7 +77,7 @@ module _ (s₀ : State) (c : ClearedState s₀) (input : List ℕ) where
       subst (Reached input 0) (sym (fold_to-none (λ i s. take_after s i (block_in input i)) s₀))
       (record {
         lengths = c.lengths;
-        is-valid = c.is-valid;
+        is_valid = c.is_valid;
         taking = c.taking;
         numbered = c.no_blocks;
         table =
@@ -151,7 +151,7 @@ module _ (s₀ : State) (c : ClearedState s₀) (input : List ℕ) where
             ∙ facts_taken (state_after s₀ input f.block) f.block (block_in input f.block)
             (record {
               lengths = at.lengths;
-              is-valid = at.is-valid;
+              is_valid = at.is_valid;
               good = good f.block (omega arith);
               next = sym at.numbered;
               taking = at.taking;
@@ -160,7 +160,7 @@ module _ (s₀ : State) (c : ClearedState s₀) (input : List ℕ) where
         go (no h) (no l) =
             ap why
             (sym f.refused
-            ∙ take_new-full (state_after s₀ input f.block) f.block (block_in input f.block) at.lengths at.is-valid (good f.block (omega arith))
+            ∙ take_new-full (state_after s₀ input f.block) f.block (block_in input f.block) at.lengths at.is_valid (good f.block (omega arith))
             (sym at.numbered) at.taking (omega (arith, at.numbered)))
 
     -- 65 well-formed blocks and whatever follows: the journal is full

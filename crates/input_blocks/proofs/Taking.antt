@@ -50,7 +50,7 @@ late_refused s i b h e = go (take_answer s i b) refl e
   where
     go : (a : TakeAnswer) → take_answer s i b ≡ a → take_verdict a ≡ Go → ⊥
     go (Taken m) p q = let f = taken-facts s i b m p in omega (arith, f.next, f.room)
-    go Held p q = let f = held-facts s i b p in omega (arith, f.low, (journal_facts s.journal (valid-journal s f.is-valid)).blocks-le)
+    go Held p q = let f = held-facts s i b p in omega (arith, f.low, (journal_facts s.journal (valid-journal s f.is_valid)).blocks-le)
     go (Refused r) p q = subst IsGo (sym q) tt
 
 module _ (s₀ : State) (input : List ℕ) where

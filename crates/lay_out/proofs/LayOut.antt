@@ -47,7 +47,7 @@ refused-not_laid_out r n e = subst IsLaidOut (sym e) tt
 -- what a call that is not refused passed
 pub record LaidOutFacts (s : State) : Type 0 where
   pub lengths : lengths_ok s ≡ true
-  pub is-valid : valid s ≡ true
+  pub is_valid : valid s ≡ true
   pub taking : phase s.journal ≡ phase_taking
   pub passed : passes (jdm_of s.journal) ≡ true
   pub small : vertex_count s ≤ most_vertices
@@ -71,7 +71,7 @@ module _ (s : State) where
       let v = unless_stopped_passed (layout_verdict (table_of s.journal)) Refused _ (LaidOut n) (λ r. refused-not_laid_out r n) q.1 in
       let p = phase-passed phase_taking s q.0 in
       let t = layout_go (table_of s.journal) v.0 in
-      record { lengths = p.0; is-valid = p.1; taking = p.2; passed = t.0; small = t.1 }
+      record { lengths = p.0; is_valid = p.1; taking = p.2; passed = t.0; small = t.1 }
 
   -- on a valid state in phase 0 the tests 9 to 12 decide
   lay-out-verdict : lengths_ok s ≡ true → valid s ≡ true → phase s.journal ≡ phase_taking
@@ -80,7 +80,7 @@ module _ (s : State) where
 
   pub facts_lay_out : LaidOutFacts s → lay_out_answer s ≡ LaidOut (vertex_count s)
   facts_lay_out f =
-      lay-out-verdict f.lengths f.is-valid f.taking
+      lay-out-verdict f.lengths f.is_valid f.taking
       ∙ ap (λ (v : Verdict). laid_out v (vertex_count s)) (go_layout (table_of s.journal) f.passed f.small)
 
   -- the answer gives N
@@ -97,7 +97,7 @@ module _ (s : State) where
       let a = and_left (eqb (phase s.journal) phase_taking && passes (jdm_of s.journal)) t h in
       record {
         lengths = l;
-        is-valid = v;
+        is_valid = v;
         taking = eqb-true (phase s.journal) phase_taking (and_left (eqb (phase s.journal) phase_taking) (passes (jdm_of s.journal)) a);
         passed = and_right (eqb (phase s.journal) phase_taking) (passes (jdm_of s.journal)) a;
         small = leb-true (vertex_count s) most_vertices (and_right (eqb (phase s.journal) phase_taking && passes (jdm_of s.journal)) t h);

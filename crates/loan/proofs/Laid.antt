@@ -60,13 +60,13 @@ module _ (b : Loan) where
       zero_is_empty b.log (loan_lengths v.lengths).1
       (all_zero-at b.log
       (subst (λ (t : Bool). cond t (all_zero b.log) (log_ok (vertex_count b.state) (class_at b.state) b.state.adjacency b.log) ≡ true)
-      (eq-eqb (phase b.state.journal) phase_taking e) (loan-valid v.is-valid).1))
+      (eq-eqb (phase b.state.journal) phase_taking e) (loan-valid v.is_valid).1))
 
   -- the verdicts
   pub loan_passed : loan_verdict b ≡ Go → ValidLoan b
   loan_passed e =
       let l = unless_go (loan_lengths_ok b) _ _ e in
-      record { lengths = l.0; is-valid = (unless_go (loan_valid b) _ _ l.1).0 }
+      record { lengths = l.0; is_valid = (unless_go (loan_valid b) _ _ l.1).0 }
 
   pub laid-passed : laid_verdict b ≡ Go → LaidLoan b
   laid-passed e =
@@ -74,20 +74,20 @@ module _ (b : Loan) where
       let v = loan_passed r.0 in
       record {
         lengths = v.lengths;
-        is-valid = v.is-valid;
+        is_valid = v.is_valid;
         phased = eqb-true (phase b.state.journal) phase_laid (unless_go (eqb (phase b.state.journal) phase_laid) _ _ r.1).0;
       }
 
   pub laid-go : LaidLoan b → laid_verdict b ≡ Go
-  laid-go v = rw (v.lengths, v.is-valid, eq-eqb (phase b.state.journal) phase_laid v.phased)
+  laid-go v = rw (v.lengths, v.is_valid, eq-eqb (phase b.state.journal) phase_laid v.phased)
 
   -- a laid loan's state, and its log
   module _ (v : LaidLoan b) where
     pub laid-state : ValidLaid b.state
-    laid-state = record { lengths = (loan_lengths v.lengths).0; is-valid = (loan-valid v.is-valid).0; phased = v.phased }
+    laid-state = record { lengths = (loan_lengths v.lengths).0; is_valid = (loan-valid v.is_valid).0; phased = v.phased }
 
     pub laid-facts : StateFacts b.state
-    laid-facts = valid-facts b.state laid-state.lengths laid-state.is-valid
+    laid-facts = valid-facts b.state laid-state.lengths laid-state.is_valid
 
     pub laid-laid : Laid b.state
     laid-laid = laid-facts.laid v.phased
@@ -106,14 +106,14 @@ module _ (b : Loan) where
         record {
           matrix = laid-matrix;
           sized = (loan_lengths v.lengths).1;
-          is-valid = rw v.phased at (loan-valid v.is-valid).1;
+          is_valid = rw v.phased at (loan-valid v.is_valid).1;
         }
 
   -- the log can be emptied
   pub laid-emptied : laid_verdict b ≡ Go → (length b.log ≡ log_size) × (zero_after b.log ≡ true)
   laid-emptied e =
       let l = laid-log (laid-passed e) in
-      (l.sized, log_zero_after (vertex_count b.state) (class_at b.state) b.state.adjacency b.log l.is-valid)
+      (l.sized, log_zero_after (vertex_count b.state) (class_at b.state) b.state.adjacency b.log l.is_valid)
 
   -- its verdict goes on only where the state's does
   pub verdict_state : laid_verdict b ≡ Go → phase_verdict phase_laid b.state ≡ Go
@@ -124,7 +124,7 @@ module _ (b : Loan) where
   altered-laid g v =
       record {
         lengths = and_both (lengths_ok (with_matrix b.state g)) _ v.lengths (eq-eqb (length empty_log) log_size empty_log-length);
-        is-valid = and_both (valid (with_matrix b.state g)) _ v.is-valid (empty-valid (with_matrix b.state g));
+        is_valid = and_both (valid (with_matrix b.state g)) _ v.is_valid (empty-valid (with_matrix b.state g));
         phased = v.phased;
       }
 
@@ -133,6 +133,6 @@ pub laid_both : (s : State) (l : List ℕ) → ValidLaid s → ValidLog (vertex_
 laid_both s l v w =
     record {
       lengths = and_both (lengths_ok s) _ v.lengths (eq-eqb (length l) log_size w.sized);
-      is-valid = and_both (valid s) _ v.is-valid (rw v.phased w.is-valid);
+      is_valid = and_both (valid s) _ v.is_valid (rw v.phased w.is_valid);
       phased = v.phased;
     }

@@ -52,7 +52,7 @@ module _ (b : Loan) (v : LaidLoan b) where
     swap-valid =
         record {
           lengths = lengths_both (with_matrix s (swap_bytes g x)) (laid-facts b v).journal_length works.matrix.sized;
-          is-valid =
+          is_valid =
               laid-valid s (laid-laid b v) (swap_bytes g x) v.phased (laid-facts b v).journal-ok works.matrix.sized partial works.matrix.outside;
           phased = v.phased;
         }

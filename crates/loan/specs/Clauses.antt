@@ -23,4 +23,4 @@ pub record LoanClauses (b : Loan) : Type 0 where
 
 pub record LoanByClauses : Type 0 where
   pub lengths : (b : Loan) → (loan_lengths_ok b ≡ true) ↔ LoanLengths b
-  pub is-valid : (b : Loan) → LoanLengths b → (loan_valid b ≡ true) ↔ LoanClauses b
+  pub is_valid : (b : Loan) → LoanLengths b → (loan_valid b ≡ true) ↔ LoanClauses b

@@ -23,10 +23,10 @@ loan_valid b = valid b.state && log_valid b.state b.log
 -- a valid loan
 pub record ValidLoan (b : Loan) : Type 0 where
   pub lengths : loan_lengths_ok b ≡ true
-  pub is-valid : loan_valid b ≡ true
+  pub is_valid : loan_valid b ≡ true
 
 -- a valid loan, laid out
 pub record LaidLoan (b : Loan) : Type 0 where
   pub lengths : loan_lengths_ok b ≡ true
-  pub is-valid : loan_valid b ≡ true
+  pub is_valid : loan_valid b ≡ true
   pub phased : phase b.state.journal ≡ phase_laid

@@ -100,7 +100,7 @@ module _ (s : State) {cells counts degrees : List ℕ} (passed : phase_verdict p
     working_start room fits =
         record {
           arranged = record { few = omega (arith, vertices-few); numbered = rw en (table_numbered cells o.counted es) };
-          is-valid =
+          is_valid =
               record {
                 filling = classed-filling;
                 joins_le = omega arith;

@@ -89,7 +89,7 @@ module _ (b : Loan) (v w : ℕ) where
             altered-laid b g'
             (record {
               lengths = lengths_both (with_matrix s g') facts.journal_length sized;
-              is-valid = laid-valid s laid g' f.loan.phased facts.journal-ok sized partial outside;
+              is_valid = laid-valid s laid g' f.loan.phased facts.journal-ok sized partial outside;
               phased = f.loan.phased;
             });
         unlinked = u.1;

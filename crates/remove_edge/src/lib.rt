@@ -1,4 +1,6 @@
 // Removing an edge (document 01: lift).
+#![tactic(auto)]
+
 ghost use Rattle.std.specs.Prelude.{◌≡◌};
 ghost use Rattle.answer.specs.declared.Verdict.TheVariants.{Go};
 ghost use Rattle.journal.specs.Journal.{phase_laid};

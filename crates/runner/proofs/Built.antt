@@ -60,7 +60,7 @@ laid-completes choice s n e =
     f =
         record {
           lengths = lay_out_lengths s (lay_out_answer s) was.lengths;
-          is-valid = lay_out_valid s was.lengths was.is-valid;
+          is_valid = lay_out_valid s was.lengths was.is_valid;
           phased = rw e (phase-laid s.journal (lengths_journal s was.lengths));
         }
 

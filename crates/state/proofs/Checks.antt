@@ -40,10 +40,10 @@ module _ (p : ℕ) (s : State) where
 
 -- a valid laid state, both ways
 pub laid-passed : (s : State) → phase_verdict phase_laid s ≡ Go → ValidLaid s
-laid-passed s e = let p = phase-passed phase_laid s e in record { lengths = p.0; is-valid = p.1; phased = p.2 }
+laid-passed s e = let p = phase-passed phase_laid s e in record { lengths = p.0; is_valid = p.1; phased = p.2 }
 
 pub laid-goes : (s : State) → ValidLaid s → phase_verdict phase_laid s ≡ Go
-laid-goes s v = phase-go phase_laid s v.lengths v.is-valid v.phased
+laid-goes s v = phase-go phase_laid s v.lengths v.is_valid v.phased
 
 -- the checks 13 and 14
 module _ (n v w : ℕ) where

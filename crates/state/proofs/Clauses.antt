@@ -61,5 +61,5 @@ valid-by_clauses =
         λ l. record { journal_length = lengths_journal s l; adjacency_length = lengths_adjacency s l },
         λ l. lengths_both s l.journal_length l.adjacency_length,
       );
-      is-valid = λ s size. (valid-clauses s size, clauses-valid s size);
+      is_valid = λ s size. (valid-clauses s size, clauses-valid s size);
     }

@@ -37,4 +37,4 @@ pub record StateClauses (s : State) : Type 0 where
 -- the checks 1 and 2 of document 01's table: "book or grid of another length", "bench not sound"
 pub record ValidByClauses : Type 0 where
   pub lengths : (s : State) → (lengths_ok s ≡ true) ↔ Lengths s
-  pub is-valid : (s : State) → Lengths s → (valid s ≡ true) ↔ StateClauses s
+  pub is_valid : (s : State) → Lengths s → (valid s ≡ true) ↔ StateClauses s

@@ -25,5 +25,5 @@ valid s =
 -- a "laid bench": valid, and laid out
 pub record ValidLaid (s : State) : Type 0 where
   pub lengths : lengths_ok s ≡ true
-  pub is-valid : valid s ≡ true
+  pub is_valid : valid s ≡ true
   pub phased : phase s.journal ≡ phase_laid

@@ -45,7 +45,7 @@ text_fits_room e n go =
 
 module _ (s : State) (checked : ValidLaid s) where
   facts : StateFacts s
-  facts = valid-facts s checked.lengths checked.is-valid
+  facts = valid-facts s checked.lengths checked.is_valid
 
   laid : Laid s
   laid = facts.laid checked.phased

@@ -1,4 +1,6 @@
 // Swapping two edges (document 02, P8).
+#![tactic(auto)]
+
 ghost use Rattle.std.specs.Prelude.{◌≡◌};
 ghost use Rattle.answer.specs.declared.Verdict.TheVariants.{Go};
 ghost use Rattle.layout.specs.Inner.Arrays.{classes_of};

@@ -119,7 +119,7 @@ module _ (n : ℕ) (cls : ℕ → ℕ) (g l : List ℕ) (x : Swap) (v : ValidLog
   m = swap_count l
 
   f : LogFacts n cls g l
-  f = log_facts n cls g l v.is-valid
+  f = log_facts n cls g l v.is_valid
 
   more : swap_count (logged l x) ≡ m + 1
   more = written_count l v.sized (m + 1) m x room
@@ -143,7 +143,7 @@ module _ (n : ℕ) (cls : ℕ → ℕ) (g l : List ℕ) (x : Swap) (v : ValidLog
             record {
               matrix = (swaps-work n cls g x v.matrix can).matrix;
               sized = written-length l v.sized (m + 1) m x room;
-              is-valid =
+              is_valid =
                   facts_log n cls (swap_bytes g x) (logged l x)
                   (record {
                     low = omega (arith, written_low l v.sized (m + 1) m x room);
@@ -167,7 +167,7 @@ module _ (n : ℕ) (cls : ℕ → ℕ) (g l : List ℕ) (v : ValidLog n cls g l)
   y = undoing (last_swap l)
 
   e : LogFacts n cls g l
-  e = log_facts n cls g l v.is-valid
+  e = log_facts n cls g l v.is_valid
 
   one_more : k + 1 ≡ swap_count l
   one_more = omega arith
@@ -192,7 +192,7 @@ module _ (n : ℕ) (cls : ℕ → ℕ) (g l : List ℕ) (v : ValidLog n cls g l)
             record {
               matrix = (swaps-work n cls g y v.matrix legal.0).matrix;
               sized = written-length l v.sized k k (swap_of 0 0 0 0) (omega (arith, e.few));
-              is-valid =
+              is_valid =
                   facts_log n cls (swap_bytes g y) (unlogged l)
                   (record {
                     low = omega (arith, written_low l v.sized k k (swap_of 0 0 0 0) (omega (arith, e.few)));
@@ -212,5 +212,5 @@ log_works =
     record {
       swapped = logs_swap;
       undone = takes_back;
-      replayed = λ n cls g l v. redone n cls l (swap_count l) g v.matrix (log_facts n cls g l v.is-valid).legal;
+      replayed = λ n cls g l v. redone n cls l (swap_count l) g v.matrix (log_facts n cls g l v.is_valid).legal;
     }

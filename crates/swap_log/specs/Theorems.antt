@@ -10,7 +10,7 @@ use Rattle.swap_log.specs.Log.{most_swaps, log_size, swap_count, undo_all, log_o
 pub record ValidLog (n : ℕ) (cls : ℕ → ℕ) (g l : List ℕ) : Type 0 where
   pub matrix : Matrix n g
   pub sized : length l ≡ log_size
-  pub is-valid : log_ok n cls g l ≡ true
+  pub is_valid : log_ok n cls g l ≡ true
 
 -- "the grid it began with", as the log tells it: all records taken back
 abbrev pub began : ℕ → (ℕ → ℕ) → List ℕ → List ℕ → List ℕ

@@ -55,7 +55,7 @@ with_block s b = with_journal s (stored s.journal b)
 -- what a block that is taken passed
 pub record TakenFacts (s : State) (number : ℕ) (b : List ℕ) : Type 0 where
   pub lengths : lengths_ok s ≡ true
-  pub is-valid : valid s ≡ true
+  pub is_valid : valid s ≡ true
   pub good : well_formed b ≡ true
   pub next : number ≡ blocks s.journal
   pub taking : phase s.journal ≡ phase_taking
@@ -64,7 +64,7 @@ pub record TakenFacts (s : State) (number : ℕ) (b : List ℕ) : Type 0 where
 -- what a block that is held passed: it is the block of that number
 pub record HeldFacts (s : State) (number : ℕ) (b : List ℕ) : Type 0 where
   pub lengths : lengths_ok s ≡ true
-  pub is-valid : valid s ≡ true
+  pub is_valid : valid s ≡ true
   pub low : number < blocks s.journal
   pub same : block_at s.journal number ≡ b
 
@@ -72,7 +72,7 @@ module _ (s : State) (number : ℕ) (b : List ℕ) where
   -- a block that gets through to its number passed 1, 2, 4 and 5
   record Passed (a : TakeAnswer) : Type 0 where
     lengths : lengths_ok s ≡ true
-    is-valid : valid s ≡ true
+    is_valid : valid s ≡ true
     good : well_formed b ≡ true
     low : number ≤ blocks s.journal
     rest : cond (ltb number (blocks s.journal)) (take_held s.journal number b) (take_new s.journal) ≡ a
@@ -86,7 +86,7 @@ module _ (s : State) (number : ℕ) (b : List ℕ) where
       let k = unless_passed (leb number (blocks s.journal)) _ _ a (other _) r.1 in
       record {
         lengths = p.0;
-        is-valid = p.1;
+        is_valid = p.1;
         good = and_both (block_length (length b)) (eqb (first_bad b) (records b)) n.0 r.0;
         low = leb-true number (blocks s.journal) k.0;
         rest = k.1;
@@ -139,7 +139,7 @@ module _ (s : State) (number : ℕ) (b : List ℕ) where
           let q = unless_passed (ltb (blocks s.journal) most_blocks) _ _ (Taken m) (refused-not_taken _ m) o.1 in
           record {
             lengths = p.lengths;
-            is-valid = p.is-valid;
+            is_valid = p.is_valid;
             good = p.good;
             next = omega (arith, p.low, ltb-false number (blocks s.journal) h);
             taking = eqb-true (phase s.journal) phase_taking o.0;
@@ -149,7 +149,7 @@ module _ (s : State) (number : ℕ) (b : List ℕ) where
   -- the answer gives the number of the next block
   pub facts_taken : TakenFacts s number b → take_answer s number b ≡ Taken (blocks s.journal + 1)
   facts_taken f =
-      take-numbered f.lengths f.is-valid f.good
+      take-numbered f.lengths f.is_valid f.good
       ∙ rw (
         le-leb number (blocks s.journal) (omega (arith, f.next)),
         le-ltb number (blocks s.journal) (omega (arith, f.next)),
@@ -170,7 +170,7 @@ module _ (s : State) (number : ℕ) (b : List ℕ) where
       go p true h f =
           record {
             lengths = p.lengths;
-            is-valid = p.is-valid;
+            is_valid = p.is_valid;
             low = ltb-true number (blocks s.journal) h;
             same = same_bytes_eq (block_at s.journal number) b (unless_passed (same_block s.journal number b) _ _ Held (refused-not_held _) f).0;
           }
@@ -179,9 +179,9 @@ module _ (s : State) (number : ℕ) (b : List ℕ) where
   -- the block of that number is held, in either phase
   pub facts_held : HeldFacts s number b → take_answer s number b ≡ Held
   facts_held f =
-      let v = valid-facts s f.lengths f.is-valid in
+      let v = valid-facts s f.lengths f.is_valid in
       let w = used_well_formed s.journal v.journal_length (journal_facts s.journal v.journal-ok) number f.low in
-      take-numbered f.lengths f.is-valid (subst (λ (x : List ℕ). well_formed x ≡ true) f.same w)
+      take-numbered f.lengths f.is_valid (subst (λ (x : List ℕ). well_formed x ≡ true) f.same w)
       ∙ rw (
         le-leb number (blocks s.journal) (omega (arith, f.low)),
         lt-ltb number (blocks s.journal) f.low,
@@ -209,7 +209,7 @@ module _ (s : State) (number : ℕ) (b : List ℕ) where
       let y = and_left (well_formed b && eqb number (blocks s.journal)) (eqb (phase s.journal) phase_taking) x in
       record {
         lengths = l;
-        is-valid = v;
+        is_valid = v;
         good = and_left (well_formed b) (eqb number (blocks s.journal)) y;
         next = eqb-true number (blocks s.journal) (and_right (well_formed b) (eqb number (blocks s.journal)) y);
         taking =
@@ -251,7 +251,7 @@ module _ (s : State) (number : ℕ) (b : List ℕ) (f : TakenFacts s number b) w
   size = lengths_journal s f.lengths
 
   ok : journal_ok s.journal ≡ true
-  ok = valid-journal s f.is-valid
+  ok = valid-journal s f.is_valid
 
   stored-lengths : lengths_ok (with_block s b) ≡ true
   stored-lengths = lengths_both (with_block s b) (length-stored s.journal b size ok f.room f.good) (lengths_adjacency s f.lengths)
@@ -260,7 +260,7 @@ module _ (s : State) (number : ℕ) (b : List ℕ) (f : TakenFacts s number b) w
   stored-valid =
       facts_valid_0 (with_block s b) (phase-stored s.journal b size ok f.room f.good ∙ f.taking)
       (valid-stored s.journal b size ok f.room f.good)
-      ((valid-facts s f.lengths f.is-valid).empty f.taking)
+      ((valid-facts s f.lengths f.is_valid).empty f.taking)
 
   pub stored_low : number < blocks (stored s.journal b)
   stored_low = omega (arith, f.next, blocks-stored s.journal b size ok f.room f.good)
@@ -310,7 +310,7 @@ module _ (s : State) (number : ℕ) (b : List ℕ) where
         facts_held (with_block s b) number b
         (record {
           lengths = stored-lengths s number b f;
-          is-valid = stored-valid s number b f;
+          is_valid = stored-valid s number b f;
           low = stored_low s number b f;
           same = stored_same s number b f;
         })
@@ -323,7 +323,7 @@ module _ (s : State) (number : ℕ) (b : List ℕ) where
         facts_held (state_of (laid (stored s.journal b)) h) number b
         (record {
           lengths = l;
-          is-valid = v;
+          is_valid = v;
           low = rw (blocks-laid (stored s.journal b)) (stored_low s number b f);
           same = block_at-laid (stored s.journal b) number ∙ stored_same s number b f;
         })

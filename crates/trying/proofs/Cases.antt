@@ -143,7 +143,7 @@ module _ (s : Loan) (t : Tally) (r : Reach s t) where
   checked = state_go s.state (reached_lengths s t r) (reached_valid s t r)
 
   lent : loan_verdict s ≡ Go
-  lent = rw (r.lengths, r.is-valid)
+  lent = rw (r.lengths, r.is_valid)
 
   answer-rest : (c : Call) → answer_of s c ≡ answer_rest s c
   answer-rest (changes (take number b)) = rw checked

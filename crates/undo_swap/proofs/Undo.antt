@@ -57,7 +57,7 @@ module _ (b : Loan) (go : laid_verdict b ≡ Go) {m : ℕ} (e : m ≡ swap_count
   undo-length = (laid-log b loan).sized
 
   pub undo-few : m ≤ most_swaps
-  undo-few = rw e (log_facts (vertex_count b.state) (class_at b.state) b.state.adjacency b.log (laid-log b loan).is-valid).few
+  undo-few = rw e (log_facts (vertex_count b.state) (class_at b.state) b.state.adjacency b.log (laid-log b loan).is_valid).few
 
   pub undo-none : m ≡ 0 → undo_answer b ≡ Refused (refuse LogEmpty 0 0)
   undo-none z = rw (go, sym e ∙ z)

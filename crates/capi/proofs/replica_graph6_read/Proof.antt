@@ -11,4 +11,4 @@ replica_graph6_read_spec =
     (λ c. search rules)  -- same-length
     (λ c.
     let t = c.before.before.before in
-    (rw (← t.graph6-read.ensures.0) c.of-read.ensures, t.graph6-read.ensures.1)))  -- returns
+    (rw (← t.graph6_read.ensures.0) c.of-read.ensures, t.graph6_read.ensures.1)))  -- returns

@@ -11,4 +11,4 @@ replica_graph6_write_spec =
     (λ c. search rules)  -- same-length
     (λ c.
     let t = c.before.before.before in
-    (rw (← t.graph6-write.ensures.0) c.of-written.ensures, t.graph6-write.ensures.1)))  -- returns
+    (rw (← t.graph6_write.ensures.0) c.of-written.ensures, t.graph6_write.ensures.1)))  -- returns

@@ -11,4 +11,4 @@ replica_lay_out_spec =
     (λ c. search rules)  -- same-length
     (λ c.
     let t = c.before.before.before in
-    (rw (← t.lay-out.ensures.0) c.of-lay-out.ensures, t.lay-out.ensures.1)))  -- returns
+    (rw (← t.lay_out.ensures.0) c.of-lay-out.ensures, t.lay_out.ensures.1)))  -- returns

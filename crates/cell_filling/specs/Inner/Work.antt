@@ -29,7 +29,7 @@ pub record Resumes (n : ℕ) (cls : ℕ → ℕ) (g : List ℕ) (c : Cell) (u : 
 -- m joins may be made in the cell: it misses as many
 pub record Fillable (n : ℕ) (cls : ℕ → ℕ) (c : Cell) (m room : ℕ) (s : Ran) (degrees : List ℕ) : Type 0 where
   pub table : ℕ → ℕ → ℕ
-  pub is-valid : ValidRun n cls table room s
+  pub is_valid : ValidRun n cls table room s
   pub missing : m ≤ cell_missing n cls table s.adjacency c.k c.l
   pub ranged : Ranged n cls c
   pub degrees_right : degrees ≡ degrees_of n s.adjacency
@@ -37,7 +37,7 @@ pub record Fillable (n : ℕ) (cls : ℕ → ℕ) (c : Cell) (m room : ℕ) (s :
 -- one join may be made in the cell: it is short
 pub record Steppable (n : ℕ) (cls : ℕ → ℕ) (c : Cell) (u : Cursor) (room : ℕ) (s : Ran) (degrees : List ℕ) : Type 0 where
   pub table : ℕ → ℕ → ℕ
-  pub is-valid : ValidRun n cls table room s
+  pub is_valid : ValidRun n cls table room s
   pub short : Short n cls table (edge s.adjacency) c.k c.l
   pub ranged : Ranged n cls c
   pub resumes : Resumes n cls s.adjacency c u

@@ -30,7 +30,7 @@ shuffled_at g out d = record { ran = ran g out d.totals; x = d.x }
 pub record Shuffling (n : ℕ) (cells starts classes g have full pairs sums low degrees : List ℕ) (room : ℕ) (s : Ran) : Type 0 where
   pub tracked : Tracked n cells starts classes g have full pairs sums
   pub lows : Lows n starts g low
-  pub is-valid : ValidRun n (class_from starts) (matrix_of cells) room s
+  pub is_valid : ValidRun n (class_from starts) (matrix_of cells) room s
   pub degrees_right : degrees ≡ degrees_of n g
 
 -- the search for an unsaturated vertex of class k goes on from where it was

@@ -68,7 +68,7 @@ pub record Arranged (n : ℕ) (starts : List ℕ) : Type 0 where
 -- these, and beside them a partial graph of the table with its degrees
 pub record Working (n : ℕ) (cells starts degrees : List ℕ) (room : ℕ) (s : Ran) : Type 0 where
   pub arranged : Arranged n starts
-  pub is-valid : ValidRun n (class_from starts) (matrix_of cells) room s
+  pub is_valid : ValidRun n (class_from starts) (matrix_of cells) room s
   pub degrees_right : degrees ≡ degrees_of n s.adjacency
 
 -- the arrays of a valid laid state

@@ -5,7 +5,7 @@ use Rattle.complete.proofs.fill.fill_cell.Goals as goal
 pub missing-m-requires : goal.missing-m-requires
 missing-m-requires c =
     let a = c.args in (
-      c.requires.0.is-valid.filling.sized,
+      c.requires.0.is_valid.filling.sized,
       rw c.cell_at-c.ensures (countable c.requires.0 a.k a.l c.requires.1 c.requires.2),
     )
 

@@ -35,7 +35,7 @@ shuffle_step-done-requires c =
     let s = i.1 in (
     s,
     still_short c.args.n (class_from c.args.starts.now) (matrix_of c.args.cells.now) (shuffled_at c.loop.adjacency c.loop.output c.loop.done)
-    s.is-valid.filling (omega (arith, i.3, c.requires.2.0, c.loop-test.true)),
+    s.is_valid.filling (omega (arith, i.3, c.requires.2.0, c.loop-test.true)),
     )
 
 pub loop-preserved : goal.loop-preserved
@@ -43,9 +43,9 @@ loop-preserved c =
     let a = c.args in
     let i = c.loop.invariant in
     let was = shuffled_at c.loop.adjacency c.loop.output c.loop.done in
-    let short = still_short a.n (class_from a.starts.now) (matrix_of a.cells.now) was i.1.is-valid.filling
+    let short = still_short a.n (class_from a.starts.now) (matrix_of a.cells.now) was i.1.is_valid.filling
     (omega (arith, i.3, c.requires.2.0, c.loop-test.true)) in
-    let one = next_more a.n (class_from a.starts.now) (matrix_of a.cells.now) was i.1.is-valid.filling short in
+    let one = next_more a.n (class_from a.starts.now) (matrix_of a.cells.now) was i.1.is_valid.filling short in
     let made = c.shuffle_step-done.ensures in (
     omega (arith, c.loop-test.true),
     rw made.wrote_records.sized made.shuffling,
@@ -60,6 +60,6 @@ returns c =
     let a = c.args in
     let i = c.loop.invariant in
     let end = shuffled_at c.loop.adjacency c.loop.output c.loop.done in
-    let full = not_short a.n (class_from a.starts.now) (matrix_of a.cells.now) end i.1.is-valid.filling
+    let full = not_short a.n (class_from a.starts.now) (matrix_of a.cells.now) end i.1.is_valid.filling
     (omega (arith, i.0, i.3, c.requires.2.0, c.loop-test.false)) in
     record { result_after = run-stop a.n (class_from a.starts.now) (matrix_of a.cells.now) c.loop.counter end full i.2; wrote_records = i.4 }

@@ -4,7 +4,7 @@ use Rattle.complete_shuffled.proofs.Onward.{step_some, step_few, step_joinable, 
 use Rattle.complete_shuffled.proofs.step.shuffle_step.Goals as goal
 
 pub pick-pair-requires : goal.pick-pair-requires
-pick-pair-requires c = (c.requires.0.tracked, c.requires.0.is-valid.filling, step_some c.args.output.now c.args.done c.requires.0 c.requires.1)
+pick-pair-requires c = (c.requires.0.tracked, c.requires.0.is_valid.filling, step_some c.args.output.now c.args.done c.requires.0 c.requires.1)
 
 pub bounds-classes-v : goal.bounds-classes-v
 bounds-classes-v c = omega (arith, (step_few c.args.output.now c.args.done c.requires.0 c.requires.1 _ _ _ c.pick-pair.ensures.v_value c.pick-pair.ensures.w_value).0)
