@@ -1,4 +1,6 @@
 // The adjacency matrix in lent bytes (document 01: the grid): a byte of it, the setting of an edge, the count of all.
+#![tactic(auto)]
+
 ghost use Rattle.std.specs.Prelude.{◌≡◌, ℕ, ◌+◌, ◌-◌, ◌*◌, ◌/◌, ◌≤◌, ◌<◌, length, get_or};
 ghost use Rattle.finite.specs.Range.{sum_to};
 ghost use Rattle.graph.specs.Tests.{most_degree};

@@ -1,4 +1,6 @@
 // What the entries answer, and which way of completing is asked for. specs/Numbers.antt gives document 01's number and values for each answer.
+#![tactic(auto)]
+
 ghost use Rattle.std.specs.Prelude.{◌≡◌};
 ghost use Rattle.answer.specs.Numbers.{number_of};
 ghost use Rattle.answer.specs.Refusals.{refuse, stopped};

@@ -1,1 +1,3 @@
+#![tactic(auto)]
+
 // Laws of finite ranges of numbers. No code: see specs/Range.antt and proofs/.

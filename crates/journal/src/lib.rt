@@ -1,4 +1,6 @@
 // The journal in lent bytes (document 01: the book): its check, the sum of its blocks, storing one more.
+#![tactic(auto)]
+
 ghost use Rattle.std.specs.Prelude.{◌≡◌, true, ◌&&◌, eqb, ◌+◌, ◌*◌, ◌≤◌, ◌<◌, length, replicate};
 ghost use Rattle.finite.specs.Range.{all_to};
 ghost use Rattle.slices.specs.Slices.{all_zero, further};

@@ -1,4 +1,6 @@
 // Document 01's tests 9 to 12 on a matrix, D(k), N, and the class of each vertex.
+#![tactic(auto)]
+
 ghost use Rattle.std.specs.Prelude.{◌≡◌, ◌*◌, ◌/◌, ◌≤◌, ◌<◌, replicate};
 ghost use Rattle.finite.specs.Range.{sum_to};
 ghost use Rattle.graph.specs.Numbering.{total, class_of};

@@ -1,4 +1,6 @@
 // Byte slices: a byte as a number, the smaller of two numbers, the sum, the ones, all zero, equal, one byte stored, copied into another.
+#![tactic(auto)]
+
 ghost use Rattle.std.specs.Prelude.{◌≡◌, ◌&&◌, ℕ, ◌+◌, ◌≤◌, ◌<◌, min, eqb, length, get_or, replicate, set};
 ghost use Rattle.std.proofs.lemmas.List.Edits.{sets};
 ghost use Rattle.finite.specs.Range.{sum_to};

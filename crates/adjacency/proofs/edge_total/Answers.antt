@@ -1,8 +1,6 @@
 -- `adjacency::edge_total` meets its contract: after v turns sum is that of the first v degrees.
-use Prim.Native.Nat.{◌-◌}
 use native.Mathlib.Omega.{arith}
 use lib.ListN.{get_or}
-use Rattle.finite.specs.Range.{sum_to}
 use Rattle.finite.proofs.Sum.{sum_to-none, sum_to-more}
 use Rattle.adjacency.proofs.edge_total.Goals as goal
 

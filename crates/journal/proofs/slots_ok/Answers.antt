@@ -1,11 +1,7 @@
 -- `journal::slots_ok` meets its contract: the slots passed are ok.
 use mathlib.Core.Path.{sym, ◌∙◌}
-use mathlib.Core.Bool.{true}
-use Prim.Native.Nat.{◌-◌}
 use native.Mathlib.Omega.{arith}
-use Rattle.finite.specs.Range.{all_to}
 use Rattle.finite.proofs.All.{all_to-none, all_to-more, all_to-fails}
-use Rattle.journal.specs.Journal.{slot_ok}
 use Rattle.journal.proofs.slots_ok.Goals as goal
 
 pub loop-i-init : goal.loop-i-init

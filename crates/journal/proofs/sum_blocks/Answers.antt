@@ -3,7 +3,7 @@ use mathlib.Core.Path.{◌≡◌, sym, ap, ◌∙◌}
 use mathlib.Core.List.{List}
 use lib.ListN.{get_or}
 use Rattle.table.proofs.Matrix.{at_most_taken}
-use Prim.Native.Nat.{ℕ, ◌-◌, ◌*◌}
+use Prim.Native.Nat.{ℕ, ◌*◌}
 use native.Mathlib.Omega.{arith}
 use Rattle.finite.proofs.Fold.{fold_to-none, fold_to-more}
 use Rattle.table.specs.Inner.Cells.{AtMost, block_sum_most, cell_sum_most, isolated_place}
@@ -28,9 +28,9 @@ add_block-requires c =
     let f = journal_facts j c.requires.1 in
     let i = c.loop-i.i in
     let m = cells-most j c.requires.0 f i c.loop-i.invariant.0 (λ p. omega (arith, c.shared_slice_known-1.given p)) in (
-    c.block_part.ensures.1,
-    rw c.block_part.ensures.0 (f.good i (omega arith)),
-    (block_sum_most * i, omega (arith, f.blocks-le), rw c.loop-i.invariant.1 m),
+      c.block_part.ensures.1,
+      rw c.block_part.ensures.0 (f.good i (omega arith)),
+      (block_sum_most * i, omega (arith, f.blocks-le), rw c.loop-i.invariant.1 m),
     )
 
 pub loop-i-preserved : goal.loop-i-preserved

@@ -1,6 +1,6 @@
 -- `journal::sum_blocks` meets its contract: after i turns the first i blocks are added.
 use mathlib.Core.Path.{◌≡◌}
-use Prim.Native.Nat.{◌≤◌, ◌-◌}
+use Prim.Native.Nat.{◌≤◌}
 use Rattle.journal.specs.Journal.{blocks}
 use Rattle.journal.proofs.Matrix.{cells_to}
 use Rattle.journal.proofs.sum_blocks.Given as goal

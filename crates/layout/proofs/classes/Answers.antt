@@ -1,6 +1,6 @@
 -- `layout::classes` meets its contract: after v turns the classes of the first v vertices are filled in,
 use mathlib.Core.Path.{◌≡◌, sym, ap, ◌∙◌}
-use Prim.Native.Nat.{ℕ, ◌-◌}
+use Prim.Native.Nat.{ℕ}
 use native.Mathlib.Omega.{arith}
 use lib.ListN.{replicate}
 use Rattle.finite.specs.Inner.Fill.{fill_to}

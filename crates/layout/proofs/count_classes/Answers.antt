@@ -1,8 +1,6 @@
 -- `layout::count_classes` meets its contract: after k turns the counts of the classes below k are filled in.
 use mathlib.Core.Path.{◌≡◌, sym, ◌∙◌}
-use Prim.Native.Nat.{◌-◌}
 use native.Mathlib.Omega.{arith}
-use Rattle.finite.specs.Inner.Fill.{fill_to}
 use Rattle.finite.proofs.Fold.{fill_to-none, fill_to-more}
 use Rattle.graph.specs.Tests.{most_classes}
 use Rattle.graph.proofs.Counts.{count_at}

@@ -1,10 +1,9 @@
 -- `layout::edges_wanted` meets its contract: after k turns sum is that of the first k classes.
 use mathlib.Core.Path.{◌≡◌}
 use mathlib.Core.List.{List}
-use Prim.Native.Nat.{ℕ, ◌≤◌, ◌<◌, ◌-◌, ◌*◌}
+use Prim.Native.Nat.{ℕ, ◌≤◌, ◌<◌, ◌*◌}
 use native.Mathlib.Nat.{mul-le-mul}
 use native.Mathlib.Omega.{arith}
-use Rattle.finite.specs.Range.{sum_to}
 use Rattle.finite.proofs.Sum.{sum_to-none, sum_to-more, sum_to-term}
 use Rattle.graph.specs.Numbering.{total}
 use Rattle.graph.specs.Tests.{most_classes, class_degree}
@@ -34,7 +33,7 @@ loop-k-preserved c =
     let counts = c.args.counts.now in
     let few = product counts c.requires c.loop-k.k _ (omega arith) c.class_degree.ensures in
     let more = sum_to-more (λ k. count_in counts k * class_degree k) c.loop-k.k in (
-    omega arith,
-    rw (more, c.loop-k.invariant.1, c.class_degree.ensures),
-    omega (arith, few),
+      omega arith,
+      rw (more, c.loop-k.invariant.1, c.class_degree.ensures),
+      omega (arith, few),
     )

@@ -1,9 +1,6 @@
 -- `layout::first_overfull` meets its contract: what is left to search has the answer of the whole, and the rows
 use mathlib.Core.Path.{sym, ◌∙◌}
-use mathlib.Core.Bool.{false}
-use Prim.Native.Nat.{◌-◌}
 use native.Mathlib.Omega.{arith}
-use Rattle.finite.specs.Range.{lowest}
 use Rattle.finite.proofs.Lowest.{lowest-end, lowest-here, lowest-next}
 use Rattle.table.specs.Inner.Cells.{matrix_of}
 use Rattle.table.proofs.Matrix.{matrix_sym}
@@ -23,10 +20,10 @@ loop-k-preserved c =
     let k = c.loop-k.k in
     let e = sym c.row_fits.ensures ∙ c.if-not-row_fits.false in
     let passed = row_passes T k (matrix_sym g) e c.loop-k.invariant.3 (omega arith) in (
-    omega arith,
-    omega arith,
-    c.loop-k.invariant.2 ∙ lowest-next _ _ _ (omega arith) (row_none T k passed),
-    rows_passed T k c.loop-k.invariant.3 passed,
+      omega arith,
+      omega arith,
+      c.loop-k.invariant.2 ∙ lowest-next _ _ _ (omega arith) (row_none T k passed),
+      rows_passed T k c.loop-k.invariant.3 passed,
     )
 
 pub returns : goal.returns

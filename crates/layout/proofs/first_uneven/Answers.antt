@@ -1,22 +1,18 @@
 -- `layout::first_uneven` meets its contract: what is left to search has the answer of the whole.
 use mathlib.Core.Path.{sym, ◌∙◌}
-use Prim.Native.Nat.{◌-◌}
 use native.Mathlib.Omega.{arith}
-use Rattle.finite.specs.Range.{lowest}
 use Rattle.finite.proofs.Lowest.{lowest-end, lowest-here, lowest-next}
-use Rattle.graph.specs.Tests.{uneven}
 use Rattle.layout.proofs.first_uneven.Goals as goal
 
 pub returns-then-is_uneven : goal.returns-then-is_uneven
 returns-then-is_uneven c = sym (c.loop-k.invariant.2 ∙ lowest-here _ _ _ (omega arith) (sym c.is_uneven.ensures ∙ c.if-is_uneven.true))
 
 pub loop-k-preserved : goal.loop-k-preserved
-loop-k-preserved c =
-    (
-    omega arith,
-    omega arith,
-    c.loop-k.invariant.2 ∙ lowest-next _ _ _ (omega arith) (sym c.is_uneven.ensures ∙ c.if-is_uneven.false),
-    )
+loop-k-preserved c = (
+  omega arith,
+  omega arith,
+  c.loop-k.invariant.2 ∙ lowest-next _ _ _ (omega arith) (sym c.is_uneven.ensures ∙ c.if-is_uneven.false),
+)
 
 pub returns : goal.returns
 returns c = sym (c.loop-k.invariant.2 ∙ lowest-end _ _ _ c.loop-k-test.false)

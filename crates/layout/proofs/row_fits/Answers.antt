@@ -1,5 +1,4 @@
 -- `layout::row_fits` meets its contract: the flag is the test of the cells passed.
-use Prim.Native.Nat.{◌-◌}
 use native.Mathlib.Nat.{mul-le-mul}
 use native.Mathlib.Omega.{arith}
 use Rattle.table.specs.Inner.Cells.{matrix_of}
@@ -25,7 +24,7 @@ overflow_mul-ok-in-loop-l c =
 pub loop-l-preserved : goal.loop-l-preserved
 loop-l-preserved c =
     let e = counted-degree c.args.cells.now c.args.counts.now c.requires.3 in (
-    omega arith,
-    omega arith,
-    rw (fits_next (matrix_of c.args.cells.now) c.args.k _ c.requires.0 e c.loop-l.l c.loop-l.invariant.0, c.loop-l.invariant.2, c.upper_cell-in-loop-l.ensures.0),
+      omega arith,
+      omega arith,
+      rw (fits_next (matrix_of c.args.cells.now) c.args.k _ c.requires.0 e c.loop-l.l c.loop-l.invariant.0, c.loop-l.invariant.2, c.upper_cell-in-loop-l.ensures.0),
     )

@@ -1,8 +1,6 @@
 -- `layout::row_sum` meets its contract: after l turns, of either loop, sum is that of the first l cells.
 use mathlib.Core.Path.{◌∙◌}
-use Prim.Native.Nat.{◌-◌}
 use native.Mathlib.Omega.{arith}
-use Rattle.finite.specs.Range.{sum_to}
 use Rattle.finite.proofs.Sum.{sum_to-none, sum_to-more}
 use Rattle.table.proofs.Matrix.{matrix_most, matrix_sym}
 use Rattle.layout.proofs.row_sum.Goals as goal

@@ -1,6 +1,6 @@
 -- `layout::run_at` meets its contract: the run reached is never past the vertex.
 use mathlib.Core.Path.{sym}
-use Prim.Native.Nat.{◌+◌, ◌-◌}
+use Prim.Native.Nat.{◌+◌}
 use native.Mathlib.Omega.{arith}
 use Rattle.finite.proofs.Sum.{sum_to-more, sum_to-le}
 use Rattle.graph.specs.Tests.{most_classes}
@@ -25,8 +25,7 @@ loop-end-preserved c =
     (after, rw (sum_to-more D (k + 1)) (omega arith), omega arith)
 
 pub returns : goal.returns
-returns c =
-    (
-    c.loop-end.invariant,
-    sym ((class_of-range most_classes (count_in c.args.counts.now) c.args.v c.loop-end.class c.requires.1).1 (c.loop-end.invariant.2, omega arith)),
-    )
+returns c = (
+  c.loop-end.invariant,
+  sym ((class_of-range most_classes (count_in c.args.counts.now) c.args.v c.loop-end.class c.requires.1).1 (c.loop-end.invariant.2, omega arith)),
+)

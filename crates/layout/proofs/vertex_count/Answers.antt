@@ -1,8 +1,6 @@
 -- `layout::vertex_count` meets its contract: after k turns n is the sum of the first k counts.
 use mathlib.Core.Path.{◌≡◌, ◌∙◌}
-use Prim.Native.Nat.{◌-◌}
 use native.Mathlib.Omega.{arith}
-use Rattle.finite.specs.Range.{sum_to}
 use Rattle.finite.proofs.Sum.{sum_to-none, sum_to-more}
 use Rattle.graph.specs.Tests.{most_classes}
 use Rattle.layout.proofs.Counted.{counted-total, counts_most}

@@ -1,7 +1,5 @@
 -- `slices::all_zero` meets its contract: the largest of the bytes passed is 0 where all of them are.
-use Prim.Native.Nat.{◌-◌}
 use native.Mathlib.Omega.{arith}
-use Rattle.finite.specs.Range.{all_to}
 use Rattle.finite.proofs.All.{all_to-none, all_to-more}
 use Rattle.slices.proofs.all_zero.Goals as goal
 

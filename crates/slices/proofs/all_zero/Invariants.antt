@@ -1,6 +1,6 @@
 -- `slices::all_zero` meets its contract: the largest of the bytes passed is 0 where all of them are.
 use mathlib.Core.Path.{◌≡◌}
-use Prim.Native.Nat.{◌≤◌, ◌-◌}
+use Prim.Native.Nat.{◌≤◌}
 use lib.Dec.{eqb}
 use lib.ListN.{length, get_or}
 use Rattle.finite.specs.Range.{all_to}

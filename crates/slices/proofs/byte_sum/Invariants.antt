@@ -1,6 +1,6 @@
 -- `slices::byte_sum` meets its contract: after i turns the sum is that of the first i bytes.
 use mathlib.Core.Path.{◌≡◌}
-use Prim.Native.Nat.{◌≤◌, ◌-◌}
+use Prim.Native.Nat.{◌≤◌}
 use lib.ListN.{length, get_or}
 use Rattle.finite.specs.Range.{sum_to}
 use Rattle.slices.proofs.byte_sum.Given as goal

@@ -1,7 +1,7 @@
 -- `slices::clear_bytes` meets its contract: after i turns the first i bytes are 0.
 use mathlib.Core.Path.{◌≡◌}
 use mathlib.Core.List.{◌++◌}
-use Prim.Native.Nat.{◌≤◌, ◌-◌}
+use Prim.Native.Nat.{◌≤◌}
 use lib.ListN.{length, replicate, drop}
 use Rattle.slices.proofs.clear_bytes.Given as goal
 

@@ -1,6 +1,6 @@
 -- `slices::copy_in` meets its contract: after i turns the first i bytes are pasted.
 use mathlib.Core.Path.{◌≡◌}
-use Prim.Native.Nat.{◌≤◌, ◌-◌}
+use Prim.Native.Nat.{◌≤◌}
 use lib.ListN.{length}
 use lib.Seq.{paste}
 use Rattle.slices.proofs.copy_in.Given as goal

@@ -1,7 +1,5 @@
 -- `slices::ones` meets its contract: before byte i, sum is that of the bytes before it, and no more than i.
-use Prim.Native.Nat.{◌-◌}
 use native.Mathlib.Omega.{arith}
-use Rattle.finite.specs.Range.{sum_to}
 use Rattle.finite.proofs.Sum.{sum_to-none, sum_to-more}
 use Rattle.slices.proofs.ones.Goals as goal
 

@@ -1,6 +1,6 @@
 -- `slices::ones` meets its contract: before byte i, sum is that of the bytes before it, and no more than i.
 use mathlib.Core.Path.{◌≡◌}
-use Prim.Native.Nat.{◌≤◌, ◌-◌}
+use Prim.Native.Nat.{◌≤◌}
 use lib.ListN.{length, get_or}
 use Rattle.finite.specs.Range.{sum_to}
 use Rattle.slices.proofs.ones.Given as goal

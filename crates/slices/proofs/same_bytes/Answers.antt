@@ -1,10 +1,6 @@
 -- `slices::same_bytes` meets its contract: the bytes passed are equal.
-use mathlib.Core.Bool.{true}
-use Prim.Native.Nat.{◌-◌}
-use lib.Dec.{eqb}
 use native.Mathlib.Omega.{arith}
 use borrow.Author.Tests.{eq-eqb, ne_eqb}
-use Rattle.finite.specs.Range.{all_to}
 use Rattle.finite.proofs.All.{all_to-none, all_to-more, all_to-fails}
 use Rattle.slices.proofs.same_bytes.Goals as goal
 

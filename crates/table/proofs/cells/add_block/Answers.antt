@@ -1,11 +1,7 @@
 -- `table::cells::add_block` meets its contract: after i turns the first i records are added.
 use mathlib.Core.Path.{sym}
-use Prim.Native.Nat.{◌-◌}
 use native.Mathlib.Omega.{arith}
-use Rattle.finite.specs.Range.{fold_to}
 use Rattle.finite.proofs.Fold.{fold_to-none, fold_to-more}
-use Rattle.table.specs.Block.{records}
-use Rattle.table.specs.Inner.Cells.{add_record}
 use Rattle.table.proofs.Block.{all-good}
 use Rattle.table.proofs.Matrix.{at_most_add_records}
 use Rattle.table.proofs.cells.add_block.Goals as goal
