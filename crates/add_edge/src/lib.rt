@@ -1,4 +1,6 @@
 // Adding an edge (document 01: join).
+#![tactic(auto)]
+
 ghost use Rattle.std.specs.Prelude.{◌≡◌, ◌+◌, ◌<◌, min, max, ltb, length, get_or};
 ghost use Rattle.answer.specs.Refusals.{refuse};
 ghost use Rattle.answer.specs.declared.Cause.TheVariants.{CellNotShort};

@@ -1,4 +1,6 @@
 // The joint degree matrix of a list of good edges, counted edge by edge.
+#![tactic(auto)]
+
 ghost use Rattle.std.specs.Prelude.{◌≡◌, ◌≤◌, ◌<◌, get_or};
 ghost use Rattle.graph.specs.Graph.{degree};
 ghost use Rattle.graph.specs.Tests.{most_classes};

@@ -1,4 +1,6 @@
 // The cells of the joint degree matrix as blocks of the adjacency matrix: the vertices of a class stand next to each other.
+#![tactic(auto)]
+
 ghost use Rattle.std.specs.Prelude.{◌≡◌, ℕ, ◌+◌, ◌-◌, ◌*◌, ◌≤◌, ◌<◌, length};
 ghost use Rattle.finite.specs.Range.{sum_to};
 ghost use Rattle.graph.specs.Numbering.{total};

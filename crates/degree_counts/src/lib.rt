@@ -1,4 +1,6 @@
 // The degrees of a list of good edges, counted edge by edge; the lowest vertex above 40, and the isolated vertices.
+#![tactic(auto)]
+
 ghost use Rattle.std.specs.Prelude.{◌≡◌, ◌+◌, ◌*◌, ◌≤◌, ◌<◌, length};
 ghost use Rattle.finite.specs.Range.{δ};
 ghost use Rattle.layout.specs.Layout.{most_vertices};

@@ -1,4 +1,6 @@
 // McKay's graph6: its constants, and how many bits and bytes the upper triangle has (document 02, P5).
+#![tactic(auto)]
+
 ghost use Rattle.std.specs.Prelude.{◌≡◌, ◌≤◌, ◌<◌};
 ghost use Rattle.layout.specs.Layout.{most_vertices};
 ghost use Rattle.graph6.specs.Format.{column_start, body_length, most_bits, body_most};

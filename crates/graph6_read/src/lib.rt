@@ -1,4 +1,6 @@
 // Reading a graph6 text into an edge list and its total of vertices (document 02, P5).
+#![tactic(auto)]
+
 ghost use Rattle.std.specs.Prelude.{◌≡◌, true, length};
 ghost use Rattle.graph6.specs.Format.{framed};
 ghost use Rattle.graph6_read.specs.Read.{read_answer, read_output};

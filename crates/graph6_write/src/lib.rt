@@ -1,4 +1,6 @@
 // Writing an edge list and its total of vertices as graph6 (document 02, P5).
+#![tactic(auto)]
+
 ghost use Rattle.std.specs.Prelude.{◌≡◌, ◌+◌, ◌/◌, ◌%◌, ◌≤◌, ◌<◌, length, get_or};
 ghost use Rattle.std.proofs.lemmas.List.Edits.{sets};
 ghost use Rattle.answer.specs.declared.Verdict.TheVariants.{Go};

@@ -1,4 +1,6 @@
 // The degree table of an edge list and its total of vertices (document 01: survey).
+#![tactic(auto)]
+
 ghost use Rattle.std.specs.Prelude.{◌≡◌, ◌≤◌, length};
 ghost use Rattle.std.proofs.lemmas.List.Edits.{sets};
 ghost use Rattle.answer.specs.declared.Verdict.TheVariants.{Go};

@@ -1,4 +1,6 @@
 // The record of a join (document 02, P2): 8 bytes, v and w, then its switches in the order made, unused bytes 255.
+#![tactic(auto)]
+
 ghost use Rattle.std.specs.Prelude.{◌≡◌, [], ◌∷◌, ◌+◌, ◌≤◌, ◌<◌, length};
 ghost use Rattle.std.proofs.lemmas.List.Edits.{sets};
 ghost use Rattle.answer.specs.Switches.{first_switch, second_switch};

@@ -1,5 +1,7 @@
 // What the calls are lent that change a laid matrix, and clearing: journal, matrix and log, and the checks of them. A loan is checked once: the arrays
 // that its check counts in are lent by the entry, which goes on with them.
+#![tactic(auto)]
+
 ghost use Rattle.std.specs.Prelude.{◌≡◌, true, length};
 ghost use Rattle.state.specs.State.{state_of};
 ghost use Rattle.state.specs.Inner.Opened.{Openable, Opened};

@@ -1,4 +1,6 @@
 // Whether the edges of a matrix stay within the table, cell by cell.
+#![tactic(auto)]
+
 ghost use Rattle.std.specs.Prelude.{◌≡◌, true, ◌&&◌, ◌||◌, ℕ, ◌+◌, ◌-◌, ◌*◌, ◌≤◌, ◌<◌, eqb, leb, ltb, length, get_or};
 ghost use Rattle.finite.specs.Range.{δ, sum_to, all_to};
 ghost use Rattle.graph.specs.Tests.{most_classes};

@@ -1,4 +1,6 @@
 // The check of a laid matrix: symmetric, 0 or 1, zero outside the vertices, no vertex above its degree and no cell above the table.
+#![tactic(auto)]
+
 ghost use Rattle.std.specs.Prelude.{◌≡◌, true, ◌&&◌, ℕ, ◌+◌, ◌-◌, ◌*◌, ◌≤◌, ◌<◌, eqb, leb, length, get_or, take, drop, replicate};
 ghost use Rattle.finite.specs.Range.{all_to};
 ghost use Rattle.graph.specs.Graph.{Simple, degree};

@@ -1,5 +1,7 @@
 // The state: journal and adjacency together, and the checks of both, with which every entry that reads a state begins. A laid state is checked
 // once: the arrays that its check counts in are lent by the entry, which goes on with them.
+#![tactic(auto)]
+
 ghost use Rattle.std.specs.Prelude.{◌≡◌, true, length, replicate};
 ghost use Rattle.graph.specs.Tests.{most_classes};
 ghost use Rattle.table.specs.Inner.Cells.{cells_size, AtMost, cell_sum_most};

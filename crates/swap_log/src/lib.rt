@@ -1,4 +1,6 @@
 // The log of swaps (document 02, P8): its count and its records, one written, and the check of them beside a matrix.
+#![tactic(auto)]
+
 ghost use Rattle.std.specs.Prelude.{◌≡◌, true, ◌≤◌, ◌<◌, length, get_or};
 ghost use Rattle.graph.specs.Tests.{vertices, vertex_class};
 ghost use Rattle.table.specs.Inner.Cells.{AtMost, cell_sum_most};

@@ -1,4 +1,6 @@
 // The swap of document 003 (document 02, P8): the edges a – b and c – d become a – d and b – c.
+#![tactic(auto)]
+
 ghost use Rattle.std.specs.Prelude.{◌≡◌, ◌≤◌, ◌<◌, length};
 ghost use Rattle.layout.specs.Inner.Arrays.{class_in};
 ghost use Rattle.adjacency.specs.Adjacency.{adjacency_size, side};

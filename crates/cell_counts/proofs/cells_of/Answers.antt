@@ -51,10 +51,10 @@ loop-i-preserved c =
     let db = degree-low e t c.requires.1 c.requires.2 (end_w e i) (omega arith) in
     let ea = c.degree_at-a.ensures ∙ c.requires.3 (end_v e i) (omega arith) in
     let eb = c.degree_at-b.ensures ∙ c.requires.3 (end_w e i) (omega arith) in (
-    omega arith,
-    rw (c.count_cell.ensures, length-count_cell) c.loop-i.invariant.1,
-    rw (c.count_cell.ensures, ea, eb)
-    (cells-more (degree t (graph_of e)) e t i c.loop-i.cells g (omega arith) (omega arith) c.loop-i.invariant.1 c.loop-i.invariant.2),
+      omega arith,
+      rw (c.count_cell.ensures, length-count_cell) c.loop-i.invariant.1,
+      rw (c.count_cell.ensures, ea, eb)
+          (cells-more (degree t (graph_of e)) e t i c.loop-i.cells g (omega arith) (omega arith) c.loop-i.invariant.1 c.loop-i.invariant.2),
     )
 
 pub returns : goal.returns

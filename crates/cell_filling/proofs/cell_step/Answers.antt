@@ -13,10 +13,10 @@ join-done-requires c =
     let e = c.open_pair-pair.ensures in
     let ex = rw c.class_degree.ensures at c.advance-v.ensures in
     let ey = rw c.class_degree-2.ensures at c.advance-w.ensures in (
-    step_joinable c.requires.0 _ _ e.0 e.1,
-    c.requires.0.degrees_right,
-    row_placed c.requires.0 c.requires.1 _ _ e.0 e.1 _ _ ex ey,
-    column_placed c.requires.0 c.requires.1 _ _ e.0 e.1 _ _ ex ey,
+      step_joinable c.requires.0 _ _ e.0 e.1,
+      c.requires.0.degrees_right,
+      row_placed c.requires.0 c.requires.1 _ _ e.0 e.1 _ _ ex ey,
+      column_placed c.requires.0 c.requires.1 _ _ e.0 e.1 _ _ ex ey,
     )
 
 pub overflow_add-pair : goal.overflow_add-pair
@@ -40,8 +40,8 @@ returns c =
     record {
       totals_after =
           rw c.record_join-sum.ensures.value.0 (
-          step_ran c.requires.0 _ _ e.0 e.1 made _ _ _ refl refl c.record_join-sum.ensures.output_after c.join-done.ensures.adjacency_after,
-          step_resumes c.requires.0 _ _ e.0 e.1 _ _ ex ey _ _ _ c.join-done.ensures.adjacency_after freed c.least-next.ensures,
+            step_ran c.requires.0 _ _ e.0 e.1 made _ _ _ refl refl c.record_join-sum.ensures.output_after c.join-done.ensures.adjacency_after,
+            step_resumes c.requires.0 _ _ e.0 e.1 _ _ ex ey _ _ _ c.join-done.ensures.adjacency_after freed c.least-next.ensures,
           );
       wrote_records = c.record_join-sum.ensures.value.1;
       degrees_after = rw c.join-done.ensures.adjacency_after c.join-done.ensures.degrees_after;

@@ -18,19 +18,18 @@ loop-init c =
     (omega arith, sym (fold_to-none _ _), c.requires.0.degrees_right, start, wrote_none _ _)
 
 pub cell_step-step-requires : goal.cell_step-step-requires
-cell_step-step-requires c =
-    (
-    fill_steppable c.requires.0 c.loop.counter _ c.loop.invariant.1 c.loop-test.true _ _ c.loop.invariant.3 c.loop.invariant.2 c.loop.invariant.4.sized,
-    c.requires.1,
-    )
+cell_step-step-requires c = (
+  fill_steppable c.requires.0 c.loop.counter _ c.loop.invariant.1 c.loop-test.true _ _ c.loop.invariant.3 c.loop.invariant.2 c.loop.invariant.4.sized,
+  c.requires.1,
+)
 
 pub loop-preserved : goal.loop-preserved
 loop-preserved c =
     let a = c.args in (
-    omega (arith, c.loop.invariant.0),
-    fold_to-after (λ i. cell_step a.n (class_from a.starts.now) a.cell.k a.cell.l)
-    _ c.loop.counter _ _ c.loop.invariant.1 c.cell_step-step.ensures.totals_after.0,
-    c.cell_step-step.ensures.degrees_after,
-    c.cell_step-step.ensures.totals_after.1,
-    wrote_then c.loop.invariant.4 c.cell_step-step.ensures.wrote_records,
+      omega (arith, c.loop.invariant.0),
+      fold_to-after (λ i. cell_step a.n (class_from a.starts.now) a.cell.k a.cell.l)
+          _ c.loop.counter _ _ c.loop.invariant.1 c.cell_step-step.ensures.totals_after.0,
+      c.cell_step-step.ensures.degrees_after,
+      c.cell_step-step.ensures.totals_after.1,
+      wrote_then c.loop.invariant.4 c.cell_step-step.ensures.wrote_records,
     )

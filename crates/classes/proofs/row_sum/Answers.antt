@@ -18,8 +18,8 @@ ones-requires c =
     let e : (x.v * side + x.right) - from ≡ n = omega arith in
     let f : from + n ≤ length g = omega arith in
     rw (e, part_length g from n f) (
-    omega arith,
-    λ i l. rw (part_at g from n f i l, add_assoc (x.v * side) x.left i) (c.requires.4 (x.left + i) (omega arith)),
+      omega arith,
+      λ i l. rw (part_at g from n f i l, add_assoc (x.v * side) x.left i) (c.requires.4 (x.left + i) (omega arith)),
     )
 
 pub returns : goal.returns
@@ -31,7 +31,7 @@ returns c =
     let e : (x.v * side + x.right) - from ≡ n = omega arith in
     let f : from + n ≤ length g = omega arith in
     let p = rw e at c.ones.ensures in (
-    p.0 ∙ part-sum g from n f ∙ sum_to-cong n (λ i. get_or g (from + i) 0) (λ i. edge g x.v (x.left + i))
-    (λ i l. ap (λ (m : ℕ). get_or g m 0) (add_assoc (x.v * side) x.left i)),
-    omega (arith, p.1, part_length g from n f),
+      p.0 ∙ part-sum g from n f ∙ sum_to-cong n (λ i. get_or g (from + i) 0) (λ i. edge g x.v (x.left + i))
+          (λ i l. ap (λ (m : ℕ). get_or g m 0) (add_assoc (x.v * side) x.left i)),
+      omega (arith, p.1, part_length g from n f),
     )

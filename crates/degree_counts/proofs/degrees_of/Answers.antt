@@ -25,8 +25,8 @@ pub loop-i-preserved : goal.loop-i-preserved
 loop-i-preserved c =
     let e = c.args.edges.now in
     let i = c.loop-i.i in (
-    omega arith,
-    rw (c.count_edge.ensures, length-count_edge) c.loop-i.invariant.1,
-    rw c.count_edge.ensures (degrees_more e c.args.total i c.loop-i.degrees c.requires.0 (good e c.args.total c.requires.1 i (omega arith))
-    c.loop-i.invariant.1 c.loop-i.invariant.2),
+      omega arith,
+      rw (c.count_edge.ensures, length-count_edge) c.loop-i.invariant.1,
+      rw c.count_edge.ensures (degrees_more e c.args.total i c.loop-i.degrees c.requires.0 (good e c.args.total c.requires.1 i (omega arith))
+          c.loop-i.invariant.1 c.loop-i.invariant.2),
     )

@@ -12,11 +12,10 @@ pub returns-then-not-good_edge : goal.returns-then-not-good_edge
 returns-then-not-good_edge c = sym (c.loop-i.invariant.1 ∙ lowest-here _ _ _ (omega arith) (ap not (sym c.good_edge.ensures ∙ c.if-not-good_edge.true)))
 
 pub loop-i-preserved : goal.loop-i-preserved
-loop-i-preserved c =
-    (
-    omega arith,
-    c.loop-i.invariant.1 ∙ lowest-next _ _ _ (omega arith) (ap not (sym c.good_edge.ensures ∙ c.if-not-good_edge.false)),
-    )
+loop-i-preserved c = (
+  omega arith,
+  c.loop-i.invariant.1 ∙ lowest-next _ _ _ (omega arith) (ap not (sym c.good_edge.ensures ∙ c.if-not-good_edge.false)),
+)
 
 pub returns : goal.returns
 returns c = sym (c.loop-i.invariant.1 ∙ lowest-end _ _ _ c.loop-i-test.false)

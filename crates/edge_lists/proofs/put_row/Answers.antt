@@ -22,10 +22,9 @@ put_edge-a-requires c =
     rw (c.loop-w.invariant.3, length-sets) (omega arith)
 
 pub loop-w-preserved : goal.loop-w-preserved
-loop-w-preserved c =
-    (
-    omega arith,
-    omega arith,
-    simp (cat_to-more, length-append) (omega arith),
-    simp (cat_to-more, sets-append) (rw (← c.loop-w.invariant.3, ← c.loop-w.invariant.2) c.put_edge-a.ensures.output_after),
-    )
+loop-w-preserved c = (
+  omega arith,
+  omega arith,
+  simp (cat_to-more, length-append) (omega arith),
+  simp (cat_to-more, sets-append) (rw (← c.loop-w.invariant.3, ← c.loop-w.invariant.2) c.put_edge-a.ensures.output_after),
+)

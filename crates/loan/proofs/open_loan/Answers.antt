@@ -13,10 +13,10 @@ log_ok-requires c =
     let o = c.«open».ensures.opened e in
     let l = laid-facts (state_of c.args.journal.now c.args.adjacency.now) c.requires.0.journal-ok (sym c.«open».ensures.value ∙ e) in
     let same = c.vertex_count-n.ensures ∙ ap vertices o.said in (
-    rw same (record { sized = c.requires.0.adjacency_length; few = l.vertices-le; simple = l.partial.simple; outside = l.outside }),
-    c.requires.1,
-    o.most,
-    o.counted,
-    c.vertex_count-n.ensures,
-    omega (arith, same, l.vertices-le),
+      rw same (record { sized = c.requires.0.adjacency_length; few = l.vertices-le; simple = l.partial.simple; outside = l.outside }),
+      c.requires.1,
+      o.most,
+      o.counted,
+      c.vertex_count-n.ensures,
+      omega (arith, same, l.vertices-le),
     )

@@ -19,7 +19,7 @@ overflow_add-sums-in-loop-i-2 c =
 pub loop-i-preserved : goal.loop-i-preserved
 loop-i-preserved c =
     let a = c.args in (
-    omega arith,
-    added_more (λ i. a.at + i) (λ i. get_or a.adjacency.now (a.from + i) 0) a.sums.now c.loop-i.i c.loop-i.sums
-    (omega arith) c.loop-i.invariant.1,
+      omega arith,
+      added_more (λ i. a.at + i) (λ i. get_or a.adjacency.now (a.from + i) 0) a.sums.now c.loop-i.i c.loop-i.sums
+          (omega arith) c.loop-i.invariant.1,
     )

@@ -34,16 +34,16 @@ loop-k-preserved c =
     let cls = class_in a.classes.now in
     let E = edge a.adjacency.now in
     let T = matrix_of a.cells.now in (
-    omega arith,
-    c.skip_below-start.ensures.0,
-    λ w i. omega (arith, c.skip_below-start.ensures.1 w i),
-    elim c.if-has_class.branch [ 
-    then-has_class w ↦ rw (all_to-more, w.ok-is, c.loop-k.invariant.3, w.class_within-ok.ensures, class_edgess_within a.n cls E _ T k (c.sum_classes.ensures k))
-    | else-has_class w ↦
-    let r = c.skip_below-start.ensures in
-    let none = class_absent a.n k c.skip_below-start.result cls c.requires.4 r.1 r.2 (rw c.has_class.ensures at w.if-has_class.false) in
-    rw (all_to-more, w.ok-is, c.loop-k.invariant.3, absent_within a.n cls E T k none) (sym (and-true _))
-     ],
+      omega arith,
+      c.skip_below-start.ensures.0,
+      λ w i. omega (arith, c.skip_below-start.ensures.1 w i),
+      elim c.if-has_class.branch [
+        | then-has_class w ↦ rw (all_to-more, w.ok-is, c.loop-k.invariant.3, w.class_within-ok.ensures, class_edgess_within a.n cls E _ T k (c.sum_classes.ensures k))
+        | else-has_class w ↦
+            let r = c.skip_below-start.ensures in
+            let none = class_absent a.n k c.skip_below-start.result cls c.requires.4 r.1 r.2 (rw c.has_class.ensures at w.if-has_class.false) in
+            rw (all_to-more, w.ok-is, c.loop-k.invariant.3, absent_within a.n cls E T k none) (sym (and-true _))
+      ],
     )
 
 pub returns : goal.returns

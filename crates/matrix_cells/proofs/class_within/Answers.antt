@@ -21,14 +21,14 @@ pub loop-l-preserved : goal.loop-l-preserved
 loop-l-preserved c =
     let k = c.args.k in
     let h : k ≤ c.loop-l.l = omega arith in (
-    omega arith,
-    omega arith,
-    rw (
-    all_to-more,
-    le-ltb c.loop-l.l k h,
-    c.loop-l.invariant.2,
-    c.wide32.ensures.0,
-    c.count_class.ensures c.loop-l.l h,
-    c.upper_cell.ensures.0,
-    ),
+      omega arith,
+      omega arith,
+      rw (
+        all_to-more,
+        le-ltb c.loop-l.l k h,
+        c.loop-l.invariant.2,
+        c.wide32.ensures.0,
+        c.count_class.ensures c.loop-l.l h,
+        c.upper_cell.ensures.0,
+      ),
     )

@@ -14,10 +14,10 @@ pub loop-w-init : goal.loop-w-init
 loop-w-init c =
     let cls = class_in c.args.classes.now in
     let row : ℕ → ℕ = λ w. get_or c.args.sums.now (c.args.k * side + w) 0 in (
-    omega arith,
-    c.requires.5,
-    λ l h. c.requires.6 l ∙ sym (class_none c.args.start l cls row (λ w i. omega (arith, c.requires.4 w i))),
-    λ l. omega (arith, c.requires.6 l),
+      omega arith,
+      c.requires.5,
+      λ l h. c.requires.6 l ∙ sym (class_none c.args.start l cls row (λ w i. omega (arith, c.requires.4 w i))),
+      λ l. omega (arith, c.requires.6 l),
     )
 
 pub loop-w-preserved : goal.loop-w-preserved
@@ -28,8 +28,8 @@ loop-w-preserved c =
     let a = more_at c.loop-w.have (cls c.loop-w.w) (row c.loop-w.w) q in
     let m = more_at_most c.loop-w.have (cls c.loop-w.w) (row c.loop-w.w) (255 * c.loop-w.w) q c.loop-w.invariant.3 in
     rw (c.wide.ensures.0, c.wide32.ensures.0, c.wide-l.ensures.0) (
-    omega arith,
-    length-set c.loop-w.have (cls c.loop-w.w) (get_or c.loop-w.have (cls c.loop-w.w) 0 + row c.loop-w.w) ∙ c.loop-w.invariant.1,
-    λ j h. rw sum_to-more (a j ∙ ap (λ (x : ℕ). x + δ (cls c.loop-w.w) j * row c.loop-w.w) (c.loop-w.invariant.2 j h)),
-    λ j. omega (arith, m j),
+      omega arith,
+      length-set c.loop-w.have (cls c.loop-w.w) (get_or c.loop-w.have (cls c.loop-w.w) 0 + row c.loop-w.w) ∙ c.loop-w.invariant.1,
+      λ j h. rw sum_to-more (a j ∙ ap (λ (x : ℕ). x + δ (cls c.loop-w.w) j * row c.loop-w.w) (c.loop-w.invariant.2 j h)),
+      λ j. omega (arith, m j),
     )

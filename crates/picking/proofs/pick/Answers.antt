@@ -12,8 +12,8 @@ nonzero_rem-wide32 c = omega (arith, c.total-m.ensures, total-count c.requires.0
 pub row_at-place-requires : goal.row_at-place-requires
 row_at-place-requires c =
     let some = total-count c.requires.0 c.requires.1 in (
-    c.requires.0.summed,
-    rw c.total-m.ensures (mod-lt _ (omega (arith, some, c.requires.2))),
+      c.requires.0.summed,
+      rw c.total-m.ensures (mod-lt _ (omega (arith, some, c.requires.2))),
     )
 
 pub returns : goal.returns
@@ -24,6 +24,9 @@ returns c =
     let cls = class_from c.args.starts.now in
     let T = matrix_of c.args.cells.now in
     let g = c.args.adjacency.now in
-    record { v_value = seek_row c.requires.0 c.requires.1 _ _ _ c.row_at-place.ensures.1 c.row_at-place.ensures.2 _ column.0 column.1 column.2 column.3
-    ∙ ap (λ (q : ℕ). pair_v n cls T g q) picks; w_value = seek_column c.requires.0 c.requires.1 _ _ _ c.row_at-place.ensures.1 c.row_at-place.ensures.2 _ column.0 column.1 column.2 column.3
-    ∙ ap (λ (q : ℕ). pair_w n cls T g q c.row_at-place.result.at) picks }
+    record {
+      v_value = seek_row c.requires.0 c.requires.1 _ _ _ c.row_at-place.ensures.1 c.row_at-place.ensures.2 _ column.0 column.1 column.2 column.3
+          ∙ ap (λ (q : ℕ). pair_v n cls T g q) picks;
+      w_value = seek_column c.requires.0 c.requires.1 _ _ _ c.row_at-place.ensures.1 c.row_at-place.ensures.2 _ column.0 column.1 column.2 column.3
+          ∙ ap (λ (q : ℕ). pair_w n cls T g q c.row_at-place.result.at) picks;
+    }

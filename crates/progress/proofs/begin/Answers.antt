@@ -14,8 +14,8 @@ edges_wanted-requires c =
 pub edge_total-requires : goal.edge_total-requires
 edge_total-requires c =
     let p = c.requires in (
-    omega (arith, vertices-few p.state p.passed p.opened, c.vertex_count-n.ensures),
-    λ v l. opened_few p.state p.opened (laid p.state p.passed p.opened) c.vertex_count-n.ensures v (omega (arith, l)),
+      omega (arith, vertices-few p.state p.passed p.opened, c.vertex_count-n.ensures),
+      λ v l. opened_few p.state p.opened (laid p.state p.passed p.opened) c.vertex_count-n.ensures v (omega (arith, l)),
     )
 
 pub overflow_sub-missing : goal.overflow_sub-missing
@@ -29,7 +29,7 @@ pub returns : goal.returns
 returns c =
     let p = c.requires in
     record {
-    total = c.vertex_count-n.ensures;
-    lacks =
-    ap₂ ◌-◌ (opened_wanted p.state p.opened (laid p.state p.passed p.opened) c.edges_wanted.ensures) c.edge_total.ensures;
+      total = c.vertex_count-n.ensures;
+      lacks =
+          ap₂ ◌-◌ (opened_wanted p.state p.opened (laid p.state p.passed p.opened) c.edges_wanted.ensures) c.edge_total.ensures;
     }

@@ -15,7 +15,7 @@ returns-in-Lowest c =
     let b = loan_of a.journal.now a.adjacency.now a.log.now in
     record {
       value = c.complete.ensures.value ∙ ap (choice_answer Lowest b) c.requires;
-      adjacency_after = c.complete.ensures.adjacency_after ∙ ap (λ (m : ℕ). (choice_after Lowest b m).state.adjacency) c.requires
+      adjacency_after = c.complete.ensures.adjacency_after ∙ ap (λ (m : ℕ). (choice_after Lowest b m).state.adjacency) c.requires;
     }
 
 pub returns-in-Picked : goal.returns-in-Picked
@@ -25,5 +25,5 @@ returns-in-Picked c =
     let r = shuffled b.state c.in-Picked.x in
     record {
       value = c.without_x.ensures r.x (ran_answer r.ran b (length a.records.now)) c.complete_shuffled.ensures.value ∙ ap (ran_answer r.ran b) c.requires;
-      adjacency_after = c.complete_shuffled.ensures.adjacency_after ∙ ap (λ (m : ℕ). (ran_after r.ran b m).state.adjacency) c.requires
+      adjacency_after = c.complete_shuffled.ensures.adjacency_after ∙ ap (λ (m : ℕ). (ran_after r.ran b m).state.adjacency) c.requires;
     }

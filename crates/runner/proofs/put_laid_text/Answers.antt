@@ -10,10 +10,11 @@ complete_by-answer-requires c = rw length-replicate
 pub put_state_text-requires : goal.put_state_text-requires
 put_state_text-requires c =
     let a = c.args in
-    let e = c.complete_by-answer.ensures in
-    (completed-laid a.form a.choice (state_of a.journal.now a.adjacency.now) a.n _ _ e.value e.adjacency_after _ _ _ c.in-Completed.is,
-    c.requires.0,
-    c.requires.1)
+    let e = c.complete_by-answer.ensures in (
+      completed-laid a.form a.choice (state_of a.journal.now a.adjacency.now) a.n _ _ e.value e.adjacency_after _ _ _ c.in-Completed.is,
+      c.requires.0,
+      c.requires.1,
+    )
 
 pub returns-in-Refused : goal.returns-in-Refused
 returns-in-Refused c =

@@ -20,11 +20,11 @@ adjacency_ok-requires c =
     let go = layout_go (table_of j) (ap layout_verdict (sym said) ∙ sym c.layout_check-verdict.ensures ∙ c.in-Go.is) in
     let en = c.vertex_count-n.ensures ∙ ap vertices said in
     let ec = c.classes-c.ensures ∙ ap classes_of said in (
-    c.requires.adjacency_length,
-    rw en go.1,
-    class_below (table_of j) go.1 en ec,
-    class_rises (table_of j) go.1 en ec,
-    c.requires.no-degrees,
+      c.requires.adjacency_length,
+      rw en go.1,
+      class_below (table_of j) go.1 en ec,
+      class_rises (table_of j) go.1 en ec,
+      c.requires.no-degrees,
     )
 
 pub returns-in-Go : goal.returns-in-Go
@@ -35,12 +35,15 @@ returns-in-Go c =
     let said = c.sum_table.ensures in
     let e = ap layout_verdict (sym said.0) ∙ sym c.layout_check-verdict.ensures ∙ c.in-Go.is in
     let en = c.vertex_count-n.ensures ∙ ap vertices said.0 in
-    record { value = c.adjacency_ok.ensures.value
-    ∙ ap (λ (u : DegreeTable). adjacency_ok c.vertex_count-n.result (class_in c.classes-c.result) u.cells g) said.0
-    ∙ adjacency_ok-table (table_of j) (layout_go (table_of j) e).1 en (c.classes-c.ensures ∙ ap classes_of said.0) (jdm_of j) g
-    ∙ sym (laid-go (table_of j) g e); opened = λ h. record {
-    said = said.0;
-    most = said.1;
-    counted = said.2;
-    degrees_right = c.adjacency_ok.ensures.degrees_after h ∙ ap (λ (n : ℕ). degrees_of n g) en;
-    } }
+    record {
+      value = c.adjacency_ok.ensures.value
+          ∙ ap (λ (u : DegreeTable). adjacency_ok c.vertex_count-n.result (class_in c.classes-c.result) u.cells g) said.0
+          ∙ adjacency_ok-table (table_of j) (layout_go (table_of j) e).1 en (c.classes-c.ensures ∙ ap classes_of said.0) (jdm_of j) g
+          ∙ sym (laid-go (table_of j) g e);
+      opened = λ h. record {
+        said = said.0;
+        most = said.1;
+        counted = said.2;
+        degrees_right = c.adjacency_ok.ensures.degrees_after h ∙ ap (λ (n : ℕ). degrees_of n g) en;
+      };
+    }

@@ -65,7 +65,7 @@ returns-clause-adjacency_unchanged t c =
     let can = sym c.can_swap.ensures ∙ c.if-not-can_swap.false in
     let works = swaps-work a.n (class_in a.classes.now) g back c.requires.0 can in
     let again : swap_bytes (swap_bytes g back) x ≡ g =
-        ap (λ (y : Swap). swap_bytes (swap_bytes g back) (undoing y)) (sym c.undoing-back.ensures) ∙ works.undone in
+    ap (λ (y : Swap). swap_bytes (swap_bytes g back) (undoing y)) (sym c.undoing-back.ensures) ∙ works.undone in
     c.swap_bytes-2.ensures
     ∙ ap (λ (h : List ℕ). swap_bytes h x) (c.undoable-legal.ensures.adjacency_unchanged ∙ c.swap_bytes.ensures)
     ∙ again

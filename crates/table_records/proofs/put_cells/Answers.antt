@@ -19,8 +19,8 @@ pub loop-k-preserved : goal.loop-k-preserved
 loop-k-preserved c =
     let row : ℕ → List ℕ = λ k. cat_to most_classes (cell_record (matrix_of c.args.cells.now) k) in
     let more = cat_to-more row c.loop-k.k in (
-    omega arith,
-    rw (more, length-append) (omega arith),
-    omega arith,
-    rw (more, sets-append, ← c.loop-k.invariant.3, ← c.loop-k.invariant.1) c.put_row-a.ensures.out_after,
+      omega arith,
+      rw (more, length-append) (omega arith),
+      omega arith,
+      rw (more, sets-append, ← c.loop-k.invariant.3, ← c.loop-k.invariant.1) c.put_row-a.ensures.out_after,
     )

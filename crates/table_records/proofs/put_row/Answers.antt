@@ -21,9 +21,9 @@ loop-l-preserved c =
     let more = cat_to-more (cell_record T c.args.k) c.loop-l.l in
     let one : cell_record T c.args.k c.loop-l.l ≡ count_record c.args.k c.loop-l.l c.upper_cell.result =
     rw (le-leb c.args.k c.loop-l.l c.loop-l.invariant.0, c.upper_cell.ensures.0) in (
-    omega arith,
-    omega arith,
-    rw (more, one, length-append) (omega arith),
-    omega arith,
-    rw (more, one, sets-append, ← c.loop-l.invariant.4, ← c.loop-l.invariant.2) c.put_record-a.ensures.out_after,
+      omega arith,
+      omega arith,
+      rw (more, one, length-append) (omega arith),
+      omega arith,
+      rw (more, one, sets-append, ← c.loop-l.invariant.4, ← c.loop-l.invariant.2) c.put_record-a.ensures.out_after,
     )

@@ -16,8 +16,8 @@ overflow_cast-have c =
     let u = c.upper_cell-want.ensures in
     let m = cell-most p.0 c.args.k c.args.l p.2 p.3 in
     elim c.if-want-gt0.branch [
-      then-want-gt0 w ↦ omega (arith, w.sum-is, w.block_sum-sum.ensures, cell_sum p.0 c.args.k c.args.l p.2 p.3, m, u)
-    | else-want-gt0 w ↦ omega (arith, w.sum-is)
+      | then-want-gt0 w ↦ omega (arith, w.sum-is, w.block_sum-sum.ensures, cell_sum p.0 c.args.k c.args.l p.2 p.3, m, u)
+      | else-want-gt0 w ↦ omega (arith, w.sum-is)
     ]
 
 pub mark_full-requires : goal.mark_full-requires
@@ -31,8 +31,8 @@ returns-then-sum-want c =
     let p = c.requires in
     let u = c.upper_cell-want.ensures in
     rw c.mark_full.ensures (counted-full p.0 c.args.k c.args.l p.2 p.3 p.1 c.if-want-gt0.sum (elim c.if-want-gt0.branch [
-      then-want-gt0 w ↦ w.sum-is ∙ w.block_sum-sum.ensures ∙ cell_sum p.0 c.args.k c.args.l p.2 p.3
-    | else-want-gt0 w ↦ omega (arith, w.if-want-gt0.false, w.sum-is, u, cell-most p.0 c.args.k c.args.l p.2 p.3)
+      | then-want-gt0 w ↦ w.sum-is ∙ w.block_sum-sum.ensures ∙ cell_sum p.0 c.args.k c.args.l p.2 p.3
+      | else-want-gt0 w ↦ omega (arith, w.if-want-gt0.false, w.sum-is, u, cell-most p.0 c.args.k c.args.l p.2 p.3)
     ]) (c.if-sum-want.true ∙ u.0))
 
 pub returns-else-sum-want : goal.returns-else-sum-want
@@ -40,6 +40,6 @@ returns-else-sum-want c =
     let p = c.requires in
     let u = c.upper_cell-want.ensures in
     counted-short p.0 c.args.k c.args.l p.2 p.3 p.1 c.if-want-gt0.sum (elim c.if-want-gt0.branch [
-      then-want-gt0 w ↦ w.sum-is ∙ w.block_sum-sum.ensures ∙ cell_sum p.0 c.args.k c.args.l p.2 p.3
-    | else-want-gt0 w ↦ omega (arith, w.if-want-gt0.false, w.sum-is, u, cell-most p.0 c.args.k c.args.l p.2 p.3)
+      | then-want-gt0 w ↦ w.sum-is ∙ w.block_sum-sum.ensures ∙ cell_sum p.0 c.args.k c.args.l p.2 p.3
+      | else-want-gt0 w ↦ omega (arith, w.if-want-gt0.false, w.sum-is, u, cell-most p.0 c.args.k c.args.l p.2 p.3)
     ]) (λ q. c.if-sum-want.false (q ∙ sym u.0))

@@ -25,11 +25,11 @@ refresh_switches-requires c =
     let p = c.requires.scannable in
     let k : c.args.k < most_classes = omega (arith, c.requires.v_lt_n) in
     elim c.if-add_to_cell.branch [
-      then-add_to_cell w ↦ (
-      rw (w.full-is ∙ w.mark_full.ensures) (marked_scannable p.3 c.args.l c.requires.v_lt_n.2 p.0 c.args.k k),
-      p.1,
-      rw (w.pairs-is, w.sums-is) w.refresh_range.ensures.summed,
-      p.4,
+      | then-add_to_cell w ↦ (
+        rw (w.full-is ∙ w.mark_full.ensures) (marked_scannable p.3 c.args.l c.requires.v_lt_n.2 p.0 c.args.k k),
+        p.1,
+        rw (w.pairs-is, w.sums-is) w.refresh_range.ensures.summed,
+        p.4,
       )
-    | else-add_to_cell w ↦ (rw w.full-is p.0, p.1, rw (w.pairs-is, w.sums-is) w.refresh_row.ensures.summed, p.4)
+      | else-add_to_cell w ↦ (rw w.full-is p.0, p.1, rw (w.pairs-is, w.sums-is) w.refresh_row.ensures.summed, p.4)
     ]

@@ -19,15 +19,15 @@ loop-row-preserved c =
     let s = c.loop-row.invariant.0 in
     let column = column_resumed c.loop-row.invariant.0 c.loop-row-test.true _ _ _
     c.first_column.ensures c.greatest-first.ensures c.free_column-column.ensures in (
-    record {
-    rows = s.rows;
-    columns = s.columns;
-    row = omega arith;
-    column = omega arith;
-    first = λ u a. s.first u (omega arith);
-    done = λ x a b. absurd (omega arith);
-    },
-    c.loop-row.invariant.1 ∙ lowest-next _ _ _ (omega arith) (rw (← column) (le-ltb _ _ c.if-column-end.false)),
+      record {
+        rows = s.rows;
+        columns = s.columns;
+        row = omega arith;
+        column = omega arith;
+        first = λ u a. s.first u (omega arith);
+        done = λ x a b. absurd (omega arith);
+      },
+      c.loop-row.invariant.1 ∙ lowest-next _ _ _ (omega arith) (rw (← column) (le-ltb _ _ c.if-column-end.false)),
     )
 
 pub returns : goal.returns

@@ -15,14 +15,13 @@ use Rattle.complete_shuffled.proofs.Counting.{next_more, still_short, not_short,
 use Rattle.complete_shuffled.proofs.fill.shuffle_cells.Goals as goal
 
 pub refresh_range-requires : goal.refresh_range-requires
-refresh_range-requires c =
-    (
-    c.count_cells.ensures.scannable,
-    begin_classed c.args.classes.now c.requires.0 c.requires.1,
-    begin_summed,
-    omega arith,
-    omega arith,
-    )
+refresh_range-requires c = (
+  c.count_cells.ensures.scannable,
+  begin_classed c.args.classes.now c.requires.0 c.requires.1,
+  begin_summed,
+  omega arith,
+  omega arith,
+)
 
 pub loop-init : goal.loop-init
 loop-init c =
@@ -33,9 +32,9 @@ pub shuffle_step-done-requires : goal.shuffle_step-done-requires
 shuffle_step-done-requires c =
     let i = c.loop.invariant in
     let s = i.1 in (
-    s,
-    still_short c.args.n (class_from c.args.starts.now) (matrix_of c.args.cells.now) (shuffled_at c.loop.adjacency c.loop.output c.loop.done)
-    s.is_valid.filling (omega (arith, i.3, c.requires.2.0, c.loop-test.true)),
+      s,
+      still_short c.args.n (class_from c.args.starts.now) (matrix_of c.args.cells.now) (shuffled_at c.loop.adjacency c.loop.output c.loop.done)
+          s.is_valid.filling (omega (arith, i.3, c.requires.2.0, c.loop-test.true)),
     )
 
 pub loop-preserved : goal.loop-preserved
@@ -47,12 +46,12 @@ loop-preserved c =
     (omega (arith, i.3, c.requires.2.0, c.loop-test.true)) in
     let one = next_more a.n (class_from a.starts.now) (matrix_of a.cells.now) was i.1.is_valid.filling short in
     let made = c.shuffle_step-done.ensures in (
-    omega (arith, c.loop-test.true),
-    rw made.wrote_records.sized made.shuffling,
-    rw made.result_after (run-next a.n (class_from a.starts.now) (matrix_of a.cells.now) c.loop.counter was
-    (omega (arith, c.loop-test.true, c.requires.2.1)) short i.2),
-    ap (λ (r : Shuffled). edges a.n (edge r.ran.adjacency)) made.result_after ∙ omega (arith, one, i.3),
-    wrote_then i.4 made.wrote_records,
+      omega (arith, c.loop-test.true),
+      rw made.wrote_records.sized made.shuffling,
+      rw made.result_after (run-next a.n (class_from a.starts.now) (matrix_of a.cells.now) c.loop.counter was
+          (omega (arith, c.loop-test.true, c.requires.2.1)) short i.2),
+      ap (λ (r : Shuffled). edges a.n (edge r.ran.adjacency)) made.result_after ∙ omega (arith, one, i.3),
+      wrote_then i.4 made.wrote_records,
     )
 
 pub returns : goal.returns

@@ -9,11 +9,10 @@ pub bounds-bits-wide16 : goal.bounds-bits-wide16
 bounds-bits-wide16 c = place-low c.args.n c.args.v c.loop-w.w _ c.requires.0 c.loop-w.invariant.1 c.loop-w-test.true c.wide16.ensures.0
 
 pub loop-w-preserved : goal.loop-w-preserved
-loop-w-preserved c =
-    (
-    omega arith,
-    omega arith,
-    row_more c.args.n c.args.v c.loop-w.w _ c.requires.0 c.loop-w.invariant.1 c.loop-w-test.true c.wide16.ensures.0
-    c.args.bits.now c.loop-w.row c.loop-w.invariant.3 c.loop-w.invariant.2,
-    rw length-set c.loop-w.invariant.3,
-    )
+loop-w-preserved c = (
+  omega arith,
+  omega arith,
+  row_more c.args.n c.args.v c.loop-w.w _ c.requires.0 c.loop-w.invariant.1 c.loop-w-test.true c.wide16.ensures.0
+      c.args.bits.now c.loop-w.row c.loop-w.invariant.3 c.loop-w.invariant.2,
+  rw length-set c.loop-w.invariant.3,
+)

@@ -37,8 +37,8 @@ loop-v-preserved c =
     let room : n ≤ length row = omega (arith, g.1) in
     let a = rw (row-bytes bits row n v room g.0) at c.put_row-a.ensures.value in
     let e = rw (row-bytes bits row n v room g.0) at c.put_row-a.ensures.output_after in (
-    omega arith,
-    simp (cat_to-more, length-append) (omega (arith, a)),
-    simp (cat_to-more, sets-append, zero-add) (rw (← c.loop-v.invariant.2, ← c.loop-v.invariant.1) e),
-    g.1,
+      omega arith,
+      simp (cat_to-more, length-append) (omega (arith, a)),
+      simp (cat_to-more, sets-append, zero-add) (rw (← c.loop-v.invariant.2, ← c.loop-v.invariant.1) e),
+      g.1,
     )
