@@ -1,4 +1,6 @@
 // The C interface: one export for each entry (include/replica.h). Each calls the entry and hands its answer back in document 01's numbers.
+#![tactic(auto)]
+
 ghost use Rattle.std.specs.Prelude.{◌≡◌, length};
 ghost use Rattle.answer.specs.Numbers.{clear_numbers, take_numbers, lay_out_numbers, figures_numbers, add_numbers, remove_numbers, swap_numbers, undo_numbers, complete_numbers, shuffle_numbers, written_numbers, read_numbers};
 ghost use Rattle.state.specs.State.{state_of};
