@@ -1,12 +1,9 @@
 -- `cell_filling::fill_steps` meets its contract: after i turns i joins are made, and the cursor has passed only what is done.
 use mathlib.Core.Path.{sym}
-use Prim.Native.Nat.{◌-◌}
 use native.Mathlib.Omega.{arith}
-use Rattle.finite.specs.Range.{fold_to}
 use Rattle.finite.proofs.Fold.{fold_to-none, fold_to-after}
 use Rattle.classes.specs.Inner.Block.{class_from}
 use Rattle.completion.specs.Inner.Cellwise.{cell_step}
-use Rattle.progress.specs.Inner.Work.{ran}
 use Rattle.progress.proofs.Output.{wrote_none, wrote_then}
 use Rattle.cell_filling.proofs.Joins.{start_resumes, fill_steppable}
 use Rattle.cell_filling.proofs.fill_steps.Goals as goal

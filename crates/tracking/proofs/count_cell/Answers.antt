@@ -1,6 +1,7 @@
 -- `tracking::count_cell` meets its contract: a cell that the table has nothing in has nothing, and no other has more than the table.
-use mathlib.Core.Path.{sym, ◌∙◌}
+use mathlib.Core.Path.{◌≡◌, sym, ◌∙◌}
 use native.Mathlib.Omega.{arith}
+use Rattle.tracking.specs.Inner.Track.{cell_has}
 use Rattle.tracking.proofs.Cells.{class_bounds, cell_block, cell_sum, cell-most, counted-full, counted-short}
 use Rattle.tracking.proofs.count_cell.Goals as goal
 use Rattle.tracking.proofs.count_cell.Goals.{then-want-gt0, else-want-gt0}
@@ -30,16 +31,22 @@ pub returns-then-sum-want : goal.returns-then-sum-want
 returns-then-sum-want c =
     let p = c.requires in
     let u = c.upper_cell-want.ensures in
-    rw c.mark_full.ensures (counted-full p.0 c.args.k c.args.l p.2 p.3 p.1 c.if-want-gt0.sum (elim c.if-want-gt0.branch [
+    let e : c.if-want-gt0.sum ≡ cell_has c.args.n c.args.starts.now c.args.adjacency.now c.args.k c.args.l =
+    elim c.if-want-gt0.branch [
       | then-want-gt0 w ↦ w.sum-is ∙ w.block_sum-sum.ensures ∙ cell_sum p.0 c.args.k c.args.l p.2 p.3
-      | else-want-gt0 w ↦ omega (arith, w.if-want-gt0.false, w.sum-is, u, cell-most p.0 c.args.k c.args.l p.2 p.3)
-    ]) (c.if-sum-want.true ∙ u.0))
+      | else-want-gt0 w ↦ omega (arith, w.sum-is, w.if-want-gt0.false, u, cell-most p.0 c.args.k c.args.l p.2 p.3)
+    ]
+    in
+    rw c.mark_full.ensures (counted-full p.0 c.args.k c.args.l p.2 p.3 p.1 c.if-want-gt0.sum e (c.if-sum-want.true ∙ u.0))
 
 pub returns-else-sum-want : goal.returns-else-sum-want
 returns-else-sum-want c =
     let p = c.requires in
     let u = c.upper_cell-want.ensures in
-    counted-short p.0 c.args.k c.args.l p.2 p.3 p.1 c.if-want-gt0.sum (elim c.if-want-gt0.branch [
+    let e : c.if-want-gt0.sum ≡ cell_has c.args.n c.args.starts.now c.args.adjacency.now c.args.k c.args.l =
+    elim c.if-want-gt0.branch [
       | then-want-gt0 w ↦ w.sum-is ∙ w.block_sum-sum.ensures ∙ cell_sum p.0 c.args.k c.args.l p.2 p.3
-      | else-want-gt0 w ↦ omega (arith, w.if-want-gt0.false, w.sum-is, u, cell-most p.0 c.args.k c.args.l p.2 p.3)
-    ]) (λ q. c.if-sum-want.false (q ∙ sym u.0))
+      | else-want-gt0 w ↦ omega (arith, w.sum-is, w.if-want-gt0.false, u, cell-most p.0 c.args.k c.args.l p.2 p.3)
+    ]
+    in
+    counted-short p.0 c.args.k c.args.l p.2 p.3 p.1 c.if-want-gt0.sum e (λ q. c.if-sum-want.false (q ∙ sym u.0))

@@ -1,5 +1,4 @@
 -- `tracking::count_cells` meets its contract: before row k all cells of the rows before it are counted.
-use Prim.Native.Nat.{◌-◌}
 use native.Mathlib.Omega.{arith}
 use Rattle.tracking.proofs.Cells.{counted_none}
 use Rattle.tracking.proofs.count_cells.Goals as goal

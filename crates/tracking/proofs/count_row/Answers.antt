@@ -1,5 +1,4 @@
 -- `tracking::count_row` meets its contract: before cell (k, l) all cells before it are counted.
-use Prim.Native.Nat.{◌-◌}
 use native.Mathlib.Omega.{arith}
 use Rattle.tracking.proofs.Cells.{counted-row}
 use Rattle.tracking.proofs.count_row.Goals as goal

@@ -1,8 +1,6 @@
 -- `cell_filling::pair::free_column` meets its contract: what is left to search has the answer of the whole.
 use mathlib.Core.Path.{sym, ◌∙◌}
-use Prim.Native.Nat.{◌-◌}
 use native.Mathlib.Omega.{arith}
-use Rattle.finite.specs.Range.{lowest}
 use Rattle.finite.proofs.Lowest.{lowest-end, lowest-here, lowest-next}
 use Rattle.cell_filling.proofs.pair.free_column.Goals as goal
 

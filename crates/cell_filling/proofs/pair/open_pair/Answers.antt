@@ -1,9 +1,7 @@
 -- `cell_filling::pair::open_pair` meets its contract: what is left to search has the answer of the whole.
 use mathlib.Core.Path.{sym, ◌∙◌}
-use Prim.Native.Nat.{◌-◌}
 use native.Mathlib.Omega.{arith}
 use borrow.Author.Tests.{lt-ltb, le-ltb}
-use Rattle.finite.specs.Range.{lowest}
 use Rattle.finite.proofs.Lowest.{lowest-end, lowest-here, lowest-next}
 use Rattle.cell_filling.proofs.Search.{column_resumed}
 use Rattle.cell_filling.proofs.pair.open_pair.Goals as goal
