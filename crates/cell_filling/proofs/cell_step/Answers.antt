@@ -6,7 +6,7 @@ use Rattle.cell_filling.proofs.OneJoin.{step_searchable, step_joinable, step_roo
 use Rattle.cell_filling.proofs.cell_step.Goals as goal
 
 pub open_pair-pair-requires : goal.open_pair-pair-requires
-open_pair-pair-requires c = (c.requires.0.is-valid.filling.sized, step_searchable c.requires.0)
+open_pair-pair-requires c = (c.requires.0.is_valid.filling.sized, step_searchable c.requires.0)
 
 pub join-done-requires : goal.join-done-requires
 join-done-requires c =
@@ -22,13 +22,13 @@ join-done-requires c =
 pub overflow_add-pair : goal.overflow_add-pair
 overflow_add-pair c =
     let joinable = step_joinable c.requires.0 _ _ c.open_pair-pair.ensures.0 c.open_pair-pair.ensures.1 in
-    omega (arith, joinable.pair.second, c.requires.0.is-valid.filling.few)
+    omega (arith, joinable.pair.second, c.requires.0.is_valid.filling.few)
 
 pub record_join-sum-requires : goal.record_join-sum-requires
 record_join-sum-requires c =
     let joinable = step_joinable c.requires.0 _ _ c.open_pair-pair.ensures.0 c.open_pair-pair.ensures.1 in
     let made = c.both_reliefs-made.ensures ∙ c.join-done.ensures.w_value.0 in
-    join-recordable c.args.output.now c.requires.0.is-valid (step_room c.requires.0) joinable made
+    join-recordable c.args.output.now c.requires.0.is_valid (step_room c.requires.0) joinable made
 
 pub returns : goal.returns
 returns c =
