@@ -34,6 +34,43 @@ OTHER = {
     "length-0": "length_0",
     "complete-already": "complete_already",
 }
+# names that no line declares in the form that is read here: constructors, laws with their arguments on several lines
+MORE = {
+    "unlessStopped": "unless_stopped",
+    "unlessTooShort": "unless_too_short",
+    "toldTake": "told_take",
+    "toldAdd": "told_add",
+    "toldRemove": "told_remove",
+    "toldComplete": "told_complete",
+    "toldElse": "told_else",
+    "toldLayOut": "told_lay_out",
+    "writeGraph6": "write_graph6",
+    "readGraph6": "read_graph6",
+    "valueTo": "value_to",
+    "digitAt": "digit_at",
+    "nextV": "next_v",
+    "completedLoan": "completed_loan",
+    "laysOutNow": "lays_out_now",
+    "endW-right": "end_w-right",
+    "endW-left": "end_w-left",
+    "endV-right": "end_v-right",
+    "endV-left": "end_v-left",
+    "slotLength-new": "slot_length-new",
+    "slotLength-laid": "slot_length-laid",
+    "slotRest-laid": "slot_rest-laid",
+    "slotOk-laid": "slot_ok-laid",
+    "blockCell-none": "block_cell-none",
+    "addRecord-outside": "add_record-outside",
+    "addRecord-inside": "add_record-inside",
+    "addRecord-beside": "add_record-beside",
+    "matrix-countCell": "matrix-count_cell",
+    "matrix-addRecord": "matrix-add_record",
+    "since-layOut": "since-lay_out",
+    "after-layOut": "after-lay_out",
+    "degreesWithin-same": "degrees_within-same",
+    "cellsWithin-same": "cells_within-same",
+    "adjacencyOk-same": "adjacency_ok-same",
+}
 # words of the library that lemmas are named after
 LIBRARY = set(
     "length take drop set sets get get_or get_elem append replicate reverse map sum add mul sub div mod pow suc min max cond leb eqb "
@@ -51,6 +88,7 @@ FIELD = re.compile(r"^\s+pub ([^\s:(){}]+) :", re.M)
 
 
 def snake(word):
+    word = re.sub(r"^getD(?=-)", "get_or", word)
     return CAMEL.sub(lambda m: re.sub(r"[A-Z]", lambda k: "_" + k.group(0).lower(), m.group(1)), word)
 
 
@@ -106,7 +144,7 @@ def table():
         if "-" in n and n not in OTHER and new != n and new not in declared and (new in all_words or new in src):
             print("stands elsewhere:", n, "->", new, "; keeps its dash as", snake(n))
             turned[n] = snake(n)
-    return {n: new for n, new in turned.items() if n != new}
+    return {n: new for n, new in turned.items() if n != new} | MORE
 
 
 def words(text, names):

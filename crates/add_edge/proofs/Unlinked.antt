@@ -9,7 +9,7 @@ use native.Mathlib.Omega.{arith}
 use lib.Dec.{ltb}
 use lib.ListN.{length, get_or}
 use borrow.Author.Tests.{ltb-true}
-use Rattle.answer.specs.Refusals.{unlessStopped}
+use Rattle.answer.specs.Refusals.{unless_stopped}
 use Rattle.answer.specs.declared.AddAnswer.{AddAnswer}
 use Rattle.answer.specs.declared.AddAnswer.TheVariants.{Added, Refused}
 use Rattle.answer.specs.declared.Verdict.{Verdict}
@@ -161,7 +161,7 @@ module _ (b : Loan) (v w : ℕ) (go : laid_verdict b ≡ Go) {g g' : List ℕ} {
   on-state = ap (λ (h : List ℕ). add_laid (with_matrix b.state h) v w) (sym same) ∙ sym said ∙ told
 
   answered : add_answer b v w ≡ a
-  answered = ap (λ (q : Verdict). unlessStopped q Refused (add_laid b.state v w)) go ∙ on-state
+  answered = ap (λ (q : Verdict). unless_stopped q Refused (add_laid b.state v w)) go ∙ on-state
 
   matrix-of : (x : AddAnswer) → added_adjacency x (table_of b.state.journal) b.state.adjacency v w ≡ (after_add x b v w).state.adjacency
   matrix-of (Added y) = refl

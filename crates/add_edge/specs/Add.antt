@@ -1,7 +1,7 @@
 -- Adding an edge (document 01: join).
 -- Assumes nothing.
 use Rattle.std.specs.Prelude.{List, ℕ, min, max, eqb}
-use Rattle.answer.specs.Refusals.{refuse, unless, unlessStopped}
+use Rattle.answer.specs.Refusals.{refuse, unless, unless_stopped}
 use Rattle.answer.specs.declared.Cause.TheVariants.{EdgePresent, CellNotShort}
 use Rattle.answer.specs.declared.AddAnswer.{AddAnswer}
 use Rattle.answer.specs.declared.AddAnswer.TheVariants.{Added, Refused}
@@ -33,11 +33,11 @@ add_pair s v w =
 
 -- on a valid laid state: the checks 13, 14, then these
 abbrev pub add_laid : State → ℕ → ℕ → AddAnswer
-add_laid s v w = unlessStopped (pair_verdict (vertex_count s) v w) Refused (add_pair s v w)
+add_laid s v w = unless_stopped (pair_verdict (vertex_count s) v w) Refused (add_pair s v w)
 
 -- the checks 1, 2, 3 before them
 abbrev pub add_answer : Loan → ℕ → ℕ → AddAnswer
-add_answer b v w = unlessStopped (laid_verdict b) Refused (add_laid b.state v w)
+add_answer b v w = unless_stopped (laid_verdict b) Refused (add_laid b.state v w)
 
 -- what was lent, afterwards: the vertices are joined, and the log is empty
 abbrev pub after_add : AddAnswer → Loan → ℕ → ℕ → Loan

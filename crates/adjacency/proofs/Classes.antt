@@ -23,13 +23,13 @@ use Rattle.layout.specs.Inner.Arrays.{classes_of, class_in}
 use Rattle.adjacency.specs.Adjacency.{edge, degrees_within, cells_within, adjacency_ok, mirrored, zero_outside}
 
 module _ (n : ℕ) (cls cls' : ℕ → ℕ) (same : (v : ℕ) → v < n → cls v ≡ cls' v) (g : List ℕ) where
-  degreesWithin-same : degrees_within n cls g ≡ degrees_within n cls' g
-  degreesWithin-same =
+  degrees_within-same : degrees_within n cls g ≡ degrees_within n cls' g
+  degrees_within-same =
       all_to-cong (λ v. leb (degree n (edge g) v) (cls v)) (λ v. leb (degree n (edge g) v) (cls' v)) n
       (λ v l. ap (λ (k : ℕ). leb (degree n (edge g) v) k) (same v l))
 
-  cellsWithin-same : (T : ℕ → ℕ → ℕ) → cells_within n cls T g ≡ cells_within n cls' T g
-  cellsWithin-same T = all_to-cong (row cls) (row cls') most_classes (λ k h. all_to-cong (at cls k) (at cls' k) most_classes (λ l m. cell k l))
+  cells_within-same : (T : ℕ → ℕ → ℕ) → cells_within n cls T g ≡ cells_within n cls' T g
+  cells_within-same T = all_to-cong (row cls) (row cls') most_classes (λ k h. all_to-cong (at cls k) (at cls' k) most_classes (λ l m. cell k l))
     where
       at : (ℕ → ℕ) → ℕ → ℕ → Bool
       at c k l = leb (jdm n c (edge g) k l) (T k l)
@@ -40,8 +40,8 @@ module _ (n : ℕ) (cls cls' : ℕ → ℕ) (same : (v : ℕ) → v < n → cls 
       cell : (k l : ℕ) → at cls k l ≡ at cls' k l
       cell k l = ap (λ (x : ℕ). leb x (T k l)) (jdm-classes n cls cls' (edge g) same k l)
 
-  adjacencyOk-same : (T : ℕ → ℕ → ℕ) → adjacency_ok n cls T g ≡ adjacency_ok n cls' T g
-  adjacencyOk-same T = ap₂ (λ (d c : Bool). mirrored n g && zero_outside n g && d && c) degreesWithin-same (cellsWithin-same T)
+  adjacency_ok-same : (T : ℕ → ℕ → ℕ) → adjacency_ok n cls T g ≡ adjacency_ok n cls' T g
+  adjacency_ok-same T = ap₂ (λ (d c : Bool). mirrored n g && zero_outside n g && d && c) degrees_within-same (cells_within-same T)
 
 -- the classes of a table's vertices, as the array has them
 module _ (t : DegreeTable) (small : vertices t ≤ most_vertices) {n : ℕ} {classes : List ℕ} (en : n ≡ vertices t) (ec : classes ≡ classes_of t) where
@@ -56,7 +56,7 @@ module _ (t : DegreeTable) (small : vertices t ≤ most_vertices) {n : ℕ} {cla
 
   pub adjacency_ok-table : (T : ℕ → ℕ → ℕ) (g : List ℕ) → adjacency_ok n (class_in classes) T g ≡ adjacency_ok (vertices t) (vertex_class t) T g
   adjacency_ok-table T g =
-      adjacencyOk-same n (class_in classes) (vertex_class t) class-at g T ∙ ap (λ (m : ℕ). adjacency_ok m (vertex_class t) T g) en
+      adjacency_ok-same n (class_in classes) (vertex_class t) class-at g T ∙ ap (λ (m : ℕ). adjacency_ok m (vertex_class t) T g) en
 
 -- where classes rise and the first vertex not below class k is not of class k, no vertex is
 pub class_absent : (n k start : ℕ) (cls : ℕ → ℕ) → ((v w : ℕ) → v ≤ w → w < n → cls v ≤ cls w)

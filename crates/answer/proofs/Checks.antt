@@ -3,7 +3,7 @@
 use mathlib.Core.Path.{◌≡◌, refl, sym, subst}
 use mathlib.Core.Bool.{Bool, true, false}
 use Prim.Native.Nat.{ℕ}
-use Rattle.answer.specs.Refusals.{unless, unlessStopped}
+use Rattle.answer.specs.Refusals.{unless, unless_stopped}
 use Rattle.answer.specs.declared.Refusal.{Refusal}
 use Rattle.answer.specs.declared.Verdict.{Verdict}
 use Rattle.answer.specs.declared.Verdict.TheVariants.{Go, Stop}
@@ -14,7 +14,7 @@ pub unless_go : (t : Bool) (r : Refusal) (rest : Verdict) → unless t (Stop r) 
 unless_go true r rest e = (refl, e)
 unless_go false r rest e = (cc, cc)
 
-pub unless_stopped_go : (v rest : Verdict) → unlessStopped v Stop rest ≡ Go → (v ≡ Go) × (rest ≡ Go)
+pub unless_stopped_go : (v rest : Verdict) → unless_stopped v Stop rest ≡ Go → (v ≡ Go) × (rest ≡ Go)
 unless_stopped_go Go rest e = (refl, e)
 unless_stopped_go (Stop r) rest e = (e, cc)
 
@@ -26,7 +26,7 @@ unless_passed false refused rest outcome other e = absurd (other e)
 
 -- and behind a verdict: only one that goes lets it through
 pub unless_stopped_passed : {A : Type 0} (v : Verdict) (refused : Refusal → A) (rest outcome : A) → ((r : Refusal) → refused r ≡ outcome → ⊥)
-    → unlessStopped v refused rest ≡ outcome → (v ≡ Go) × (rest ≡ outcome)
+    → unless_stopped v refused rest ≡ outcome → (v ≡ Go) × (rest ≡ outcome)
 unless_stopped_passed Go refused rest outcome other e = (refl, e)
 unless_stopped_passed (Stop r) refused rest outcome other e = absurd (other r e)
 

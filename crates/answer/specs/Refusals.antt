@@ -20,10 +20,10 @@ module _ {A : Type 0} where
   unless false refused rest = refused
 
   -- The check 18: unless what is to be written fits an output of m bytes, the refusal; else the rest.
-  abbrev pub unlessTooShort : ℕ → ℕ → (Refusal → A) → A → A
-  unlessTooShort needed m refused rest = unless (leb needed m) (refused (refuse OutputTooShort 0 0)) rest
+  abbrev pub unless_too_short : ℕ → ℕ → (Refusal → A) → A → A
+  unless_too_short needed m refused rest = unless (leb needed m) (refused (refuse OutputTooShort 0 0)) rest
 
   -- What a verdict lets through: its refusal, or the rest.
-  abbrev pub unlessStopped : Verdict → (Refusal → A) → A → A
-  unlessStopped Go refused rest = rest
-  unlessStopped (Stop r) refused rest = refused r
+  abbrev pub unless_stopped : Verdict → (Refusal → A) → A → A
+  unless_stopped Go refused rest = rest
+  unless_stopped (Stop r) refused rest = refused r

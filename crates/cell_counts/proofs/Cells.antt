@@ -67,8 +67,8 @@ module _ (a b k l : ℕ) (ha : a < most_classes) (hb : b < most_classes) (hk : k
       go (back p q) = absurd (h (omega arith))
       go (elsewhere z) = z
 
-  matrix-countCell : (c : List ℕ) → length c ≡ cells_size → matrix_of (count_cell a b c) k l ≡ matrix_of c k l + at_edge a b k l
-  matrix-countCell c s = rw (lt-ltb k most_classes hk, lt-ltb l most_classes hl) (go (ℕ_discrete (place k l) (place a b)))
+  matrix-count_cell : (c : List ℕ) → length c ≡ cells_size → matrix_of (count_cell a b c) k l ≡ matrix_of c k l + at_edge a b k l
+  matrix-count_cell c s = rw (lt-ltb k most_classes hk, lt-ltb l most_classes hl) (go (ℕ_discrete (place k l) (place a b)))
     where
       go : Dec (place k l ≡ place a b) → get_or (count_cell a b c) (place k l) 0 ≡ get_or c (place k l) 0 + at_edge a b k l
       go (yes e) =
@@ -88,7 +88,7 @@ pub cells-more : (cls : ℕ → ℕ) (e : List ℕ) (total i : ℕ) (c : List �
     → length c ≡ cells_size → HasCells c total cls (graph_to e i)
     → HasCells (count_cell (cls (end_v e i)) (cls (end_w e i)) c) total cls (graph_to e (i + 1))
 cells-more cls e total i c g ha hb s h k l hk hl =
-    matrix-countCell (cls (end_v e i)) (cls (end_w e i)) k l ha hb hk hl c s
+    matrix-count_cell (cls (end_v e i)) (cls (end_w e i)) k l ha hb hk hl c s
     ∙ ap (λ (m : ℕ). m + at_edge (cls (end_v e i)) (cls (end_w e i)) k l) (h k l hk hl)
     ∙ sym (jdm-adds total (graph_to e i) (graph_to e (i + 1)) (end_v e i) (end_w e i) (graph_to-adds e total i)
     (omega (arith, g.ordered, g.vertex)) g.vertex cls k l)

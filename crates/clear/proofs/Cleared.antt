@@ -6,7 +6,7 @@ use mathlib.Core.List.{List}
 use Prim.Native.Nat.{ℕ}
 use lib.ListN.{replicate, length-replicate}
 use Rattle.answer.specs.declared.ClearAnswer.TheVariants.{Cleared}
-use Rattle.slices.proofs.Zero.{get_d_zeros}
+use Rattle.slices.proofs.Zero.{get_or-zeros}
 use Rattle.journal.specs.Journal.{journal_size}
 use Rattle.journal.proofs.Empty.{phase-empty, blocks-empty, table_empty, valid-empty}
 use Rattle.adjacency.specs.Adjacency.{adjacency_size}
@@ -25,10 +25,10 @@ zeros-cleared m n a b =
     let s = state_of j (replicate n 0) in
     record {
       lengths = lengths_both s (length-replicate {A = ℕ} m 0 ∙ a) (length-replicate {A = ℕ} n 0 ∙ b);
-      is_valid = facts_valid_0 s (phase-empty j (get_d_zeros m)) (valid-empty j (get_d_zeros m)) (get_d_zeros n);
-      taking = phase-empty j (get_d_zeros m);
-      no_blocks = blocks-empty j (get_d_zeros m);
-      no_table = table_empty j (get_d_zeros m);
+      is_valid = facts_valid_0 s (phase-empty j (get_or-zeros m)) (valid-empty j (get_or-zeros m)) (get_or-zeros n);
+      taking = phase-empty j (get_or-zeros m);
+      no_blocks = blocks-empty j (get_or-zeros m);
+      no_table = table_empty j (get_or-zeros m);
     }
 
 pub cleared-state : ClearedState cleared_loan.state

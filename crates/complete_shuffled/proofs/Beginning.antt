@@ -6,7 +6,7 @@ use Prim.Native.Nat.{ℕ, ◌+◌, ◌*◌}
 use native.Mathlib.Omega.{arith}
 use lib.ListN.{get_or, replicate, length-replicate}
 use Rattle.finite.proofs.Sum.{sum_to-zero}
-use Rattle.slices.proofs.Zero.{get_d_zeros}
+use Rattle.slices.proofs.Zero.{get_or-zeros}
 use Rattle.table.specs.Inner.Cells.{cells_size}
 use Rattle.adjacency.specs.Adjacency.{side}
 use Rattle.classes.proofs.Blocks.{start_rises, start_most, class_only}
@@ -24,10 +24,10 @@ begin_summed =
     record {
       sized = length-replicate {A = ℕ} side 0;
       sums_sized = length-replicate {A = ℕ} sum_count 0;
-      few = λ v. omega (arith, get_d_zeros side v);
+      few = λ v. omega (arith, get_or-zeros side v);
       summed = λ b h.
-          get_d_zeros sum_count b
-          ∙ sym (sum_to-zero rows_in_sum (λ i. get_or (replicate side 0) (rows_in_sum * b + i) 0) (λ i l. get_d_zeros side (rows_in_sum * b + i)));
+          get_or-zeros sum_count b
+          ∙ sym (sum_to-zero rows_in_sum (λ i. get_or (replicate side 0) (rows_in_sum * b + i) 0) (λ i l. get_or-zeros side (rows_in_sum * b + i)));
     }
 
 -- before the first vertex of a class there is none of it
@@ -74,7 +74,7 @@ module _ {n : ℕ} {cells starts g degrees : List ℕ} {room : ℕ} (classes : L
                   rw ec
                   (range_right n classes g full v 0 n (replicate side 0)
                   (omega (arith, length-replicate {A = ℕ} side 0, p.arranged.few)) (λ outside. absurd (outside (omega arith) vn)));
-              behind = λ v h. rw ec (range_else n classes g full v 0 n (replicate side 0) h ∙ get_d_zeros side v);
+              behind = λ v h. rw ec (range_else n classes g full v 0 n (replicate side 0) h ∙ get_or-zeros side v);
             };
         lows = begin_lows g p.arranged;
         is_valid = p.is_valid;

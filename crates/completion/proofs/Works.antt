@@ -114,14 +114,14 @@ module _ (n : ℕ) (cls : ℕ → ℕ) (T : ℕ → ℕ → ℕ) where
       lC = ltb-true l most_classes (lowest-holds least_class most_classes (λ i. ltb (short_l n cls T g i) most_classes) (omega arith) kC)
 
   -- the pair that is joined next
-  abbrev pub nextV : Ran → ℕ
-  nextV s = let g = s.adjacency in let k = short_k n cls T g in open_v n cls g k (short_l n cls T g k)
+  abbrev pub next_v : Ran → ℕ
+  next_v s = let g = s.adjacency in let k = short_k n cls T g in open_v n cls g k (short_l n cls T g k)
 
   abbrev pub next_w : Ran → ℕ
-  next_w s = let g = s.adjacency in let k = short_k n cls T g in open_w n cls g k (short_l n cls T g k) (nextV s)
+  next_w s = let g = s.adjacency in let k = short_k n cls T g in open_w n cls g k (short_l n cls T g k) (next_v s)
 
   -- it is open
-  pub next-open : (s : Ran) → Good s → is_incomplete n cls T s ≡ true → Open n cls T (edge s.adjacency) (nextV s) (next_w s)
+  pub next-open : (s : Ran) → Good s → is_incomplete n cls T s ≡ true → Open n cls T (edge s.adjacency) (next_v s) (next_w s)
   next-open s good e =
       let g = s.adjacency in
       let k = short_k n cls T g in
@@ -129,15 +129,15 @@ module _ (n : ℕ) (cls : ℕ → ℕ) (T : ℕ → ℕ → ℕ) where
       (chosen n cls T g good.0 k (short_l n cls T g k) h.0 h.1 h.2).pair
 
   -- where classes rise with the vertices, it is named lower vertex first: its cell is named lower class first
-  pub next-rising : ((v w : ℕ) → v ≤ w → cls v ≤ cls w) → (s : Ran) → Good s → is_incomplete n cls T s ≡ true → nextV s < next_w s
+  pub next-rising : ((v w : ℕ) → v ≤ w → cls v ≤ cls w) → (s : Ran) → Good s → is_incomplete n cls T s ≡ true → next_v s < next_w s
   next-rising rises s good e =
       let g = s.adjacency in
       let k = short_k n cls T g in
       let l = short_l n cls T g k in
       let h = short_cell g e in
       let c = chosen n cls T g good.0 k l h.0 h.1 h.2 in
-      go (nextV s) (next_w s) k l c.row c.column c.above (lowest-ge k most_classes (is_short n cls T (edge g) k) (omega (arith, h.0)))
-      (dec_lt (nextV s) (next_w s))
+      go (next_v s) (next_w s) k l c.row c.column c.above (lowest-ge k most_classes (is_short n cls T (edge g) k) (omega (arith, h.0)))
+      (dec_lt (next_v s) (next_w s))
     where
       go : (v w k l : ℕ) → cls v ≡ k → cls w ≡ l → (k ≡ l → v < w) → k ≤ l → Dec (v < w) → v < w
       go v w k l ev ew above kl (yes p) = p
@@ -222,7 +222,7 @@ module _ (n : ℕ) (cls : ℕ → ℕ) (T : ℕ → ℕ → ℕ) where
 
   -- the lowest open pair is one choice
   abbrev pub lowest-pair : Chooser Ran
-  lowest-pair = record { ran = λ s. s; next = next n cls T; v = nextV; w = next_w; joins = λ s. refl; pair = next-open }
+  lowest-pair = record { ran = λ s. s; next = next n cls T; v = next_v; w = next_w; joins = λ s. refl; pair = next-open }
 
   pub completes : (g : List ℕ) → Filling n cls T g → ZeroOutside n g → CompletedRun g (run most_edges n cls T (fresh g))
   completes g f out = completes_by lowest-pair (fresh g) g refl f out

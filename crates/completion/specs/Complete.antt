@@ -3,7 +3,7 @@
 use Rattle.std.specs.Prelude.{Bool, cond, List, [], ◌++◌, ℕ, ◌+◌, ◌-◌, ◌*◌, ◌/◌, ltb, eqb, length}
 use Rattle.std.proofs.lemmas.List.Edits.{sets}
 use Rattle.finite.specs.Range.{iterate}
-use Rattle.answer.specs.Refusals.{unlessTooShort, unlessStopped}
+use Rattle.answer.specs.Refusals.{unless_too_short, unless_stopped}
 use Rattle.answer.specs.Switches.{switch_count}
 use Rattle.answer.specs.declared.CompleteAnswer.{CompleteAnswer}
 use Rattle.answer.specs.declared.CompleteAnswer.TheVariants.{Completed, Refused}
@@ -75,12 +75,12 @@ missing s = wanted (jdm_of s.journal) - edges (vertex_count s) (edge s.adjacency
 -- anything is joined
 abbrev pub ran_laid : Ran → State → ℕ → CompleteAnswer
 ran_laid r s m =
-    unlessTooShort (join_record_size * missing s) m Refused
+    unless_too_short (join_record_size * missing s) m Refused
     (Completed r.joins r.switches (length r.records))
 
 -- the checks 1, 2, 3 before it
 abbrev pub ran_answer : Ran → Loan → ℕ → CompleteAnswer
-ran_answer r b m = unlessStopped (laid_verdict b) Refused (ran_laid r b.state m)
+ran_answer r b m = unless_stopped (laid_verdict b) Refused (ran_laid r b.state m)
 
 -- the log after so many joins: emptied by the first
 abbrev pub log_after : ℕ → List ℕ → List ℕ

@@ -17,7 +17,7 @@ use Rattle.finite.proofs.Sum.{sum_to-none, sum_to-mono, sum_to-const, sum_to-con
 use Rattle.graph.specs.Graph.{degree, size, isolated}
 use Rattle.graph.specs.Tests.{most_degree}
 use Rattle.graph.proofs.Update.{degree-adds}
-use Rattle.slices.proofs.Zero.{get_d_zeros}
+use Rattle.slices.proofs.Zero.{get_or-zeros}
 use Rattle.table.proofs.Matrix.{add-here, add_apart}
 use Rattle.layout.specs.Layout.{most_vertices}
 use Rattle.edge_lists.specs.EdgeList.{listed, end_v, end_w, first_bad_edge, graph_of}
@@ -44,7 +44,7 @@ degree-count_edge x y d xl yl v =
 
 -- no edges, no degrees
 pub degrees_none : (e : List ℕ) (total : ℕ) → HasDegrees (replicate most_vertices 0) total (graph_to e 0)
-degrees_none e total v l = get_d_zeros most_vertices v ∙ sym (sum_to-zero total (graph_to e 0 v) (λ w m. sum_to-none _))
+degrees_none e total v l = get_or-zeros most_vertices v ∙ sym (sum_to-zero total (graph_to e 0 v) (λ w m. sum_to-none _))
 
 -- one edge more
 pub degrees_more : (e : List ℕ) (total i : ℕ) (d : List ℕ) → total ≤ most_vertices → Good e total i → length d ≡ most_vertices

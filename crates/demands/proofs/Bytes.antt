@@ -14,7 +14,7 @@ use borrow.Author.Tests.{lt-ltb, le-ltb}
 use Rattle.finite.proofs.All.{and-false}
 use Rattle.finite.proofs.Blocks.{singles_length, singles_at}
 use Rattle.graph.specs.Graph.{Graph, SameOn}
-use Rattle.slices.proofs.Zero.{get_d_zeros}
+use Rattle.slices.proofs.Zero.{get_or-zeros}
 use Rattle.adjacency.specs.Adjacency.{side, adjacency_size, edge}
 use Rattle.adjacency.specs.Clauses.{ZeroOutside}
 use Rattle.state.specs.State.{empty_matrix}
@@ -49,4 +49,4 @@ pub empty-length : length empty_matrix ≡ adjacency_size
 empty-length = length-replicate {A = ℕ} adjacency_size 0
 
 pub empty-edge : (v w : ℕ) → edge empty_matrix v w ≡ 0
-empty-edge v w = get_d_zeros adjacency_size (v * side + w)
+empty-edge v w = get_or-zeros adjacency_size (v * side + w)

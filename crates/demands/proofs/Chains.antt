@@ -6,7 +6,7 @@ use mathlib.Core.List.{List, [], ◌∷◌}
 use Prim.Native.Nat.{ℕ, ◌+◌, ◌%◌, ◌≤◌}
 use lib.Dec.{leb, ltb, eqb}
 use lib.ListN.{length}
-use Rattle.answer.specs.Refusals.{refuse, stopped, unless, unlessStopped}
+use Rattle.answer.specs.Refusals.{refuse, stopped, unless, unless_stopped}
 use Rattle.answer.specs.Numbers.{number_of, one_of}
 use Rattle.answer.specs.declared.Cause.TheVariants.{WrongLength, InvalidState, WrongPhase, BlockLength, BadRecord, BlockNumber, BlockDiffers, JournalFull, OddDiagonal, RowNotDivisible, CellTooLarge, TooManyVertices, NoSuchVertex, SameVertex, EdgePresent, CellNotShort, EdgeAbsent, OutputTooShort, BadEdgeList, DegreeTooHigh, Graph6Text, Graph6Size, SwapNotAllowed, LogFull, LogEmpty}
 use Rattle.answer.specs.declared.Refusal.{Refusal}
@@ -108,7 +108,7 @@ OfRead ns n m (Read.Refused r) = CarriesOneOf r ns
 
 -- behind a verdict: its refusal, or what is claimed of the rest
 pub behind : {A : Type 0} (Of : List ℕ → A → Type 0) (ns : List ℕ) (v : Verdict) (refused : Refusal → A) (rest : A)
-    → ((r : Refusal) → CarriesOneOf r ns → Of ns (refused r)) → OfVerdict ns v → Of ns rest → Of ns (unlessStopped v refused rest)
+    → ((r : Refusal) → CarriesOneOf r ns → Of ns (refused r)) → OfVerdict ns v → Of ns rest → Of ns (unless_stopped v refused rest)
 behind Of ns Go refused rest f h x = x
 behind Of ns (Stop r) refused rest f h x = f r h
 
@@ -205,8 +205,8 @@ pair-numbers n v w ns = go (ltb v n) (ltb w n) (not (eqb v w))
   where
     go : (a b c : Bool)
         → OfVerdict (1 ∷ 2 ∷ 3 ∷ 13 ∷ 14 ∷ ns)
-        (unlessStopped (unless a (stopped NoSuchVertex) Go) Stop
-        (unlessStopped (unless b (stopped NoSuchVertex) Go) Stop
+        (unless_stopped (unless a (stopped NoSuchVertex) Go) Stop
+        (unless_stopped (unless b (stopped NoSuchVertex) Go) Stop
         (unless c (stopped SameVertex) Go)))
     go false b c = refl
     go true false c = refl

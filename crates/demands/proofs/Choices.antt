@@ -98,8 +98,8 @@ module _ (s : Loan) (f : Choice) where
   abbrev pub ended : Ran
   ended = outcome f s.state
 
-  abbrev pub completedLoan : Loan
-  completedLoan = record { state = with_matrix s.state ended.adjacency; log = log_after ended.joins s.log }
+  abbrev pub completed_loan : Loan
+  completed_loan = record { state = with_matrix s.state ended.adjacency; log = log_after ended.joins s.log }
 
   pub outcome-has : ValidLaid s.state → HasTable (table_of s.state.journal) (with_matrix s.state ended.adjacency)
   outcome-has laid =
@@ -107,7 +107,7 @@ module _ (s : Loan) (f : Choice) where
       record { simple = x.simple; exact = x.table; exact_isolated = x.no_edge; outside = x.outside }
 
   module _ (out : List ℕ) (joins switches n : ℕ) (e : choice_answer f s (length out) ≡ Completed joins switches n) where
-    pub after-choice : choice_after f s (length out) ≡ completedLoan
+    pub after-choice : choice_after f s (length out) ≡ completed_loan
     after-choice =
         ap (λ (a : CompleteAnswer). after_ran a ended s) e
         ∙ ap (λ (j : ℕ). record { state = with_matrix s.state ended.adjacency; log = log_after j s.log })
@@ -134,9 +134,9 @@ module _ (s : Loan) (f : Choice) where
         ∙ ap (λ (r : Ran). Completed r.joins r.switches (join_record_size * r.joins)) full
 
     -- it is valid: the log is empty where a join was made, and where none was made the matrix is as it was
-    pub completed-laid : LaidLoan completedLoan
+    pub completed-laid : LaidLoan completed_loan
     completed-laid = go (ℕ_discrete ended.joins 0)
       where
-        go : Dec (ended.joins ≡ 0) → LaidLoan completedLoan
+        go : Dec (ended.joins ≡ 0) → LaidLoan completed_loan
         go (yes z) = rw (no_joins s.state f z) laid
         go (no z) = rw (ne_eqb ended.joins 0 z) (altered-laid s ended.adjacency (outcome-works f s.state (laid-state s laid)).state)

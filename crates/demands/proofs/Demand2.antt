@@ -61,7 +61,7 @@ use Rattle.completion.proofs.Entry.{completed-facts}
 use Rattle.shuffled_completion.specs.Outcome.{outcome, choice_answer, choice_after}
 use Rattle.shuffled_completion.proofs.Works.{outcome-works}
 use Rattle.demands.specs.Calls.{Change, take, lay_out_call, add, remove, complete, swap, undo, Call, changes, reads, changed, after_all}
-use Rattle.demands.specs.Tally.{Tally, no_tally, told, toldAdd, toldRemove, toldComplete, adds_block, with_block, lays_out, now_laid, tally, tally_all}
+use Rattle.demands.specs.Tally.{Tally, no_tally, told, told_add, told_remove, told_complete, adds_block, with_block, lays_out, now_laid, tally, tally_all}
 use Rattle.demands.specs.Matrix.{ShortFor, HasTable}
 use Rattle.demands.specs.Accepted.{accepted}
 use Rattle.demands.specs.Demand2.{answered, answered_sum, add_refused, remove_refused, quietly, quiet, Demand2}
@@ -90,15 +90,15 @@ lays_still : (t : Tally) (c : Bool) → Still t (cond c (now_laid t) t)
 lays_still t true = (refl, refl)
 lays_still t false = (refl, refl)
 
-add-still : (t : Tally) (a : AddAnswer) → Still t (tally t (toldAdd a))
+add-still : (t : Tally) (a : AddAnswer) → Still t (tally t (told_add a))
 add-still t (Add.Added m) = (refl, refl)
 add-still t (Add.Refused r) = (refl, refl)
 
-remove-still : (t : Tally) (a : RemoveAnswer) → Still t (tally t (toldRemove a))
+remove-still : (t : Tally) (a : RemoveAnswer) → Still t (tally t (told_remove a))
 remove-still t Remove.Removed = (refl, refl)
 remove-still t (Remove.Refused r) = (refl, refl)
 
-complete-still : (t : Tally) (a : CompleteAnswer) → Still t (tally t (toldComplete a))
+complete-still : (t : Tally) (a : CompleteAnswer) → Still t (tally t (told_complete a))
 complete-still t (Completed i m n) = (refl, refl)
 complete-still t (CompleteRefused r) = (refl, refl)
 

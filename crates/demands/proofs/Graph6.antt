@@ -10,7 +10,7 @@ use lib.Dec.{leb}
 use lib.ListN.{length}
 use borrow.Author.Tests.{leb-true, le-leb}
 use Rattle.graph.specs.Graph.{Graph, Simple, SameOn}
-use Rattle.answer.specs.Refusals.{unlessStopped}
+use Rattle.answer.specs.Refusals.{unless_stopped}
 use Rattle.answer.specs.Numbers.{number_of}
 use Rattle.answer.specs.declared.Refusal.{Refusal}
 use Rattle.answer.specs.declared.Verdict.{Verdict}
@@ -170,7 +170,7 @@ was_read_list t well =
 other_than_19 : (ns : List ℕ) → one_of 19 ns ≡ false → (r : Refusal) → CarriesOneOf r ns → number_of r.cause ≡ 19 → ⊥
 other_than_19 ns off r h e = true≢false (sym (rw e at h) ∙ off)
 
-same_refusal : (v : Verdict) (a b : WrittenAnswer) (r : Refusal) → (a ≡ Refused r → ⊥) → unlessStopped v Refused a ≡ Refused r → unlessStopped v Refused b ≡ Refused r
+same_refusal : (v : Verdict) (a b : WrittenAnswer) (r : Refusal) → (a ≡ Refused r → ⊥) → unless_stopped v Refused a ≡ Refused r → unless_stopped v Refused b ≡ Refused r
 same_refusal Go a b r other h = absurd (other h)
 same_refusal (Stop s) a b r other h = h
 

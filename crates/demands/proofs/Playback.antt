@@ -8,7 +8,7 @@ use native.Mathlib.Nat.{zero-add}
 use native.Mathlib.Omega.{arith}
 use lib.ListN.{length, get_or, take}
 use lib.Seq.{sets}
-use Rattle.slices.proofs.Part.{take-sets, get_d_sets_in}
+use Rattle.slices.proofs.Part.{take-sets, get_or-sets_in}
 use Rattle.finite.specs.Range.{iterate}
 use Rattle.finite.proofs.Fold.{iterate-keeps}
 use Rattle.answer.specs.declared.switches.Switches.{Switches}
@@ -96,7 +96,7 @@ completing_plays f b out checked room =
 
     -- a byte of the records, in the output
     there : (p : ℕ) → p < length r.records → get_or (sets out 0 r.records) p 0 ≡ get_or r.records p 0
-    there p h = rw zero-add at (get_d_sets_in out 0 r.records p (omega (arith, x.written, x.made)) h)
+    there p h = rw zero-add at (get_or-sets_in out 0 r.records p (omega (arith, x.written, x.made)) h)
 
     rising : Rising (vertex_count b.state) (outcome f b.state)
     rising =

@@ -47,7 +47,7 @@ use Rattle.take_block.specs.Take.{take_answer, after_take}
 use Rattle.lay_out.specs.LayOut.{lay_out_answer, after_lay_out}
 use Rattle.clear.proofs.Cleared.{cleared-state, cleared-loan}
 use Rattle.take_block.proofs.Take.{is_taken, is_next, TakenFacts, taken-facts, take-taken, take-lengths, take-valid}
-use Rattle.lay_out.proofs.LayOut.{is_laid_out, lays_out as laysOutNow, LaidOutFacts, lay_out_facts, lay_out_laid_out, lay_out_lengths, lay_out_valid}
+use Rattle.lay_out.proofs.LayOut.{is_laid_out, lays_out as lays_out_now, LaidOutFacts, lay_out_facts, lay_out_laid_out, lay_out_lengths, lay_out_valid}
 use Rattle.add_edge.specs.Add.{add_answer, after_add}
 use Rattle.remove_edge.specs.Remove.{remove_answer, after_remove}
 use Rattle.add_edge.proofs.Add.{added-facts, add-works}
@@ -63,7 +63,7 @@ use Rattle.shuffled_completion.proofs.Works.{outcome-works}
 use Rattle.demands.specs.Calls.{Change, take, lay_out_call, add, remove, complete, swap, undo, Call, changes, reads, changed, after, after_all}
 use Rattle.demands.specs.Reach.{Reach, Reached, StaysValid}
 use Rattle.demands.proofs.Choices.{completed-laid}
-use Rattle.demands.specs.Tally.{Tally, no_tally, told, toldAdd, toldRemove, toldComplete, adds_block, with_block, lays_out, now_laid, with_edges, tally, tally_all}
+use Rattle.demands.specs.Tally.{Tally, no_tally, told, told_add, told_remove, told_complete, adds_block, with_block, lays_out, now_laid, with_edges, tally, tally_all}
 
 -- the phase that the tally says
 abbrev phase_of : Bool → ℕ
@@ -174,7 +174,7 @@ module _ (s : Loan) (t : Tally) (r : Reach s t) where
       go (Refused q) e false h = r
 
   -- the tally's test of a layout is the journal's
-  same-lays : laysOutNow s.state.journal ≡ lays_out t
+  same-lays : lays_out_now s.state.journal ≡ lays_out t
   same-lays =
       ap (λ (u : DegreeTable). eqb (phase s.state.journal) phase_taking && passes u.cells && leb (vertices u) most_vertices) r.table
       ∙ rw r.phased (go t.laid)
@@ -184,8 +184,8 @@ module _ (s : Loan) (t : Tally) (r : Reach s t) where
       go true = refl
       go false = refl
 
-  after-layOut : Reach (changed s lay_out_call) (tally t (told s lay_out_call))
-  after-layOut = go (lay_out_answer s.state) refl (lays_out t) refl
+  after-lay_out : Reach (changed s lay_out_call) (tally t (told s lay_out_call))
+  after-lay_out = go (lay_out_answer s.state) refl (lays_out t) refl
     where
       tested : is_laid_out (lay_out_answer s.state) ≡ lays_out t
       tested = (lay_out_laid_out s.state (reached_lengths s t r) (reached_valid s t r)).0 ∙ same-lays
@@ -214,7 +214,7 @@ module _ (s : Loan) (t : Tally) (r : Reach s t) where
   after-add v w = go (add_answer s v w) refl
     where
       go : (a : AddAnswer) → add_answer s v w ≡ a
-          → Reach (after_add a s v w) (tally t (toldAdd a))
+          → Reach (after_add a s v w) (tally t (told_add a))
       go (Add.Added m) e =
           let f = (added-facts s v w m e).0 in
           let x = add-works s v w f in
@@ -227,7 +227,7 @@ module _ (s : Loan) (t : Tally) (r : Reach s t) where
   after-remove v w = go (remove_answer s v w) refl
     where
       go : (a : RemoveAnswer) → remove_answer s v w ≡ a
-          → Reach (after_remove a s v w) (tally t (toldRemove a))
+          → Reach (after_remove a s v w) (tally t (told_remove a))
       go Remove.Removed e =
           let f = removed-facts s v w e in
           let x = remove-works s v w f in
@@ -240,7 +240,7 @@ module _ (s : Loan) (t : Tally) (r : Reach s t) where
   after-complete f out = go (choice_answer f s (length out)) refl
     where
       go : (a : CompleteAnswer) → choice_answer f s (length out) ≡ a
-          → Reach (after_ran a (outcome f s.state) s) (tally t (toldComplete a))
+          → Reach (after_ran a (outcome f s.state) s) (tally t (told_complete a))
       go (Complete.Completed joins switches n) e =
           let c = completed-facts s (outcome f s.state) (length out) joins switches n e in
           let x = outcome-works f s.state (laid-state s c.loan) in
@@ -283,7 +283,7 @@ module _ (s : Loan) (t : Tally) (r : Reach s t) where
 
   pub after_call : (c : Change) → Reach (changed s c) (tally t (told s c))
   after_call (take number b) = after-take number b
-  after_call lay_out_call = after-layOut
+  after_call lay_out_call = after-lay_out
   after_call (add v w) = after-add v w
   after_call (remove v w) = after-remove v w
   after_call (complete f out) = after-complete f out

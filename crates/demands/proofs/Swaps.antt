@@ -134,8 +134,8 @@ module _ (s : Loan) (v : ValidLoan s) (g : List ℕ) (began : began_with s ≡ g
       go Take.Held e = began
       go (Take.Refused q) e = began
 
-  since-layOut : began_with (changed s lay_out_call) ≡ g
-  since-layOut = go (lay_out_answer s.state) refl
+  since-lay_out : began_with (changed s lay_out_call) ≡ g
+  since-lay_out = go (lay_out_answer s.state) refl
     where
       go : (a : LayOutAnswer) → lay_out_answer s.state ≡ a → began_with (with_state s (after_lay_out a s.state)) ≡ g
       go (LayOut.LaidOut n) e = same-matrix (after_lay_out (LayOut.LaidOut n) s.state) (lay_out_facts s.state n e).taking refl
@@ -174,7 +174,7 @@ module _ (s : Loan) (v : ValidLoan s) (g : List ℕ) (began : began_with s ≡ g
 
   since-call : (c : Change) → began_with (changed s c) ≡ since g s c
   since-call (take number b) = since-take number b
-  since-call lay_out_call = since-layOut
+  since-call lay_out_call = since-lay_out
   since-call (add x y) = since-added x y (add_answer s x y)
   since-call (remove x y) = since-removed x y (remove_answer s x y)
   since-call (complete f out) = since-completed f (length out) (choice_answer f s (length out)) refl

@@ -35,7 +35,7 @@ use Rattle.loan.specs.Loan.{Loan, cleared_loan}
 use Rattle.loan.specs.Valid.{LaidLoan}
 use Rattle.demands.specs.Calls.{take, complete, Call, changes, after_all}
 use Rattle.demands.specs.Accepted.{accepted, AcceptedIn}
-use Rattle.demands.specs.Tally.{Tally, no_tally, missing_edges, toldTake, adds_block, with_block, tally, tally_all}
+use Rattle.demands.specs.Tally.{Tally, no_tally, missing_edges, told_take, adds_block, with_block, tally, tally_all}
 use Rattle.demands.specs.Demand2.{answered, answered_sum}
 use Rattle.demands.specs.Demand3.{RefusedForWantOfAGraph, OpenPair, CanBeJoined}
 use Rattle.demands.specs.WithinReach.{Replica, Pair, Order, adds, AddedAlone, AllAdded}
@@ -96,7 +96,7 @@ module _ (calls : List Call) where
 
 -- a block that was counted is not counted when it is sent again
 pub resent_once : (t : Tally) (number : ℕ) (b : List ℕ) → adds_block t number b ≡ true
-    → tally (tally t (toldTake number b)) (toldTake number b) ≡ tally t (toldTake number b)
+    → tally (tally t (told_take number b)) (told_take number b) ≡ tally t (told_take number b)
 resent_once t number b h = rw h (ap (λ (c : Bool). cond c (with_block (with_block t b) b) (with_block t b)) again)
   where
     number_is : number ≡ t.blocks

@@ -19,7 +19,7 @@ use Rattle.graph6_write.specs.Write.{write_answer, write_output}
 use Rattle.graph6_read.specs.Read.{read_answer, read_output}
 use Rattle.completion.specs.Complete.{complete_answer, complete_output}
 use Rattle.shuffled_completion.specs.Shuffle.{shuffle_answer, shuffle_output}
-use Rattle.demands.specs.Calls.{Change, take, lay_out_call, add, remove, complete, swap, undo, Reading, read_back_call, list, figures, survey, writeGraph6, readGraph6, Call, changes, reads}
+use Rattle.demands.specs.Calls.{Change, take, lay_out_call, add, remove, complete, swap, undo, Reading, read_back_call, list, figures, survey, write_graph6, read_graph6, Call, changes, reads}
 
 -- answers as lists of numbers
 abbrev pub six : Numbers → List ℕ
@@ -44,8 +44,8 @@ reading_answer s (read_back_call number) = six (length_numbers (length_answer s 
 reading_answer s (list out) = six (written_numbers (list_answer s (length out))) ++ list_output s out
 reading_answer s figures = six (figures_numbers (figures_answer s))
 reading_answer s (survey e total out) = six (written_numbers (survey_answer e total (length out))) ++ survey_output (survey_answer e total (length out)) e total out
-reading_answer s (writeGraph6 e total out) = six (written_numbers (write_answer e total (length out))) ++ write_output (write_answer e total (length out)) e total out
-reading_answer s (readGraph6 text out) = six (read_numbers (read_answer text (length out))) ++ read_output (read_answer text (length out)) text out
+reading_answer s (write_graph6 e total out) = six (written_numbers (write_answer e total (length out))) ++ write_output (write_answer e total (length out)) e total out
+reading_answer s (read_graph6 text out) = six (read_numbers (read_answer text (length out))) ++ read_output (read_answer text (length out)) text out
 
 abbrev pub answer_of : Loan → Call → List ℕ
 answer_of s (changes c) = change_answer s c

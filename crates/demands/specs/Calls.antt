@@ -30,8 +30,8 @@ pub data Reading : Type 0 where
   list : List ℕ → Reading
   figures : Reading
   survey : List ℕ → ℕ → List ℕ → Reading
-  writeGraph6 : List ℕ → ℕ → List ℕ → Reading
-  readGraph6 : List ℕ → List ℕ → Reading
+  write_graph6 : List ℕ → ℕ → List ℕ → Reading
+  read_graph6 : List ℕ → List ℕ → Reading
 
 -- the calls that demand 3 lists, swaps and takings-back among them (document 02, P8), and the reading ones between them
 pub data Call : Type 0 where

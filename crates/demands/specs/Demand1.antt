@@ -37,7 +37,7 @@ use Rattle.graph6_read.specs.Read.{read_answer, read_output}
 use Rattle.join_records.specs.Record.{join_record_size}
 use Rattle.completion.specs.Complete.{complete_answer, complete_after, complete_output}
 use Rattle.demands.specs.Calls as Calls
-use Rattle.demands.specs.Calls.{Call, changes, reads, take, lay_out_call, add, remove, complete, swap, undo, read_back_call, list, figures, survey, writeGraph6, readGraph6}
+use Rattle.demands.specs.Calls.{Call, changes, reads, take, lay_out_call, add, remove, complete, swap, undo, read_back_call, list, figures, survey, write_graph6, read_graph6}
 use Rattle.shuffled_completion.specs.Shuffle.{shuffle_answer, shuffle_after, shuffle_output}
 
 -- The numbers that a refusal of the call may carry, in the order of its checks.
@@ -53,8 +53,8 @@ allowed (reads (read_back_call number)) = 1 ∷ 2 ∷ 6 ∷ []
 allowed (reads (list out)) = 1 ∷ 2 ∷ 3 ∷ 18 ∷ []
 allowed (reads figures) = 1 ∷ 2 ∷ []
 allowed (reads (survey e total out)) = 19 ∷ 20 ∷ 18 ∷ []
-allowed (reads (writeGraph6 e total out)) = 19 ∷ 18 ∷ []
-allowed (reads (readGraph6 text out)) = 22 ∷ 21 ∷ 18 ∷ []
+allowed (reads (write_graph6 e total out)) = 19 ∷ 18 ∷ []
+allowed (reads (read_graph6 text out)) = 22 ∷ 21 ∷ 18 ∷ []
 
 -- the refusal's number is one of these
 abbrev pub CarriesOneOf : Refusal → List ℕ → Type 0
@@ -95,11 +95,11 @@ pub record Demand1 : Type 0 where
   pub survey_written : (e : List ℕ) (total : ℕ) (out : List ℕ) (n : ℕ) → survey_answer e total (length out) ≡ Write.Written n →
       SamePast n out (survey_output (survey_answer e total (length out)) e total out)
   pub graph6_write : (e : List ℕ) (total : ℕ) (out : List ℕ) (r : Refusal) → write_answer e total (length out) ≡ Write.Refused r →
-      CarriesOneOf r (allowed (reads (writeGraph6 e total out))) × (write_output (write_answer e total (length out)) e total out ≡ out)
+      CarriesOneOf r (allowed (reads (write_graph6 e total out))) × (write_output (write_answer e total (length out)) e total out ≡ out)
   pub graph6_written : (e : List ℕ) (total : ℕ) (out : List ℕ) (n : ℕ) → write_answer e total (length out) ≡ Write.Written n →
       SamePast n out (write_output (write_answer e total (length out)) e total out)
   pub graph6_read : (t out : List ℕ) (r : Refusal) → read_answer t (length out) ≡ Read.Refused r →
-      CarriesOneOf r (allowed (reads (readGraph6 t out))) × (read_output (read_answer t (length out)) t out ≡ out)
+      CarriesOneOf r (allowed (reads (read_graph6 t out))) × (read_output (read_answer t (length out)) t out ≡ out)
   pub graph6_read_out : (t out : List ℕ) (n total : ℕ) → read_answer t (length out) ≡ Read.Read n total →
       SamePast n out (read_output (read_answer t (length out)) t out)
   pub figures : (s : State) (r : Refusal) → figures_answer s ≡ Figs.Refused r → CarriesOneOf r (allowed (reads figures))

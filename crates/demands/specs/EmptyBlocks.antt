@@ -15,7 +15,7 @@ use Rattle.held_block.specs.Held.{length_answer, held_part}
 use Rattle.loan.specs.Loan.{cleared_loan}
 use Rattle.demands.specs.Calls.{Call, after_all}
 use Rattle.demands.specs.Accepted.{AcceptedIn}
-use Rattle.demands.specs.Tally.{Tally, toldTake, tally}
+use Rattle.demands.specs.Tally.{Tally, told_take, tally}
 
 -- the block under the next number, where blocks are taken and there is room for one
 pub record TakesEmpty (s : State) : Type 0 where
@@ -50,4 +50,4 @@ pub record EmptyBlocks : Type 0 where
       ↔ ((block_most < length b) ⊎ (length b % record_size ≡ 0 → ⊥))
   -- the tally takes it in as any block: one more, the same table
   pub tallied : (t : Tally) → t.laid ≡ false → t.blocks < most_blocks →
-      tally t (toldTake t.blocks []) ≡ record { blocks = t.blocks + 1; table = t.table; laid = t.laid; edges = t.edges }
+      tally t (told_take t.blocks []) ≡ record { blocks = t.blocks + 1; table = t.table; laid = t.laid; edges = t.edges }

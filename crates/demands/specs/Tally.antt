@@ -20,21 +20,21 @@ use Rattle.demands.specs.Calls.{Change, take, lay_out_call, add, remove, complet
 
 -- what the tally is told of a call; of one that reads, nothing
 pub data Told : Type 0 where
-  toldTake : ℕ → List ℕ → Told
-  toldLayOut : Told
-  toldAdd : AddAnswer → Told
-  toldRemove : RemoveAnswer → Told
-  toldComplete : CompleteAnswer → Told
-  toldElse : Told
+  told_take : ℕ → List ℕ → Told
+  told_lay_out : Told
+  told_add : AddAnswer → Told
+  told_remove : RemoveAnswer → Told
+  told_complete : CompleteAnswer → Told
+  told_else : Told
 
 abbrev pub told : Loan → Change → Told
-told s (take number b) = toldTake number b
-told s lay_out_call = toldLayOut
-told s (add v w) = toldAdd (add_answer s v w)
-told s (remove v w) = toldRemove (remove_answer s v w)
-told s (complete f out) = toldComplete (choice_answer f s (length out))
-told s (swap x) = toldElse
-told s undo = toldElse
+told s (take number b) = told_take number b
+told s lay_out_call = told_lay_out
+told s (add v w) = told_add (add_answer s v w)
+told s (remove v w) = told_remove (remove_answer s v w)
+told s (complete f out) = told_complete (choice_answer f s (length out))
+told s (swap x) = told_else
+told s undo = told_else
 
 -- a block count, a table (T and, beside it, the isolated vertices), laid or not, and an edge count
 pub record Tally : Type 0 where
@@ -67,15 +67,15 @@ abbrev pub with_edges : Tally → ℕ → Tally
 with_edges t m = record { blocks = t.blocks; table = t.table; laid = t.laid; edges = m }
 
 abbrev pub tally : Tally → Told → Tally
-tally t (toldTake number b) = cond (adds_block t number b) (with_block t b) t
-tally t toldLayOut = cond (lays_out t) (now_laid t) t
-tally t (toldAdd (Add.Added switches)) = with_edges t (t.edges + 1)
-tally t (toldAdd (Add.Refused r)) = t
-tally t (toldRemove Remove.Removed) = with_edges t (t.edges - 1)
-tally t (toldRemove (Remove.Refused r)) = t
-tally t (toldComplete (Complete.Completed joins switches n)) = with_edges t (t.edges + joins)
-tally t (toldComplete (Complete.Refused r)) = t
-tally t toldElse = t
+tally t (told_take number b) = cond (adds_block t number b) (with_block t b) t
+tally t told_lay_out = cond (lays_out t) (now_laid t) t
+tally t (told_add (Add.Added switches)) = with_edges t (t.edges + 1)
+tally t (told_add (Add.Refused r)) = t
+tally t (told_remove Remove.Removed) = with_edges t (t.edges - 1)
+tally t (told_remove (Remove.Refused r)) = t
+tally t (told_complete (Complete.Completed joins switches n)) = with_edges t (t.edges + joins)
+tally t (told_complete (Complete.Refused r)) = t
+tally t told_else = t
 
 -- the missing edges: half the sum of all cells of T, less the edge count
 abbrev pub missing_edges : Tally → ℕ

@@ -9,7 +9,7 @@ use Rattle.finite.specs.Range.{sum_to}
 use Rattle.answer.specs.declared.Verdict.TheVariants.{Go}
 use Rattle.graph.specs.Graph.{edges}
 use Rattle.graph.specs.Tests.{most_degree, vertices}
-use Rattle.slices.proofs.Part.{length_part, get_d_part}
+use Rattle.slices.proofs.Part.{length_part, get_or-part}
 use Rattle.layout.specs.Inner.Arrays.{count_in, table_in}
 use Rattle.journal.specs.Journal.{phase_laid}
 use Rattle.adjacency.specs.Adjacency.{adjacency_size, side, edge}
@@ -37,7 +37,7 @@ module _ (g : List ℕ) (n v : ℕ) (whole : length g ≡ adjacency_size) (few :
   pub row-bytes : row_bytes (length row) (λ w. get_or row w 0) v ≡ row_bytes n (edge g v) v
   row-bytes =
       ap (λ (m : ℕ). row_bytes m (λ w. get_or row w 0) v) row_length
-      ∙ row_cong n v (λ w. get_or row w 0) (edge g v) (λ w p q. get_d_part n (v * side) g w q)
+      ∙ row_cong n v (λ w. get_or row w 0) (edge g v) (λ w p q. get_or-part n (v * side) g w q)
 
 -- a laid state, opened: n is N, and the edges counted by the degrees tell how many bytes the list has
 module _ (s : State) (passed : phase_verdict phase_laid s ≡ Go) {cells counts degrees : List ℕ} (o : Opened s cells counts degrees) {n : ℕ}

@@ -2,7 +2,7 @@
 -- Assumes nothing.
 use Rattle.std.specs.Prelude.{List, ℕ, length}
 use Rattle.std.proofs.lemmas.List.Edits.{sets}
-use Rattle.answer.specs.Refusals.{unlessTooShort, unlessStopped}
+use Rattle.answer.specs.Refusals.{unless_too_short, unless_stopped}
 use Rattle.answer.specs.declared.WrittenAnswer.{WrittenAnswer}
 use Rattle.answer.specs.declared.WrittenAnswer.TheVariants.{Written, Refused}
 use Rattle.journal.specs.Journal.{phase_laid}
@@ -19,12 +19,12 @@ list_bytes n g = list_of n (edge g)
 -- on a valid laid state, for an output of m bytes: the check 18
 abbrev pub list_laid : State → ℕ → WrittenAnswer
 list_laid s m =
-    unlessTooShort (length (list_bytes (vertex_count s) s.adjacency)) m Refused
+    unless_too_short (length (list_bytes (vertex_count s) s.adjacency)) m Refused
     (Written (length (list_bytes (vertex_count s) s.adjacency)))
 
 -- the checks 1, 2, 3, then 18
 abbrev pub list_answer : State → ℕ → WrittenAnswer
-list_answer s m = unlessStopped (phase_verdict phase_laid s) Refused (list_laid s m)
+list_answer s m = unless_stopped (phase_verdict phase_laid s) Refused (list_laid s m)
 
 -- the output afterwards: the list, and behind it what was there
 abbrev pub output_listed : WrittenAnswer → State → List ℕ → List ℕ

@@ -43,25 +43,25 @@ rising_none n a b e =
 
 -- one list behind another
 module _ (x y : List ℕ) (m : ℕ) (h : length x ≡ 2 * m) where
-  endV-left : (i : ℕ) → i < m → end_v (x ++ y) i ≡ end_v x i
-  endV-left i l = get_or-append x y 0 (2 * i) (omega arith)
+  end_v-left : (i : ℕ) → i < m → end_v (x ++ y) i ≡ end_v x i
+  end_v-left i l = get_or-append x y 0 (2 * i) (omega arith)
 
-  endW-left : (i : ℕ) → i < m → end_w (x ++ y) i ≡ end_w x i
-  endW-left i l = get_or-append x y 0 (2 * i + 1) (omega arith)
+  end_w-left : (i : ℕ) → i < m → end_w (x ++ y) i ≡ end_w x i
+  end_w-left i l = get_or-append x y 0 (2 * i + 1) (omega arith)
 
-  endV-right : (i j : ℕ) → i ≡ m + j → end_v (x ++ y) i ≡ end_v y j
-  endV-right i j s = let e : 2 * i ≡ length x + 2 * j = omega arith in rw e (get_or-append-add x y (2 * j) 0)
+  end_v-right : (i j : ℕ) → i ≡ m + j → end_v (x ++ y) i ≡ end_v y j
+  end_v-right i j s = let e : 2 * i ≡ length x + 2 * j = omega arith in rw e (get_or-append-add x y (2 * j) 0)
 
-  endW-right : (i j : ℕ) → i ≡ m + j → end_w (x ++ y) i ≡ end_w y j
-  endW-right i j s = let e : 2 * i + 1 ≡ length x + (2 * j + 1) = omega arith in rw e (get_or-append-add x y (2 * j + 1) 0)
+  end_w-right : (i j : ℕ) → i ≡ m + j → end_w (x ++ y) i ≡ end_w y j
+  end_w-right i j s = let e : 2 * i + 1 ≡ length x + (2 * j + 1) = omega arith in rw e (get_or-append-add x y (2 * j + 1) 0)
 
   pub over-append : (f : ℕ → ℕ → ℕ) (k : ℕ) → over (m + k) f (x ++ y) ≡ over m f x + over k f y
   over-append f k =
       sum_to-split m k (λ i. f (end_v (x ++ y) i) (end_w (x ++ y) i))
       ∙ ap₂ ◌+◌ (sum_to-cong m (λ i. f (end_v (x ++ y) i) (end_w (x ++ y) i)) (λ i. f (end_v x i) (end_w x i))
-      (λ i l. ap₂ f (endV-left i l) (endW-left i l)))
+      (λ i l. ap₂ f (end_v-left i l) (end_w-left i l)))
       (sum_to-cong k (λ i. f (end_v (x ++ y) (m + i)) (end_w (x ++ y) (m + i))) (λ i. f (end_v y i) (end_w y i))
-      (λ i l. ap₂ f (endV-right (m + i) i refl) (endW-right (m + i) i refl)))
+      (λ i l. ap₂ f (end_v-right (m + i) i refl) (end_w-right (m + i) i refl)))
 
   rising-append : (n a b c k : ℕ) → a ≤ b → b ≤ c → Rising n a b m x → Rising n b c k y → Rising n a c (m + k) (x ++ y)
   rising-append n a b c k ab bc r s =
@@ -78,22 +78,22 @@ module _ (x y : List ℕ) (m : ℕ) (h : length x ≡ 2 * m) where
       go i l P p q = pick (dec_lt i m)
         where
           pick : Dec (i < m) → P (end_v (x ++ y) i) (end_w (x ++ y) i)
-          pick (yes t) = rw (endV-left i t, endW-left i t) (p i t)
+          pick (yes t) = rw (end_v-left i t, end_w-left i t) (p i t)
           pick (no t) =
               let e : i ≡ m + (i - m) = omega arith in
-              rw (endV-right i (i - m) e, endW-right i (i - m) e) (q (i - m) (omega arith))
+              rw (end_v-right i (i - m) e, end_w-right i (i - m) e) (q (i - m) (omega arith))
 
       next : (i : ℕ) → i + 1 < m + k → Dec (i + 1 < m) → Dec (i < m)
           → place (end_v (x ++ y) i) (end_w (x ++ y) i) < place (end_v (x ++ y) (i + 1)) (end_w (x ++ y) (i + 1))
       next i l (yes t) d =
-          rw (endV-left i (omega arith), endW-left i (omega arith), endV-left (i + 1) t, endW-left (i + 1) t) (r.above i t)
+          rw (end_v-left i (omega arith), end_w-left i (omega arith), end_v-left (i + 1) t, end_w-left (i + 1) t) (r.above i t)
       next i l (no t) (yes d) =
           let e : i + 1 ≡ m + 0 = omega arith in
-          rw (endV-left i d, endW-left i d, endV-right (i + 1) 0 e, endW-right (i + 1) 0 e) (omega (arith, r.to i d, s.from 0 (omega arith)))
+          rw (end_v-left i d, end_w-left i d, end_v-right (i + 1) 0 e, end_w-right (i + 1) 0 e) (omega (arith, r.to i d, s.from 0 (omega arith)))
       next i l (no t) (no d) =
           let e : i ≡ m + (i - m) = omega arith in
           let f : i + 1 ≡ m + (i - m + 1) = omega arith in
-          rw (endV-right i (i - m) e, endW-right i (i - m) e, endV-right (i + 1) (i - m + 1) f, endW-right (i + 1) (i - m + 1) f)
+          rw (end_v-right i (i - m) e, end_w-right i (i - m) e, end_v-right (i + 1) (i - m + 1) f, end_w-right (i + 1) (i - m + 1) f)
           (s.above (i - m) (omega arith))
 
 -- many lists, list i of L i edges

@@ -1,7 +1,7 @@
 -- Figures (document 01): phase, blocks, N, edges wanted, edges laid; the last three are 0 while blocks are taken.
 -- Assumes nothing.
 use Rattle.std.specs.Prelude.{Bool, true, false, eqb}
-use Rattle.answer.specs.Refusals.{unlessStopped}
+use Rattle.answer.specs.Refusals.{unless_stopped}
 use Rattle.answer.specs.declared.Figures.{Figures}
 use Rattle.answer.specs.declared.FiguresAnswer.{FiguresAnswer}
 use Rattle.answer.specs.declared.FiguresAnswer.TheVariants.{Reported, Refused}
@@ -27,4 +27,4 @@ figures_of false s =
 
 -- the checks 1, 2
 abbrev pub figures_answer : State → FiguresAnswer
-figures_answer s = unlessStopped (state_verdict s) Refused (Reported (figures_of (eqb (phase s.journal) phase_taking) s))
+figures_answer s = unless_stopped (state_verdict s) Refused (Reported (figures_of (eqb (phase s.journal) phase_taking) s))

@@ -14,8 +14,8 @@ use Rattle.finite.proofs.All.{test_same}
 use Rattle.finite.proofs.Sum.{sum_to-cong, sum_to-mono, sum_to-const}
 use Rattle.graph.specs.Graph.{edges}
 use Rattle.slices.specs.Slices.{all_zero}
-use Rattle.slices.proofs.Zero.{all_zero-at, zeros-all_zero, get_d_zeros}
-use Rattle.slices.proofs.Part.{get_d_sets_in, get_d_sets_after}
+use Rattle.slices.proofs.Zero.{all_zero-at, zeros-all_zero, get_or-zeros}
+use Rattle.slices.proofs.Part.{get_or-sets_in, get_or-sets_after}
 use Rattle.edge_lists.specs.EdgeList.{list_of}
 use Rattle.edge_lists.proofs.Listing.{list_length, list-cong}
 use Rattle.graph6.specs.Format.{column_start, body_length, size_length, size_of, body_bits, zero_padded, text_graph}
@@ -43,10 +43,10 @@ module _ (t : List ℕ) (f : Framed t) where
       room = omega (arith, body_room, unpacked-length (drop (size_length t) t), length-replicate {A = ℕ} bits_most 0)
 
       go : Dec (q < length (body_bits t)) → get_or (bits_in t) q 0 ≡ get_or (body_bits t) q 0
-      go (yes l) = rw zero-add at (get_d_sets_in (replicate bits_most 0) 0 (body_bits t) q room l)
+      go (yes l) = rw zero-add at (get_or-sets_in (replicate bits_most 0) 0 (body_bits t) q room l)
       go (no l) =
-          get_d_sets_after (replicate bits_most 0) 0 (body_bits t) q (omega arith)
-          ∙ get_d_zeros bits_most q
+          get_or-sets_after (replicate bits_most 0) 0 (body_bits t) q (omega arith)
+          ∙ get_or-zeros bits_most q
           ∙ sym (get_or-eq_default (body_bits t) 0 (omega arith))
 
   -- the padding

@@ -2,7 +2,7 @@
 -- Assumes nothing.
 use Rattle.std.specs.Prelude.{not, List, ℕ, length}
 use Rattle.std.proofs.lemmas.List.Edits.{sets}
-use Rattle.answer.specs.Refusals.{refuse, unless, unlessTooShort}
+use Rattle.answer.specs.Refusals.{refuse, unless, unless_too_short}
 use Rattle.answer.specs.declared.Cause.TheVariants.{Graph6Text, Graph6Size}
 use Rattle.answer.specs.declared.ReadAnswer.{ReadAnswer}
 use Rattle.answer.specs.declared.ReadAnswer.TheVariants.{Read, Refused}
@@ -16,7 +16,7 @@ read_list t = list_of (size_of t) (text_graph t)
 -- of a well-formed text, for an output of n bytes: the check 18
 abbrev pub read_fits : List ℕ → ℕ → ReadAnswer
 read_fits t n =
-    unlessTooShort (length (read_list t)) n Refused (Read (length (read_list t)) (size_of t))
+    unless_too_short (length (read_list t)) n Refused (Read (length (read_list t)) (size_of t))
 
 -- the checks 22, 21, 18
 abbrev pub read_answer : List ℕ → ℕ → ReadAnswer

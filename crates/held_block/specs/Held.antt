@@ -1,7 +1,7 @@
 -- Reading a held block back, and its length (document 01, "The bench in lent bytes").
 -- Assumes nothing.
 use Rattle.std.specs.Prelude.{List, [], ℕ, ltb}
-use Rattle.answer.specs.Refusals.{refuse, unless, unlessStopped}
+use Rattle.answer.specs.Refusals.{refuse, unless, unless_stopped}
 use Rattle.answer.specs.declared.Cause.TheVariants.{BlockNumber}
 use Rattle.answer.specs.declared.LengthAnswer.{LengthAnswer}
 use Rattle.answer.specs.declared.LengthAnswer.TheVariants.{Length, Refused}
@@ -12,7 +12,7 @@ use Rattle.state.specs.Checks.{state_verdict}
 -- the checks 1, 2, 6, then the length
 abbrev pub length_answer : State → ℕ → LengthAnswer
 length_answer s number =
-    unlessStopped (state_verdict s) Refused
+    unless_stopped (state_verdict s) Refused
     (unless (ltb number (blocks s.journal)) (Refused (refuse BlockNumber 0 0))
     (Length (slot_length s.journal number)))
 

@@ -11,7 +11,7 @@ use lib.Seq.{take_all as whole_taken, get_or-take, ext_get_or}
 use Rattle.finite.proofs.Fold.{fold_to-none, fold_to-more}
 use Rattle.answer.specs.declared.Verdict.{Verdict}
 use Rattle.answer.specs.declared.Verdict.TheVariants.{Go, Stop}
-use Rattle.slices.proofs.Part.{length_part, get_d_part}
+use Rattle.slices.proofs.Part.{length_part, get_or-part}
 use Rattle.table.specs.Block.{block_most, most_blocks}
 use Rattle.state.specs.State.{State}
 use Rattle.input_blocks.specs.Blocks.{blocks_in, block_in, Taking, take_next, take_all, input_most}
@@ -26,7 +26,7 @@ part_in n k m l h fits =
     ext_get_or 0 (take n (drop k (take m l))) (take n (drop k l)) (a ∙ sym b)
     (λ p q.
     let r : p < n = omega arith in
-    get_d_part n k (take m l) p r ∙ get_or-take m l (k + p) 0 (omega arith) ∙ sym (get_d_part n k l p r))
+    get_or-part n k (take m l) p r ∙ get_or-take m l (k + p) 0 (omega arith) ∙ sym (get_or-part n k l p r))
 
 module _ (s : State) (input : List ℕ) (long : input_most < length input) where
   same_block : (i : ℕ) → i < most_blocks + 1 → block_in (take input_most input) i ≡ block_in input i

@@ -3,7 +3,7 @@
 -- Assumes nothing.
 use Rattle.std.specs.Prelude.{◌≡◌, List, [], ℕ, ◌+◌, ◌-◌, ◌*◌, ◌/◌, ◌<◌, length, take, drop}
 use Rattle.finite.specs.Range.{cat_to, fold_to}
-use Rattle.answer.specs.Refusals.{unlessStopped}
+use Rattle.answer.specs.Refusals.{unless_stopped}
 use Rattle.answer.specs.declared.Verdict.{Verdict}
 use Rattle.answer.specs.declared.Verdict.TheVariants.{Go, Stop}
 use Rattle.answer.specs.declared.TakeAnswer.{TakeAnswer}
@@ -35,7 +35,7 @@ abbrev pub take_next : List ℕ → ℕ → Taking → Taking
 take_next input i t =
     let b = block_in input i in
     let a = take_answer t.state i b in
-    unlessStopped t.verdict (λ r. t) (record { state = after_take a t.state b; verdict = take_verdict a })
+    unless_stopped t.verdict (λ r. t) (record { state = after_take a t.state b; verdict = take_verdict a })
 
 -- all blocks, one after the other
 abbrev pub take_all : State → List ℕ → Taking

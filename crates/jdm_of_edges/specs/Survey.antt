@@ -3,7 +3,7 @@
 use Rattle.std.specs.Prelude.{List, ℕ, eqb, length}
 use Rattle.std.proofs.lemmas.List.Edits.{sets}
 use Rattle.graph.specs.Graph.{own_table}
-use Rattle.answer.specs.Refusals.{refuse, unless, unlessTooShort, unlessStopped}
+use Rattle.answer.specs.Refusals.{refuse, unless, unless_too_short, unless_stopped}
 use Rattle.answer.specs.declared.Cause.TheVariants.{DegreeTooHigh}
 use Rattle.answer.specs.declared.WrittenAnswer.{WrittenAnswer}
 use Rattle.answer.specs.declared.WrittenAnswer.TheVariants.{Written, Refused}
@@ -19,11 +19,11 @@ survey_records e total = records_of (own_table total (graph_of e))
 abbrev pub survey_listed : List ℕ → ℕ → ℕ → WrittenAnswer
 survey_listed e total n =
     unless (eqb (first_above e total) total) (Refused (refuse DegreeTooHigh (first_above e total) 0))
-    (unlessTooShort (length (survey_records e total)) n Refused (Written (length (survey_records e total))))
+    (unless_too_short (length (survey_records e total)) n Refused (Written (length (survey_records e total))))
 
 -- the checks 19, then 20, then 18
 abbrev pub survey_answer : List ℕ → ℕ → ℕ → WrittenAnswer
-survey_answer e total n = unlessStopped (list_verdict e total) Refused (survey_listed e total n)
+survey_answer e total n = unless_stopped (list_verdict e total) Refused (survey_listed e total n)
 
 -- the output afterwards: the records, and behind them what was there
 abbrev pub survey_output : WrittenAnswer → List ℕ → ℕ → List ℕ → List ℕ

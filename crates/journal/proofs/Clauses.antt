@@ -11,7 +11,7 @@ use lib.Dec.{leb}
 use lib.ListN.{length, get_or}
 use borrow.Author.Tests.{le-leb, eqb-true, eq-eqb}
 use Rattle.finite.proofs.All.{and_right, and_both}
-use Rattle.slices.proofs.Part.{get_d_part}
+use Rattle.slices.proofs.Part.{get_or-part}
 use Rattle.table.specs.Block.{record_size, block_most, most_blocks, records, first_bad, record_k, record_l, GoodPair}
 use Rattle.table.proofs.Block.{good-pair, all-good, good_all}
 use Rattle.journal.specs.Journal.{journal_size, phase, blocks, slot_at, slot_length, block_from, block_at}
@@ -33,7 +33,7 @@ module _ (j : List ℕ) (size : length j ≡ journal_size) (i : ℕ) (l : i < mo
   records-are = omega (arith, length-block j i size l most)
 
   byte_of : (q : ℕ) → q < slot_length j i → get_or (block_at j i) q 0 ≡ get_or j (block_from i + q) 0
-  byte_of q h = get_d_part (slot_length j i) (block_from i) j q h
+  byte_of q h = get_or-part (slot_length j i) (block_from i) j q h
 
   module _ (r : ℕ) (h : r < records (block_at j i)) where
     k-of : record_k (block_at j i) r ≡ get_or j (block_from i + record_size * r) 0

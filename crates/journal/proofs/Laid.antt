@@ -21,17 +21,17 @@ module _ (j : List ℕ) where
   pub blocks-laid : blocks (laid j) ≡ blocks j
   blocks-laid = get_or-set_other j 0 1 1 0 (omega arith)
 
-  slotLength-laid : (i : ℕ) → slot_length (laid j) i ≡ slot_length j i
-  slotLength-laid i = get_or-set_other j 0 (slot_at i) 1 0 (omega arith)
+  slot_length-laid : (i : ℕ) → slot_length (laid j) i ≡ slot_length j i
+  slot_length-laid i = get_or-set_other j 0 (slot_at i) 1 0 (omega arith)
 
   pub block_at-laid : (i : ℕ) → block_at (laid j) i ≡ block_at j i
-  block_at-laid i = rw (slotLength-laid i, drop-set-lt (slot_at i + 1) j 0 1 (omega arith))
+  block_at-laid i = rw (slot_length-laid i, drop-set-lt (slot_at i + 1) j 0 1 (omega arith))
 
-  slotRest-laid : (i : ℕ) → slot_rest (laid j) i ≡ slot_rest j i
-  slotRest-laid i = rw (slotLength-laid i, drop-set-lt (slot_at i + 1 + slot_length j i) j 0 1 (omega arith))
+  slot_rest-laid : (i : ℕ) → slot_rest (laid j) i ≡ slot_rest j i
+  slot_rest-laid i = rw (slot_length-laid i, drop-set-lt (slot_at i + 1 + slot_length j i) j 0 1 (omega arith))
 
-  slotOk-laid : (i : ℕ) → slot_ok (laid j) i ≡ slot_ok j i
-  slotOk-laid i = rw (blocks-laid, block_at-laid i, slotRest-laid i, slotLength-laid i)
+  slot_ok-laid : (i : ℕ) → slot_ok (laid j) i ≡ slot_ok j i
+  slot_ok-laid i = rw (blocks-laid, block_at-laid i, slot_rest-laid i, slot_length-laid i)
 
   -- whatever its blocks add up to stays
   sum_laid : (adds : List ℕ → ℕ) → sum_to (blocks (laid j)) (λ i. adds (block_at (laid j) i)) ≡ sum_to (blocks j) (λ i. adds (block_at j i))
@@ -46,4 +46,4 @@ module _ (j : List ℕ) where
 
   pub valid-laid : length j ≡ journal_size → phase j ≤ phase_laid → journal_ok (laid j) ≡ journal_ok j
   valid-laid e h =
-      rw (phase-laid e, blocks-laid, le-leb (phase j) phase_laid h, all_to-cong (slot_ok (laid j)) (slot_ok j) most_blocks (λ i l. slotOk-laid i))
+      rw (phase-laid e, blocks-laid, le-leb (phase j) phase_laid h, all_to-cong (slot_ok (laid j)) (slot_ok j) most_blocks (λ i l. slot_ok-laid i))

@@ -11,7 +11,7 @@ use Rattle.finite.specs.Range.{sum_to, fold_to}
 use Rattle.finite.proofs.Fold.{fold_to-keeps}
 use Rattle.finite.proofs.Sum.{sum_to-none, sum_to-more, sum_to-cong}
 use Rattle.slices.proofs.Part.{bytes_part}
-use Rattle.slices.proofs.Zero.{get_d_zeros}
+use Rattle.slices.proofs.Zero.{get_or-zeros}
 use Rattle.table.specs.Block.{most_records, most_blocks, records, block_cell, block_isolated}
 use Rattle.table.specs.Inner.Cells.{cells_size, matrix_of, isolated_place, add_block, AtMost, block_sum_most}
 use Rattle.table.proofs.Matrix.{cells_of_none, length-add_block, matrix_none, block_amount, matrix_add_block, at_most_add_block, block_amount-cell, block_amount-isolated, taken_out, taken-cell}
@@ -35,7 +35,7 @@ module _ (j : List ℕ) (e : length j ≡ journal_size) (f : Facts j) (n : ℕ) 
       fold_to-keeps (λ i c. AtMost (block_sum_most * i) c) (λ i c. add_block (block_at j i) c) cells_of_none n zeros step
     where
       zeros : AtMost (block_sum_most * 0) cells_of_none
-      zeros p = omega (arith, get_d_zeros cells_size p)
+      zeros p = omega (arith, get_or-zeros cells_size p)
 
       step : (i : ℕ) (c : List ℕ) → i < n → AtMost (block_sum_most * i) c → AtMost (block_sum_most * (i + 1)) (add_block (block_at j i) c)
       step i c l g p =

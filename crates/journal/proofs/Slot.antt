@@ -8,7 +8,7 @@ use native.Mathlib.Nat.{add-zero}
 use native.Mathlib.Omega.{arith}
 use lib.ListN.{length, get_or}
 use Rattle.slices.specs.Slices.{all_zero}
-use Rattle.slices.proofs.Part.{length_part, get_d_part, part-cong}
+use Rattle.slices.proofs.Part.{length_part, get_or-part, part-cong}
 use Rattle.slices.proofs.Zero.{all_zero-at, zeros-all_zero}
 use Rattle.table.specs.Block.{block_most}
 use Rattle.journal.specs.Journal.{slot_size, slot_at, slot_length, block_at, slot_rest}
@@ -16,7 +16,7 @@ use Rattle.journal.specs.Journal.{slot_size, slot_at, slot_length, block_at, slo
 -- the bytes behind the block of slot i
 module _ (j : List ℕ) (i : ℕ) where
   rest_at : (p : ℕ) → p < block_most - slot_length j i → get_or (slot_rest j i) p 0 ≡ get_or j (slot_at i + 1 + slot_length j i + p) 0
-  rest_at p l = get_d_part (block_most - slot_length j i) (slot_at i + 1 + slot_length j i) j p l
+  rest_at p l = get_or-part (block_most - slot_length j i) (slot_at i + 1 + slot_length j i) j p l
 
   pub rest_zero : all_zero (slot_rest j i) ≡ true → (q : ℕ) → slot_length j i ≤ q → q < block_most → get_or j (slot_at i + 1 + q) 0 ≡ 0
   rest_zero h q g l =

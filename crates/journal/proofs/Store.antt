@@ -13,7 +13,7 @@ use Rattle.finite.proofs.Sum.{sum_to-more, sum_to-cong}
 use Rattle.finite.specs.Range.{sum_to}
 use Rattle.graph.proofs.Counts.{same_table}
 use Rattle.slices.specs.Slices.{all_zero}
-use Rattle.slices.proofs.Part.{length_part, get_d_part, get_d_sets_before, get_d_sets_after, get_d_sets_in}
+use Rattle.slices.proofs.Part.{length_part, get_or-part, get_or-sets_before, get_or-sets_after, get_or-sets_in}
 use Rattle.table.specs.Block.{block_most, most_blocks, block_length, records, first_bad, well_formed, block_cell, block_isolated, plus}
 use Rattle.journal.specs.Journal.{slot_size, journal_size, phase, blocks, slot_at, slot_length, block_at, slot_rest, journal_ok, table_of, stored}
 use Rattle.journal.proofs.Facts.{Facts, journal_facts, facts_journal, length_most, slot_most, well_formed-length, well_formed-good}
@@ -43,17 +43,17 @@ module _ (j b : List ℕ) (size : length j ≡ journal_size) (room : blocks j < 
 
   stored-before : (p : ℕ) → (p ≡ 1 → ⊥) → p < slot_at (blocks j) → get_or (stored j b) p 0 ≡ get_or j p 0
   unfolding written
-  stored-before p h l = stored_other p h ∙ get_d_sets_before j (slot_at (blocks j)) (length b ∷ b) p l
+  stored-before p h l = stored_other p h ∙ get_or-sets_before j (slot_at (blocks j)) (length b ∷ b) p l
 
   stored-after : (p : ℕ) → slot_at (blocks j) + 1 + length b ≤ p → get_or (stored j b) p 0 ≡ get_or j p 0
   unfolding written
-  stored-after p l = stored_other p (λ e. absurd (omega arith)) ∙ get_d_sets_after j (slot_at (blocks j)) (length b ∷ b) p (omega arith)
+  stored-after p l = stored_other p (λ e. absurd (omega arith)) ∙ get_or-sets_after j (slot_at (blocks j)) (length b ∷ b) p (omega arith)
 
   stored-in : (q : ℕ) → q < suc (length b) → get_or (stored j b) (slot_at (blocks j) + q) 0 ≡ get_or (length b ∷ b) q 0
   unfolding written
   stored-in q l =
       stored_other (slot_at (blocks j) + q) (λ e. absurd (omega arith))
-      ∙ get_d_sets_in j (slot_at (blocks j)) (length b ∷ b) q (omega arith) l
+      ∙ get_or-sets_in j (slot_at (blocks j)) (length b ∷ b) q (omega arith) l
 
   -- a slot but the new one has the bytes that it had
   kept : (i : ℕ) → (i ≡ blocks j → ⊥) → (q : ℕ) → q < slot_size → get_or (stored j b) (slot_at i + q) 0 ≡ get_or j (slot_at i + q) 0
@@ -67,12 +67,12 @@ module _ (j b : List ℕ) (size : length j ≡ journal_size) (room : blocks j < 
   same_size = stored-length ∙ sym size
 
   -- the new slot
-  slotLength-new : slot_length (stored j b) (blocks j) ≡ length b
-  slotLength-new = rw (add-zero (slot_at (blocks j))) at (stored-in 0 (omega arith))
+  slot_length-new : slot_length (stored j b) (blocks j) ≡ length b
+  slot_length-new = rw (add-zero (slot_at (blocks j))) at (stored-in 0 (omega arith))
 
   stored-new : block_at (stored j b) (blocks j) ≡ b
   stored-new =
-      rw slotLength-new
+      rw slot_length-new
       (ext_get_or 0 _ b (length_part (length b) (slot_at (blocks j) + 1) (stored j b) ∙ omega (arith, stored-length)) at)
     where
       at : (q : ℕ) → q < length (take (length b) (drop (slot_at (blocks j) + 1) (stored j b)))
@@ -80,7 +80,7 @@ module _ (j b : List ℕ) (size : length j ≡ journal_size) (room : blocks j < 
       at q l =
           let m : q < length b = omega (arith, length_part (length b) (slot_at (blocks j) + 1) (stored j b)) in
           let e : slot_at (blocks j) + 1 + q ≡ slot_at (blocks j) + suc q = omega arith in
-          get_d_part (length b) (slot_at (blocks j) + 1) (stored j b) q m ∙ ap (λ (p : ℕ). get_or (stored j b) p 0) e ∙ stored-in (suc q) (omega arith)
+          get_or-part (length b) (slot_at (blocks j) + 1) (stored j b) q m ∙ ap (λ (p : ℕ). get_or (stored j b) p 0) e ∙ stored-in (suc q) (omega arith)
 
 module _ (j b : List ℕ) (size : length j ≡ journal_size) (ok : journal_ok j ≡ true) (room : blocks j < most_blocks) (good : well_formed b ≡ true) where
   f : Facts j
@@ -122,7 +122,7 @@ module _ (j b : List ℕ) (size : length j ≡ journal_size) (ok : journal_ok j 
       length_at i h = slot_length-kept j (stored j b) (same_size j b size room most) i (kept j b size room most i h)
 
       used-at : (i : ℕ) → i < blocks j + 1 → Dec (i ≡ blocks j) → block_length (slot_length (stored j b) i) ≡ true
-      used-at i l (yes e) = rw (e, slotLength-new j b size room most) (well_formed-length b good)
+      used-at i l (yes e) = rw (e, slot_length-new j b size room most) (well_formed-length b good)
       used-at i l (no e) = rw (length_at i e) (f.used i (omega arith))
 
       good-at : (i : ℕ) → i < blocks j + 1 → Dec (i ≡ blocks j) → first_bad (block_at (stored j b) i) ≡ records (block_at (stored j b) i)
@@ -138,7 +138,7 @@ module _ (j b : List ℕ) (size : length j ≡ journal_size) (ok : journal_ok j 
         where
           new : (q : ℕ) → slot_length (stored j b) (blocks j) ≤ q → q < block_most → get_or (stored j b) (slot_at (blocks j) + 1 + q) 0 ≡ 0
           new q g m =
-              stored-after j b size room most (slot_at (blocks j) + 1 + q) (omega (arith, slotLength-new j b size room most))
+              stored-after j b size room most (slot_at (blocks j) + 1 + q) (omega (arith, slot_length-new j b size room most))
               ∙ rest_zero j (blocks j) (f.rest (blocks j) room) q (omega (arith, f.unused (blocks j) (omega arith) room)) m
       rest_at i l (no e) =
           rw (slot_rest-kept j (stored j b) (same_size j b size room most) i (kept j b size room most i e)) (f.rest i l)

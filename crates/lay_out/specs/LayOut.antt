@@ -1,7 +1,7 @@
 -- Laying out (document 01).
 -- Assumes nothing.
 use Rattle.std.specs.Prelude.{ℕ}
-use Rattle.answer.specs.Refusals.{unlessStopped}
+use Rattle.answer.specs.Refusals.{unless_stopped}
 use Rattle.answer.specs.declared.Verdict.{Verdict}
 use Rattle.answer.specs.declared.LayOutAnswer.{LayOutAnswer}
 use Rattle.answer.specs.declared.LayOutAnswer.TheVariants.{LaidOut, Refused}
@@ -13,12 +13,12 @@ use Rattle.state.specs.Checks.{phase_verdict}
 
 -- after the tests 9 to 12: N, or the refusal they gave
 abbrev pub laid_out : Verdict → ℕ → LayOutAnswer
-laid_out v n = unlessStopped v Refused (LaidOut n)
+laid_out v n = unless_stopped v Refused (LaidOut n)
 
 -- the checks 1, 2, 3, then 9, 10, 11, 12
 abbrev pub lay_out_answer : State → LayOutAnswer
 lay_out_answer s =
-    unlessStopped (phase_verdict phase_taking s) Refused (laid_out (layout_verdict (table_of s.journal)) (vertices (table_of s.journal)))
+    unless_stopped (phase_verdict phase_taking s) Refused (laid_out (layout_verdict (table_of s.journal)) (vertices (table_of s.journal)))
 
 -- the state afterwards
 abbrev pub after_lay_out : LayOutAnswer → State → State

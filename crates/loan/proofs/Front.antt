@@ -6,7 +6,7 @@ use native.Mathlib.Omega.{arith}
 use lib.Dec.{eqb}
 use lib.ListN.{length}
 use borrow.Author.Tests.{eqb-true, eqb-false, eq-eqb, ne_eqb}
-use Rattle.answer.specs.Refusals.{refuse, stopped, unless, unlessStopped}
+use Rattle.answer.specs.Refusals.{refuse, stopped, unless, unless_stopped}
 use Rattle.answer.specs.declared.Cause.TheVariants.{WrongLength, InvalidState, WrongPhase}
 use Rattle.answer.specs.declared.Refusal.{Refusal}
 use Rattle.answer.specs.declared.Verdict.{Verdict}
@@ -26,13 +26,13 @@ use Rattle.loan.specs.Inner.Opened.{loan_front, loan_opens}
 -- phase 1.
 abbrev whole : Bool → Bool → Bool → Bool → Bool → Bool → Bool → Bool → Bool → Verdict
 whole l m k p z d y e q =
-    unlessStopped (unless (l && m) (stopped WrongLength) (unless ((k && cond p z d) && cond p y e) (stopped InvalidState) Go)) Stop
+    unless_stopped (unless (l && m) (stopped WrongLength) (unless ((k && cond p z d) && cond p y e) (stopped InvalidState) Go)) Stop
     (unless q (stopped WrongPhase) Go)
 
 abbrev front : Bool → Bool → Bool → Bool → Bool → Bool → Bool → Verdict
 front l m k p z y q =
     unless m (stopped WrongLength)
-    (unlessStopped (unless l (stopped WrongLength) (unless (k && cond p z true) (stopped InvalidState) Go)) Stop
+    (unless_stopped (unless l (stopped WrongLength) (unless (k && cond p z true) (stopped InvalidState) Go)) Stop
     (unless (cond p y true) (stopped InvalidState)
     (unless q (stopped WrongPhase) Go)))
 

@@ -1,7 +1,7 @@
 -- The checks with which the calls begin that are lent a loan, as verdicts.
 -- Assumes nothing.
 use Rattle.std.specs.Prelude.{eqb}
-use Rattle.answer.specs.Refusals.{stopped, unless, unlessStopped}
+use Rattle.answer.specs.Refusals.{stopped, unless, unless_stopped}
 use Rattle.answer.specs.declared.Cause.TheVariants.{WrongLength, InvalidState, WrongPhase}
 use Rattle.answer.specs.declared.Verdict.{Verdict}
 use Rattle.answer.specs.declared.Verdict.TheVariants.{Go, Stop}
@@ -15,4 +15,4 @@ loan_verdict b = unless (loan_lengths_ok b) (stopped WrongLength) (unless (loan_
 
 -- and 3: these calls need a laid state
 abbrev pub laid_verdict : Loan → Verdict
-laid_verdict b = unlessStopped (loan_verdict b) Stop (unless (eqb (phase b.state.journal) phase_laid) (stopped WrongPhase) Go)
+laid_verdict b = unless_stopped (loan_verdict b) Stop (unless (eqb (phase b.state.journal) phase_laid) (stopped WrongPhase) Go)

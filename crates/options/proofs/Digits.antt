@@ -20,19 +20,19 @@ digit_range b h = (leb-true 48 b (and_left (leb 48 b) (leb b 57) h), leb-true b 
 
 module _ (word : List ℕ) where
   -- the byte i is a digit
-  abbrev pub digitAt : ℕ → Bool
-  digitAt i = is_digit (get_or word i 0)
+  abbrev pub digit_at : ℕ → Bool
+  digit_at i = is_digit (get_or word i 0)
 
   -- the number of the first i digits
-  abbrev pub valueTo : ℕ → ℕ
-  valueTo i = fold_to i (with_digit word) 0
+  abbrev pub value_to : ℕ → ℕ
+  value_to i = fold_to i (with_digit word) 0
 
   -- one more
-  pub value_next : (i value b : ℕ) → value ≡ valueTo i → b ≡ get_or word i 0 → value * 10 + (b - 48) ≡ valueTo (i + 1)
+  pub value_next : (i value b : ℕ) → value ≡ value_to i → b ≡ get_or word i 0 → value * 10 + (b - 48) ≡ value_to (i + 1)
   value_next i value b e q = fold_to-after (with_digit word) 0 i value (value * 10 + (b - 48)) e (rw q)
 
   -- it only grows
-  value_grows : (i k : ℕ) → valueTo i ≤ valueTo (i + k)
+  value_grows : (i k : ℕ) → value_to i ≤ value_to (i + k)
   value_grows i zero = rw add-zero (omega arith)
   value_grows i (suc k) =
       let q : i + suc k ≡ i + k + 1 = omega arith in
@@ -41,14 +41,14 @@ module _ (word : List ℕ) where
   pub none_empty : length word ≡ 0 → NoNumber ≡ word_number word
   none_empty e = rw (lt-leb 1 (length word) (omega arith))
 
-  pub none_other : (i : ℕ) → i < length word → digitAt i ≡ false → NoNumber ≡ word_number word
-  none_other i l e = rw (all_to-fails digitAt (length word) i l e, and-false (leb 1 (length word)))
+  pub none_other : (i : ℕ) → i < length word → digit_at i ≡ false → NoNumber ≡ word_number word
+  none_other i l e = rw (all_to-fails digit_at (length word) i l e, and-false (leb 1 (length word)))
 
-  pub none_large : (i : ℕ) → i ≤ length word → number_end ≤ valueTo i → NoNumber ≡ word_number word
+  pub none_large : (i : ℕ) → i ≤ length word → number_end ≤ value_to i → NoNumber ≡ word_number word
   none_large i l h =
       let q : i + (length word - i) ≡ length word = omega arith in
-      let g : valueTo i ≤ value_of word = rw q at (value_grows i (length word - i)) in
-      rw (le-ltb (value_of word) number_end (omega arith), and-false (leb 1 (length word) && all_to (length word) digitAt))
+      let g : value_to i ≤ value_of word = rw q at (value_grows i (length word - i)) in
+      rw (le-ltb (value_of word) number_end (omega arith), and-false (leb 1 (length word) && all_to (length word) digit_at))
 
-  pub some : (length word ≡ 0 → ⊥) → all_to (length word) digitAt ≡ true → value_of word < number_end → Value (value_of word) ≡ word_number word
+  pub some : (length word ≡ 0 → ⊥) → all_to (length word) digit_at ≡ true → value_of word < number_end → Value (value_of word) ≡ word_number word
   some filled digits small = rw (le-leb 1 (length word) (omega arith), digits, lt-ltb (value_of word) number_end small)

@@ -1,7 +1,7 @@
 -- Removing an edge (document 01: lift).
 -- Assumes nothing.
 use Rattle.std.specs.Prelude.{ℕ, eqb}
-use Rattle.answer.specs.Refusals.{refuse, unless, unlessStopped}
+use Rattle.answer.specs.Refusals.{refuse, unless, unless_stopped}
 use Rattle.answer.specs.declared.Cause.TheVariants.{EdgeAbsent}
 use Rattle.answer.specs.declared.RemoveAnswer.{RemoveAnswer}
 use Rattle.answer.specs.declared.RemoveAnswer.TheVariants.{Removed, Refused}
@@ -15,13 +15,13 @@ use Rattle.loan.specs.Checks.{laid_verdict}
 -- on a valid laid state: the checks 13, 14, then 17
 abbrev pub remove_laid : State → ℕ → ℕ → RemoveAnswer
 remove_laid s v w =
-    unlessStopped (pair_verdict (vertex_count s) v w) Refused
+    unless_stopped (pair_verdict (vertex_count s) v w) Refused
     (unless (eqb (edge s.adjacency v w) 1) (Refused (refuse EdgeAbsent 0 0))
     Removed)
 
 -- the checks 1, 2, 3 before them
 abbrev pub remove_answer : Loan → ℕ → ℕ → RemoveAnswer
-remove_answer b v w = unlessStopped (laid_verdict b) Refused (remove_laid b.state v w)
+remove_answer b v w = unless_stopped (laid_verdict b) Refused (remove_laid b.state v w)
 
 -- what was lent, afterwards: the edge is gone, and the log is empty
 abbrev pub after_remove : RemoveAnswer → Loan → ℕ → ℕ → Loan

@@ -21,11 +21,11 @@ use Rattle.shuffled_completion.proofs.Picked.{Picked, picked, position-below, pa
 use Rattle.state.specs.Valid.{ValidLaid}
 
 module _ (n : ℕ) (cls : ℕ → ℕ) (T : ℕ → ℕ → ℕ) where
-  abbrev pub nextV : Shuffled → ℕ
-  nextV s = pair_v n cls T s.ran.adjacency (position n cls T s.ran.adjacency (next_x s.x))
+  abbrev pub next_v : Shuffled → ℕ
+  next_v s = pair_v n cls T s.ran.adjacency (position n cls T s.ran.adjacency (next_x s.x))
 
   abbrev pub next_w : Shuffled → ℕ
-  next_w s = pair_w n cls T s.ran.adjacency (position n cls T s.ran.adjacency (next_x s.x)) (nextV s)
+  next_w s = pair_w n cls T s.ran.adjacency (position n cls T s.ran.adjacency (next_x s.x)) (next_v s)
 
   pub next-picked : (s : Shuffled) → Good n cls T s.ran → incomplete_shuffled n cls T s ≡ true
       → Picked n cls T s.ran.adjacency (position n cls T s.ran.adjacency (next_x s.x))
@@ -38,17 +38,17 @@ module _ (n : ℕ) (cls : ℕ → ℕ) (T : ℕ → ℕ → ℕ) where
       record {
         ran = λ s. s.ran;
         next = next_shuffled n cls T;
-        v = nextV;
+        v = next_v;
         w = next_w;
         joins = λ s. refl;
         pair = λ s good e.
             let p = next-picked s good e in
-            passes-open n cls T s.ran.adjacency (nextV s) (next_w s) p.second p.passes;
+            passes-open n cls T s.ran.adjacency (next_v s) (next_w s) p.second p.passes;
       }
 
   -- it is named lower vertex first
-  pub shuffled-rises : (s : Shuffled) → Good n cls T s.ran → incomplete_shuffled n cls T s ≡ true → nextV s < next_w s
-  shuffled-rises s good e = passes-rising n cls T s.ran.adjacency (nextV s) (next_w s) (next-picked s good e).passes
+  pub shuffled-rises : (s : Shuffled) → Good n cls T s.ran → incomplete_shuffled n cls T s ≡ true → next_v s < next_w s
+  shuffled-rises s good e = passes-rising n cls T s.ran.adjacency (next_v s) (next_w s) (next-picked s good e).passes
 
 module _ (s : State) (x : ℕ) where
   pub shuffled-works : ValidLaid s → CompleteWorks s (shuffled s x).ran

@@ -15,19 +15,19 @@ module _ (n k : ℕ) (l : List ℕ) where
   pub length_part : length (take n (drop k l)) ≡ min n (length l - k)
   length_part = length-take n (drop k l) ∙ ap (min n) (length-drop k l)
 
-  pub get_d_part : (p : ℕ) → p < n → get_or (take n (drop k l)) p 0 ≡ get_or l (k + p) 0
-  get_d_part p h = get_or-take n (drop k l) p 0 h ∙ get_or-drop k l p 0
+  pub get_or-part : (p : ℕ) → p < n → get_or (take n (drop k l)) p 0 ≡ get_or l (k + p) 0
+  get_or-part p h = get_or-take n (drop k l) p 0 h ∙ get_or-drop k l p 0
 
-  pub get_d_past_part : (p : ℕ) → n ≤ p → get_or (take n (drop k l)) p 0 ≡ 0
-  get_d_past_part p h = get_or-eq_default (take n (drop k l)) 0 (omega (arith, length_part))
+  pub get_or-past_part : (p : ℕ) → n ≤ p → get_or (take n (drop k l)) p 0 ≡ 0
+  get_or-past_part p h = get_or-eq_default (take n (drop k l)) 0 (omega (arith, length_part))
 
   -- its elements are bytes
   pub bytes_part : ((p : ℕ) → get_or l p 0 < 256) → (p : ℕ) → get_or (take n (drop k l)) p 0 < 256
   bytes_part f p = go (dec_lt p n)
     where
       go : Dec (p < n) → get_or (take n (drop k l)) p 0 < 256
-      go (yes h) = omega (arith, get_d_part p h, f (k + p))
-      go (no h) = omega (arith, get_d_past_part p (omega arith))
+      go (yes h) = omega (arith, get_or-part p h, f (k + p))
+      go (no h) = omega (arith, get_or-past_part p (omega arith))
 
 -- equal elements make equal parts
 pub part-cong : (n k : ℕ) (l m : List ℕ) → length l ≡ length m → ((p : ℕ) → p < n → get_or l (k + p) 0 ≡ get_or m (k + p) 0)
@@ -36,27 +36,27 @@ part-cong n k l m e f =
     ext_get_or 0 (take n (drop k l)) (take n (drop k m)) (length_part n k l ∙ ap (λ (s : ℕ). min n (s - k)) e ∙ sym (length_part n k m)) at
   where
     at : (p : ℕ) → p < length (take n (drop k l)) → get_or (take n (drop k l)) p 0 ≡ get_or (take n (drop k m)) p 0
-    at p h = let q : p < n = omega (arith, length_part n k l) in get_d_part n k l p q ∙ f p q ∙ sym (get_d_part n k m p q)
+    at p h = let q : p < n = omega (arith, length_part n k l) in get_or-part n k l p q ∙ f p q ∙ sym (get_or-part n k m p q)
 
 -- the elements before a place keep what they had when vs is written from that place on
-pub get_d_sets_before : (l : List ℕ) (i : ℕ) (vs : List ℕ) (p : ℕ) → p < i → get_or (sets l i vs) p 0 ≡ get_or l p 0
-get_d_sets_before l i [] p h = refl
-get_d_sets_before l i (v ∷ vs) p h =
-    get_d_sets_before (set l i v) (suc i) vs p (omega arith) ∙ get_or-set_other l i p v 0 (omega arith)
+pub get_or-sets_before : (l : List ℕ) (i : ℕ) (vs : List ℕ) (p : ℕ) → p < i → get_or (sets l i vs) p 0 ≡ get_or l p 0
+get_or-sets_before l i [] p h = refl
+get_or-sets_before l i (v ∷ vs) p h =
+    get_or-sets_before (set l i v) (suc i) vs p (omega arith) ∙ get_or-set_other l i p v 0 (omega arith)
 
-pub get_d_sets_after : (l : List ℕ) (i : ℕ) (vs : List ℕ) (p : ℕ) → i + length vs ≤ p → get_or (sets l i vs) p 0 ≡ get_or l p 0
-get_d_sets_after l i [] p h = refl
-get_d_sets_after l i (v ∷ vs) p h =
-    get_d_sets_after (set l i v) (suc i) vs p (omega arith) ∙ get_or-set_other l i p v 0 (omega arith)
+pub get_or-sets_after : (l : List ℕ) (i : ℕ) (vs : List ℕ) (p : ℕ) → i + length vs ≤ p → get_or (sets l i vs) p 0 ≡ get_or l p 0
+get_or-sets_after l i [] p h = refl
+get_or-sets_after l i (v ∷ vs) p h =
+    get_or-sets_after (set l i v) (suc i) vs p (omega arith) ∙ get_or-set_other l i p v 0 (omega arith)
 
 -- what is written stands there
-pub get_d_sets_in : (l : List ℕ) (i : ℕ) (vs : List ℕ) (q : ℕ) → i + length vs ≤ length l → q < length vs → get_or (sets l i vs) (i + q) 0 ≡ get_or vs q 0
-get_d_sets_in l i [] q h m = absurd (omega arith)
-get_d_sets_in l i (v ∷ vs) zero h m =
-    rw add-zero (get_d_sets_before (set l i v) (suc i) vs i (omega arith) ∙ get_or-set_same l i v 0 (omega arith))
-get_d_sets_in l i (v ∷ vs) (suc q) h m =
+pub get_or-sets_in : (l : List ℕ) (i : ℕ) (vs : List ℕ) (q : ℕ) → i + length vs ≤ length l → q < length vs → get_or (sets l i vs) (i + q) 0 ≡ get_or vs q 0
+get_or-sets_in l i [] q h m = absurd (omega arith)
+get_or-sets_in l i (v ∷ vs) zero h m =
+    rw add-zero (get_or-sets_before (set l i v) (suc i) vs i (omega arith) ∙ get_or-set_same l i v 0 (omega arith))
+get_or-sets_in l i (v ∷ vs) (suc q) h m =
     let e : i + suc q ≡ suc i + q = omega arith in
-    rw e (get_d_sets_in (set l i v) (suc i) vs q (rw (length-set l i v) (omega arith)) (omega arith))
+    rw e (get_or-sets_in (set l i v) (suc i) vs q (rw (length-set l i v) (omega arith)) (omega arith))
 
 -- a list written from place i on: what is before and in it, and what is behind it
 module _ (l : List ℕ) (i : ℕ) (vs : List ℕ) (h : i + length vs ≤ length l) where

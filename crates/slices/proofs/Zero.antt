@@ -24,10 +24,10 @@ module _ (s : List ℕ) where
   zeros-all_zero f = all_to-holds (λ i. eqb (get_or s i 0) 0) (length s) (λ i l. eq-eqb _ _ (f i l))
 
 -- a list of zeros reads 0 at every place, also past its end
-pub get_d_zeros : (n p : ℕ) → ◌≡◌ {A = ℕ} (get_or (replicate n 0) p 0) 0
-get_d_zeros zero p = refl
-get_d_zeros (suc n) zero = refl
-get_d_zeros (suc n) (suc p) = get_d_zeros n p
+pub get_or-zeros : (n p : ℕ) → ◌≡◌ {A = ℕ} (get_or (replicate n 0) p 0) 0
+get_or-zeros zero p = refl
+get_or-zeros (suc n) zero = refl
+get_or-zeros (suc n) (suc p) = get_or-zeros n p
 
 -- the larger of two numbers is 0 where both are
 pub above_not_zero : (a b : ℕ) → a < b → eqb b 0 ≡ (eqb a 0 && eqb b 0)

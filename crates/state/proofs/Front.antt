@@ -8,7 +8,7 @@ use lib.Dec.{eqb, leb}
 use lib.ListN.{replicate}
 use borrow.Author.Tests.{eqb-true, eqb-false, eq-eqb, ne_eqb, leb-true}
 use Rattle.finite.proofs.All.{and_left}
-use Rattle.answer.specs.Refusals.{refuse, stopped, unless, unlessStopped}
+use Rattle.answer.specs.Refusals.{refuse, stopped, unless, unless_stopped}
 use Rattle.answer.specs.declared.Cause.TheVariants.{WrongLength, InvalidState}
 use Rattle.answer.specs.declared.Refusal.{Refusal}
 use Rattle.answer.specs.declared.Verdict.{Verdict}
@@ -117,7 +117,7 @@ module _ (s : State) where
       let f = laid_front-passed e in
       rw (front-laid f.0 (λ h. omega (arith, h, f.1)), f.1) (go laid)
     where
-      go : (d : Bool) → unlessStopped (unless d (stopped InvalidState) Go) Stop Go ≡ unless d (stopped InvalidState) Go
+      go : (d : Bool) → unless_stopped (unless d (stopped InvalidState) Go) Stop Go ≡ unless d (stopped InvalidState) Go
       go true = refl
       go false = refl
 

@@ -1,7 +1,7 @@
 -- Swapping two edges (document 02, P8): "Answers: 3 for either in stage 0; 23 for a swap against the rule, after 13; then 24 for a full log".
 -- Assumes nothing.
 use Rattle.std.specs.Prelude.{List, ℕ, ltb}
-use Rattle.answer.specs.Refusals.{refuse, unless, unlessStopped}
+use Rattle.answer.specs.Refusals.{refuse, unless, unless_stopped}
 use Rattle.answer.specs.declared.Cause.TheVariants.{NoSuchVertex, SwapNotAllowed, LogFull}
 use Rattle.answer.specs.declared.SwapAnswer.{SwapAnswer}
 use Rattle.answer.specs.declared.SwapAnswer.TheVariants.{Swapped, Refused}
@@ -23,7 +23,7 @@ swap_laid s l x =
 
 -- the checks 1, 2, 3 before them
 abbrev pub swap_answer : Loan → Swap → SwapAnswer
-swap_answer b x = unlessStopped (laid_verdict b) Refused (swap_laid b.state b.log x)
+swap_answer b x = unless_stopped (laid_verdict b) Refused (swap_laid b.state b.log x)
 
 -- what was lent, afterwards: the edges are swapped, and the log has one record more, the vertices as they are named
 abbrev pub after_swap : SwapAnswer → Loan → Swap → Loan

@@ -8,8 +8,8 @@ use native.Mathlib.Decide.{dec_lt}
 use native.Mathlib.Omega.{arith}
 use lib.ListN.{length, get_or, set, length-set}
 use lib.Seq.{length-sets, get_or-set_same, get_or-set_other, ext_get_or}
-use Rattle.slices.proofs.Zero.{get_d_zeros}
-use Rattle.slices.proofs.Part.{get_d_sets_before, get_d_sets_after, get_d_sets_in}
+use Rattle.slices.proofs.Zero.{get_or-zeros}
+use Rattle.slices.proofs.Part.{get_or-sets_before, get_or-sets_after, get_or-sets_in}
 use Rattle.swapping.specs.declared.Swap.{Swap}
 use Rattle.swapping.specs.Swap.{swap_of}
 use Rattle.swap_log.specs.Log.{most_swaps, swap_size, log_size, swap_count, swap_place, swap_at, written, logged, unlogged}
@@ -40,13 +40,13 @@ module _ (l : List ℕ) (long : length l ≡ log_size) (m i : ℕ) (x : Swap) (f
 
   pub written_low : get_or (written l m i x) 0 0 ≡ m % 256
   written_low =
-      get_d_sets_before (counted l m) (swap_place i) (bytes_of x) 0 (omega arith)
+      get_or-sets_before (counted l m) (swap_place i) (bytes_of x) 0 (omega arith)
       ∙ get_or-set_other (set l 0 (m % 256)) 1 0 (m / 256) 0 (λ e. absurd (omega (arith, e)))
       ∙ get_or-set_same l 0 (m % 256) 0 (omega (arith, long))
 
   pub written-high : get_or (written l m i x) 1 0 ≡ m / 256
   written-high =
-      get_d_sets_before (counted l m) (swap_place i) (bytes_of x) 1 (omega arith)
+      get_or-sets_before (counted l m) (swap_place i) (bytes_of x) 1 (omega arith)
       ∙ get_or-set_same (set l 0 (m % 256)) 1 (m / 256) 0 (rw (length-set l 0 (m % 256), long) (omega arith))
 
   pub written_count : swap_count (written l m i x) ≡ m
@@ -59,13 +59,13 @@ module _ (l : List ℕ) (long : length l ≡ log_size) (m i : ℕ) (x : Swap) (f
       ∙ get_or-set_other l 0 p (m % 256) 0 (λ e. absurd (omega (arith, e, h)))
 
   pub written-before : (p : ℕ) → 2 ≤ p → p < swap_place i → get_or (written l m i x) p 0 ≡ get_or l p 0
-  written-before p h k = get_d_sets_before (counted l m) (swap_place i) (bytes_of x) p k ∙ untouched p h
+  written-before p h k = get_or-sets_before (counted l m) (swap_place i) (bytes_of x) p k ∙ untouched p h
 
   pub written_behind : (p : ℕ) → swap_place i + swap_size ≤ p → get_or (written l m i x) p 0 ≡ get_or l p 0
-  written_behind p h = get_d_sets_after (counted l m) (swap_place i) (bytes_of x) p h ∙ untouched p (omega (arith, h))
+  written_behind p h = get_or-sets_after (counted l m) (swap_place i) (bytes_of x) p h ∙ untouched p (omega (arith, h))
 
   pub written_in : (q : ℕ) → q < swap_size → get_or (written l m i x) (swap_place i + q) 0 ≡ get_or (bytes_of x) q 0
-  written_in q h = get_d_sets_in (counted l m) (swap_place i) (bytes_of x) q (omega (arith, counted-length)) h
+  written_in q h = get_or-sets_in (counted l m) (swap_place i) (bytes_of x) q (omega (arith, counted-length)) h
 
   pub written-swap : swap_at (written l m i x) i ≡ x
   written-swap =
@@ -118,7 +118,7 @@ module _ (l : List ℕ) (long : length l ≡ log_size) (x : Swap) (few : swap_co
           let e : swap_place (swap_count l) + (p - swap_place (swap_count l)) ≡ p = omega arith in
           ap (λ (k : ℕ). get_or twice k 0) (sym e)
           ∙ written_in once once-long (swap_count l) (swap_count l) none few (p - swap_place (swap_count l)) (omega arith)
-          ∙ get_d_zeros swap_size (p - swap_place (swap_count l))
+          ∙ get_or-zeros swap_size (p - swap_place (swap_count l))
           ∙ sym (zero p (omega arith))
       go (no a) (no b) (no c) (no d) =
           written_behind once once-long (swap_count l) (swap_count l) none few p (omega arith)
@@ -145,5 +145,5 @@ module _ (l : List ℕ) (long : length l ≡ log_size) (some : 0 < swap_count l)
           let e : swap_place m + (p - swap_place m) ≡ p = omega (arith, unlogged-count, h) in
           ap (λ (k : ℕ). get_or (unlogged l) k 0) (sym e)
           ∙ written_in l long m m (swap_of 0 0 0 0) (omega arith) (p - swap_place m) (omega (arith, unlogged-count, h))
-          ∙ get_d_zeros swap_size (p - swap_place m)
+          ∙ get_or-zeros swap_size (p - swap_place m)
       go (no d) = written_behind l long m m (swap_of 0 0 0 0) (omega arith) p (omega arith) ∙ zero p (omega arith)

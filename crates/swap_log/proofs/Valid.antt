@@ -12,7 +12,7 @@ use lib.Seq.{get_or-drop, ext_get_or}
 use borrow.Author.Tests.{ltb-true, lt-ltb, leb-true, le-leb, lt-leb, not-true, not-false}
 use Rattle.finite.proofs.All.{and_left, and_right, and_both}
 use Rattle.slices.specs.Slices.{all_zero}
-use Rattle.slices.proofs.Zero.{all_zero-at, zeros-all_zero, get_d_zeros}
+use Rattle.slices.proofs.Zero.{all_zero-at, zeros-all_zero, get_or-zeros}
 use Rattle.swapping.specs.declared.Swap.{Swap}
 use Rattle.swapping.specs.Swap.{swap_of, can_swap, swap_bytes, undoing}
 use Rattle.swapping.proofs.Bytes.{swaps-work}
@@ -89,7 +89,7 @@ module _ (n : ℕ) (cls : ℕ → ℕ) (g l : List ℕ) where
       })
 
 pub empty_log-zero : (p : ℕ) → get_or empty_log p 0 ≡ 0
-empty_log-zero = get_d_zeros log_size
+empty_log-zero = get_or-zeros log_size
 
 pub empty_log-length : length empty_log ≡ log_size
 empty_log-length = length-replicate {A = ℕ} log_size 0

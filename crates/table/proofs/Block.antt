@@ -157,12 +157,12 @@ module _ (b : List ℕ) where
   pub block_cell-sym : (k l : ℕ) → block_cell b k l ≡ block_cell b l k
   block_cell-sym k l = sum_to-cong (records b) (λ i. record_cell b i k l) (λ i. record_cell b i l k) (λ i h. record_cell-sym b i k l)
 
-  blockCell-none : first_bad b ≡ records b → (k l : ℕ) → (least_degree ≤ k → k ≤ most_degree → ⊥) → block_cell b k l ≡ 0
-  blockCell-none e k l h =
+  block_cell-none : first_bad b ≡ records b → (k l : ℕ) → (least_degree ≤ k → k ≤ most_degree → ⊥) → block_cell b k l ≡ 0
+  block_cell-none e k l h =
       sum_to-zero (records b) (λ i. record_cell b i k l) (λ i m. record_cell-none b i k l (good-record b i (all-good b e i m)) h)
 
   pub block_cell-none_of_0 : first_bad b ≡ records b → (l : ℕ) → block_cell b 0 l ≡ 0
-  block_cell-none_of_0 e l = blockCell-none e 0 l (λ p q. absurd (omega arith))
+  block_cell-none_of_0 e l = block_cell-none e 0 l (λ p q. absurd (omega arith))
 
   pub block_cell-none_above : first_bad b ≡ records b → (k l : ℕ) → most_degree < k → block_cell b k l ≡ 0
-  block_cell-none_above e k l m = blockCell-none e k l (λ p q. absurd (omega arith))
+  block_cell-none_above e k l m = block_cell-none e k l (λ p q. absurd (omega arith))

@@ -17,7 +17,7 @@ use Rattle.finite.proofs.All.{and-false}
 use Rattle.finite.proofs.Fold.{fold_to-keeps}
 use Rattle.finite.proofs.Sum.{sum_to-none, sum_to-more, sum_to-cong}
 use Rattle.graph.specs.Tests.{most_classes}
-use Rattle.slices.proofs.Zero.{get_d_zeros}
+use Rattle.slices.proofs.Zero.{get_or-zeros}
 use Rattle.table.specs.Block.{most_records, records, record_k, record_l, record_count, first_bad, same_pair, record_cell, record_isolated, block_cell, block_isolated}
 use Rattle.table.specs.Inner.Cells.{record_most, cells_size, place, matrix_of, isolated_place, add_record, add_block, AtMost, block_sum_most}
 use Rattle.table.proofs.Block.{Good, good-record, all-good, same_pair-straight, same_pair-crossed, same_pair-none, amount, amount-sym, amount-none_above, amount-cell, amount-isolated}
@@ -41,7 +41,7 @@ pub matrix_none : matrix_of cells_of_none ≡ (λ k l. 0)
 matrix_none = matrix-zeros cells_size
   where
     matrix-zeros : (n : ℕ) → matrix_of (replicate n 0) ≡ (λ k l. 0)
-    matrix-zeros n = fun_ext (λ k. fun_ext (λ l. cond-zero (ltb k most_classes && ltb l most_classes) _ (get_d_zeros n (place k l))))
+    matrix-zeros n = fun_ext (λ k. fun_ext (λ l. cond-zero (ltb k most_classes && ltb l most_classes) _ (get_or-zeros n (place k l))))
 
 -- one number changed
 at_most_set : (m v : ℕ) (c : List ℕ) (p : ℕ) → AtMost m c → v ≤ m → AtMost m (set c p v)
@@ -106,8 +106,8 @@ add_apart c p q n h = get_or-set_other c q p (get_or c q 0 + n) 0 h ∙ sym (add
 
 -- what a good record adds to the array
 module _ (b : List ℕ) (i : ℕ) (c : List ℕ) (size : length c ≡ cells_size) (g : Good b i) (k l : ℕ) where
-  addRecord-inside : k < most_classes → l < most_classes → matrix_of (add_record b i c) k l ≡ matrix_of c k l + amount b i k l
-  addRecord-inside hk hl = rw (lt-ltb k most_classes hk, lt-ltb l most_classes hl) (go (ℕ_discrete (place k l) (place x y)))
+  add_record-inside : k < most_classes → l < most_classes → matrix_of (add_record b i c) k l ≡ matrix_of c k l + amount b i k l
+  add_record-inside hk hl = rw (lt-ltb k most_classes hk, lt-ltb l most_classes hl) (go (ℕ_discrete (place k l) (place x y)))
     where
       x : ℕ
       x = record_k b i
@@ -123,21 +123,21 @@ module _ (b : List ℕ) (i : ℕ) (c : List ℕ) (size : length c ≡ cells_size
           rw (other_place k l x y hk hl (omega arith) (omega arith) e)
           (add_apart c (place k l) (place x y) (record_count b i) e)
 
-  addRecord-outside : most_classes ≤ k → matrix_of (add_record b i c) k l ≡ matrix_of c k l + amount b i k l
-  addRecord-outside h = rw (le-ltb k most_classes h, amount-none_above b i k l g (omega arith))
+  add_record-outside : most_classes ≤ k → matrix_of (add_record b i c) k l ≡ matrix_of c k l + amount b i k l
+  add_record-outside h = rw (le-ltb k most_classes h, amount-none_above b i k l g (omega arith))
 
-  addRecord-beside : most_classes ≤ l → matrix_of (add_record b i c) k l ≡ matrix_of c k l + amount b i k l
-  addRecord-beside h =
+  add_record-beside : most_classes ≤ l → matrix_of (add_record b i c) k l ≡ matrix_of c k l + amount b i k l
+  add_record-beside h =
       rw (le-ltb l most_classes h, and-false (ltb k most_classes), amount-sym b i k l, amount-none_above b i l k g (omega arith))
 
-  matrix-addRecord : matrix_of (add_record b i c) k l ≡ matrix_of c k l + amount b i k l
-  matrix-addRecord = go (dec_lt k most_classes) (dec_lt l most_classes)
+  matrix-add_record : matrix_of (add_record b i c) k l ≡ matrix_of c k l + amount b i k l
+  matrix-add_record = go (dec_lt k most_classes) (dec_lt l most_classes)
     where
       go : Dec (k < most_classes) → Dec (l < most_classes) → matrix_of (add_record b i c) k l ≡ matrix_of c k l + amount b i k l
-      go (yes hk) (yes hl) = addRecord-inside hk hl
-      go (yes hk) (no hl) = addRecord-beside (omega arith)
-      go (no hk) (yes hl) = addRecord-outside (omega arith)
-      go (no hk) (no hl) = addRecord-outside (omega arith)
+      go (yes hk) (yes hl) = add_record-inside hk hl
+      go (yes hk) (no hl) = add_record-beside (omega arith)
+      go (no hk) (yes hl) = add_record-outside (omega arith)
+      go (no hk) (no hl) = add_record-outside (omega arith)
 
 -- what a block adds to the array at the place of (k, l)
 abbrev pub block_amount : List ℕ → ℕ → ℕ → ℕ
@@ -155,7 +155,7 @@ matrix_add_block b c size good k l =
     step : (i : ℕ) (x : List ℕ) → i < records b → After i x → After (i + 1) (add_record b i x)
     step i x h a = (
       length-add_record b i x ∙ a.0,
-      matrix-addRecord b i x a.0 (good-record b i (all-good b good i h)) k l ∙ rw (a.1, sum_to-more) (add_assoc _ _ _),
+      matrix-add_record b i x a.0 (good-record b i (all-good b good i h)) k l ∙ rw (a.1, sum_to-more) (add_assoc _ _ _),
     )
 
 -- in a cell it is what the block adds to the matrix, and at (0, 0) its isolated vertices

@@ -1,7 +1,7 @@
 -- Taking a block (document 01, "Blocks and records", "When a call says no").
 -- Assumes nothing.
 use Rattle.std.specs.Prelude.{cond, List, ℕ, ◌+◌, eqb, ltb, leb, length}
-use Rattle.answer.specs.Refusals.{refuse, unless, unlessStopped}
+use Rattle.answer.specs.Refusals.{refuse, unless, unless_stopped}
 use Rattle.answer.specs.declared.Cause.TheVariants.{WrongPhase, BlockLength, BadRecord, BlockNumber, BlockDiffers, JournalFull}
 use Rattle.answer.specs.declared.TakeAnswer.{TakeAnswer}
 use Rattle.answer.specs.declared.TakeAnswer.TheVariants.{Taken, Held, Refused}
@@ -36,7 +36,7 @@ take_on_valid j number b =
 
 -- the checks 1, 2, then as above
 abbrev pub take_answer : State → ℕ → List ℕ → TakeAnswer
-take_answer s number b = unlessStopped (state_verdict s) Refused (take_on_valid s.journal number b)
+take_answer s number b = unless_stopped (state_verdict s) Refused (take_on_valid s.journal number b)
 
 -- the state afterwards
 abbrev pub after_take : TakeAnswer → State → List ℕ → State

@@ -13,7 +13,7 @@ use lib.Seq.{get_or-set_same, get_or-set_other}
 use borrow.Author.Tests.{lt-ltb, le-ltb, ltb-true, eq-eqb, ne_eqb}
 use Rattle.finite.specs.Range.{bit}
 use Rattle.graph.specs.Tests.{most_classes}
-use Rattle.slices.proofs.Zero.{get_d_zeros}
+use Rattle.slices.proofs.Zero.{get_or-zeros}
 use Rattle.table.specs.Inner.Cells.{cells_size, matrix_of}
 use Rattle.adjacency.specs.Adjacency.{side, edge}
 use Rattle.classes.specs.Inner.Block.{class_from, block_sum, BlockOf}
@@ -89,7 +89,7 @@ module _ {n : ℕ} {cells starts g : List ℕ} (c : CellsCountable n cells start
       }
     where
       zero : (p : ℕ) → get_or full p 0 ≡ 0
-      zero p = ap (λ (f : List ℕ). get_or f p 0) ef ∙ get_d_zeros flags_size p
+      zero p = ap (λ (f : List ℕ). get_or f p 0) ef ∙ get_or-zeros flags_size p
 
   -- the same cells stand before p as before q
   pub counted_same : (p q : ℕ) {have full : List ℕ} → ((k l : ℕ) → k ≤ l → l < most_classes → ltb (cell_place k l) p ≡ ltb (cell_place k l) q)

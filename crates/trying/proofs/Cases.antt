@@ -7,7 +7,7 @@ use Prim.Native.Nat.{ℕ}
 use lib.Dec.{eqb, ltb}
 use lib.ListN.{length}
 use borrow.Author.Tests.{eqb-true}
-use Rattle.answer.specs.Refusals.{refuse, stopped, unless, unlessStopped}
+use Rattle.answer.specs.Refusals.{refuse, stopped, unless, unless_stopped}
 use Rattle.answer.specs.Numbers.{take_numbers, lay_out_numbers, add_numbers, remove_numbers, swap_numbers, undo_numbers, complete_numbers, shuffle_numbers, length_numbers, written_numbers, read_numbers, figures_numbers}
 use Rattle.answer.specs.declared.Cause.TheVariants.{WrongPhase, BlockNumber}
 use Rattle.answer.specs.declared.Verdict.{Verdict}
@@ -59,7 +59,7 @@ use Rattle.graph6_read.specs.Read.{read_answer, read_output}
 use Rattle.completion.specs.Complete.{Ran, completed, ran_laid, after_ran, output_ran}
 use Rattle.shuffled_completion.specs.Shuffle.{shuffled, with_x}
 use Rattle.shuffled_completion.specs.Outcome.{outcome}
-use Rattle.demands.specs.Calls.{Change, take, lay_out_call, add, remove, complete, swap, undo, Reading, read_back_call, list, figures, survey, writeGraph6, readGraph6, Call, changes, reads, changed, after}
+use Rattle.demands.specs.Calls.{Change, take, lay_out_call, add, remove, complete, swap, undo, Reading, read_back_call, list, figures, survey, write_graph6, read_graph6, Call, changes, reads, changed, after}
 use Rattle.demands.specs.Answers.{six, nine, answer_of}
 use Rattle.demands.specs.Tally.{Tally, no_tally, told, tally}
 use Rattle.trying.specs.Cases.{Step, Case, same_list, edges_of, runs, has_edges, all_hold, LogCase, begins_log, logs_hold, smallest, SmallestHolds}
@@ -72,29 +72,29 @@ phase_rest p s = unless (eqb (phase s.journal) p) (stopped WrongPhase) Go
 
 abbrev lay_out_rest : State → LayOutAnswer
 lay_out_rest s =
-    unlessStopped (phase_rest 0 s) LayOut.Refused (laid_out (layout_verdict (table_of s.journal)) (vertices (table_of s.journal)))
+    unless_stopped (phase_rest 0 s) LayOut.Refused (laid_out (layout_verdict (table_of s.journal)) (vertices (table_of s.journal)))
 
 abbrev add_rest : State → ℕ → ℕ → AddAnswer
-add_rest s v w = unlessStopped (phase_rest 1 s) Add.Refused (add_laid s v w)
+add_rest s v w = unless_stopped (phase_rest 1 s) Add.Refused (add_laid s v w)
 
 abbrev remove_rest : State → ℕ → ℕ → RemoveAnswer
-remove_rest s v w = unlessStopped (phase_rest 1 s) Remove.Refused (remove_laid s v w)
+remove_rest s v w = unless_stopped (phase_rest 1 s) Remove.Refused (remove_laid s v w)
 
 abbrev swap_rest : Loan → Swap → SwapAnswer
-swap_rest s x = unlessStopped (phase_rest 1 s.state) Swap.Refused (swap_laid s.state s.log x)
+swap_rest s x = unless_stopped (phase_rest 1 s.state) Swap.Refused (swap_laid s.state s.log x)
 
 abbrev undo_rest : Loan → UndoAnswer
-undo_rest s = unlessStopped (phase_rest 1 s.state) Undo.Refused (undo_logged s.log)
+undo_rest s = unless_stopped (phase_rest 1 s.state) Undo.Refused (undo_logged s.log)
 
 abbrev complete_rest : Ran → State → ℕ → CompleteAnswer
-complete_rest r s m = unlessStopped (phase_rest 1 s) Complete.Refused (ran_laid r s m)
+complete_rest r s m = unless_stopped (phase_rest 1 s) Complete.Refused (ran_laid r s m)
 
 abbrev length_rest : State → ℕ → LengthAnswer
 length_rest s number =
     unless (ltb number (blocks s.journal)) (Len.Refused (refuse BlockNumber 0 0)) (Len.Length (slot_length s.journal number))
 
 abbrev list_rest : State → ℕ → WrittenAnswer
-list_rest s m = unlessStopped (phase_rest 1 s) Write.Refused (list_laid s m)
+list_rest s m = unless_stopped (phase_rest 1 s) Write.Refused (list_laid s m)
 
 abbrev change_rest : Loan → Change → List ℕ
 change_rest s (take number b) = six (take_numbers (take_on_valid s.state.journal number b))
@@ -117,8 +117,8 @@ reading_rest s (read_back_call number) = let a = length_rest s number in six (le
 reading_rest s (list out) = let a = list_rest s (length out) in six (written_numbers a) ++ output_listed a s out
 reading_rest s figures = six (figures_numbers (Figs.Reported (figures_of (eqb (phase s.journal) phase_taking) s)))
 reading_rest s (survey e total out) = let a = survey_answer e total (length out) in six (written_numbers a) ++ survey_output a e total out
-reading_rest s (writeGraph6 e total out) = let a = write_answer e total (length out) in six (written_numbers a) ++ write_output a e total out
-reading_rest s (readGraph6 text out) = let a = read_answer text (length out) in six (read_numbers a) ++ read_output a text out
+reading_rest s (write_graph6 e total out) = let a = write_answer e total (length out) in six (written_numbers a) ++ write_output a e total out
+reading_rest s (read_graph6 text out) = let a = read_answer text (length out) in six (read_numbers a) ++ read_output a text out
 
 abbrev answer_rest : Loan → Call → List ℕ
 answer_rest s (changes c) = change_rest s c
@@ -158,8 +158,8 @@ module _ (s : Loan) (t : Tally) (r : Reach s t) where
   answer-rest (reads (list out)) = rw checked
   answer-rest (reads figures) = rw checked
   answer-rest (reads (survey e total out)) = refl
-  answer-rest (reads (writeGraph6 e total out)) = refl
-  answer-rest (reads (readGraph6 text out)) = refl
+  answer-rest (reads (write_graph6 e total out)) = refl
+  answer-rest (reads (read_graph6 text out)) = refl
 
   changed-rest : (c : Change) → changed s c ≡ changed_rest s c
   changed-rest (take number b) = rw checked

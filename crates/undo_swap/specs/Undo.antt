@@ -1,7 +1,7 @@
 -- Taking the last swap back (document 02, P8): "Taking back undoes the last"; "25 for taking back from an empty" log.
 -- Assumes nothing.
 use Rattle.std.specs.Prelude.{List, ℕ, ltb}
-use Rattle.answer.specs.Refusals.{refuse, unless, unlessStopped}
+use Rattle.answer.specs.Refusals.{refuse, unless, unless_stopped}
 use Rattle.answer.specs.declared.Cause.TheVariants.{LogEmpty}
 use Rattle.answer.specs.declared.UndoAnswer.{UndoAnswer}
 use Rattle.answer.specs.declared.UndoAnswer.TheVariants.{Undone, Refused}
@@ -15,7 +15,7 @@ undo_logged l = unless (ltb 0 (swap_count l)) (Refused (refuse LogEmpty 0 0)) Un
 
 -- the checks 1, 2, 3 before it
 abbrev pub undo_answer : Loan → UndoAnswer
-undo_answer b = unlessStopped (laid_verdict b) Refused (undo_logged b.log)
+undo_answer b = unless_stopped (laid_verdict b) Refused (undo_logged b.log)
 
 -- what was lent, afterwards: the last swap is taken back, and its record is gone
 abbrev pub after_undo : UndoAnswer → Loan → Loan

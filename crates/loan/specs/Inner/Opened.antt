@@ -1,7 +1,7 @@
 -- A loan is checked once: what the check goes by before it looks at a laid matrix and its log.
 -- Assumes nothing.
 use Rattle.std.specs.Prelude.{Bool, true, ◌&&◌, cond, eqb, length}
-use Rattle.answer.specs.Refusals.{stopped, unless, unlessStopped}
+use Rattle.answer.specs.Refusals.{stopped, unless, unless_stopped}
 use Rattle.answer.specs.declared.Cause.TheVariants.{WrongLength, InvalidState, WrongPhase}
 use Rattle.answer.specs.declared.Verdict.{Verdict}
 use Rattle.answer.specs.declared.Verdict.TheVariants.{Go, Stop}
@@ -17,7 +17,7 @@ use Rattle.loan.specs.Loan.{Loan}
 abbrev pub loan_front : Loan → Verdict
 loan_front b =
     unless (eqb (length b.log) log_size) (stopped WrongLength)
-    (unlessStopped (front_verdict b.state) Stop
+    (unless_stopped (front_verdict b.state) Stop
     (unless (cond (eqb (phase b.state.journal) phase_taking) (all_zero b.log) true) (stopped InvalidState)
     (unless (eqb (phase b.state.journal) phase_laid) (stopped WrongPhase) Go)))
 

@@ -12,7 +12,7 @@ use Rattle.graph.specs.Tests.{most_classes}
 use Rattle.table.specs.Inner.Cells.{matrix_of}
 use Rattle.layout.specs.Inner.Arrays.{class_in}
 use Rattle.table.proofs.Matrix.{matrix_sym}
-use Rattle.slices.proofs.Zero.{get_d_zeros}
+use Rattle.slices.proofs.Zero.{get_or-zeros}
 use Rattle.adjacency.specs.Adjacency.{edge}
 use Rattle.matrix_cells.specs.Inner.Sums.{sums_size}
 use Rattle.adjacency.proofs.Mirrored.{cells_within-upper}
@@ -22,7 +22,7 @@ use Rattle.matrix_cells.proofs.cells_within.Goals as goal
 use Rattle.matrix_cells.proofs.cells_within.Goals.{then-has_class, else-has_class}
 
 pub sum_classes-requires : goal.sum_classes-requires
-sum_classes-requires c = (c.requires.0, c.requires.1, c.requires.2, c.requires.3, length-replicate {A = ℕ} sums_size 0, get_d_zeros sums_size)
+sum_classes-requires c = (c.requires.0, c.requires.1, c.requires.2, c.requires.3, length-replicate {A = ℕ} sums_size 0, get_or-zeros sums_size)
 
 pub loop-k-init : goal.loop-k-init
 loop-k-init c = (omega arith, omega arith, below_none _, rw all_to-none)

@@ -8,11 +8,11 @@ use lib.ListN.{length-replicate}
 use Rattle.finite.specs.Range.{all_to}
 use Rattle.finite.proofs.All.{all_to-more, all_to-holds}
 use Rattle.graph.specs.Tests.{most_classes}
-use Rattle.slices.proofs.Zero.{get_d_zeros}
+use Rattle.slices.proofs.Zero.{get_or-zeros}
 use Rattle.matrix_cells.proofs.class_within.Goals as goal
 
 pub count_class-requires : goal.count_class-requires
-count_class-requires c = (omega arith, omega arith, c.requires.2, omega arith, c.requires.4, length-replicate {A = ℕ} most_classes 0, get_d_zeros most_classes)
+count_class-requires c = (omega arith, omega arith, c.requires.2, omega arith, c.requires.4, length-replicate {A = ℕ} most_classes 0, get_or-zeros most_classes)
 
 pub loop-l-init : goal.loop-l-init
 loop-l-init c = (omega arith, omega arith, sym (all_to-holds _ _ (λ l h. rw (lt-ltb l _ h))))

@@ -5,8 +5,8 @@ use Prim.Native.Nat.{◌≤◌, ◌<◌}
 use lib.ListN.{length}
 use Rattle.finite.specs.Range.{all_to}
 use Rattle.options.specs.Options.{number_end}
-use Rattle.options.proofs.Digits.{digitAt, valueTo}
+use Rattle.options.proofs.Digits.{digit_at, value_to}
 use Rattle.options.proofs.word_number.Given as goal
 
 abbrev pub invariant-loop-i : goal.invariant-loop-i
-invariant-loop-i l = (l.i ≤ length l.word) × (l.value ≡ valueTo l.word l.i) × (l.value < number_end) × (all_to l.i (digitAt l.word) ≡ true)
+invariant-loop-i l = (l.i ≤ length l.word) × (l.value ≡ value_to l.word l.i) × (l.value < number_end) × (all_to l.i (digit_at l.word) ≡ true)

@@ -1,7 +1,7 @@
 -- A state is checked once: what the check goes by before it looks at a laid matrix, and what it hands on where that passes.
 -- Assumes nothing.
 use Rattle.std.specs.Prelude.{◌≡◌, true, ◌&&◌, cond, List, ℕ, eqb, length, replicate}
-use Rattle.answer.specs.Refusals.{stopped, unless, unlessStopped}
+use Rattle.answer.specs.Refusals.{stopped, unless, unless_stopped}
 use Rattle.answer.specs.declared.Cause.TheVariants.{WrongLength, InvalidState, WrongPhase}
 use Rattle.answer.specs.declared.Verdict.{Verdict}
 use Rattle.answer.specs.declared.Verdict.TheVariants.{Go, Stop}
@@ -25,7 +25,7 @@ front_verdict s =
 
 -- and 3, for a call that needs a laid state
 abbrev pub laid_front : State → Verdict
-laid_front s = unlessStopped (front_verdict s) Stop (unless (eqb (phase s.journal) phase_laid) (stopped WrongPhase) Go)
+laid_front s = unless_stopped (front_verdict s) Stop (unless (eqb (phase s.journal) phase_laid) (stopped WrongPhase) Go)
 
 -- What a laid matrix is looked at with: a journal that is as it should be, and arrays of zeros to count in.
 pub record Openable (s : State) (cells counts degrees : List ℕ) : Type 0 where
