@@ -70,14 +70,14 @@ empty-blocks =
     record {
       taken = takes-empty;
       held = λ calls number a.
-          let h = reads_back.accepted-held calls number [] a in
+          let h = reads_back.accepted_held calls number [] a in
           record {
             resent = h.resent;
             full_differs = λ b w l. h.differs b w (λ e. absurd (omega (arith, ap length e)));
             length_0 = h.sized;
             part = h.same;
           };
-      differs = λ calls number b a l. (reads_back.accepted-held calls number b a).differs [] empty-well_formed (λ e. absurd (omega (arith, ap length e)));
+      differs = λ calls number b a l. (reads_back.accepted_held calls number b a).differs [] empty-well_formed (λ e. absurd (omega (arith, ap length e)));
       other_lengths = λ s l v number b.
           let passed = state_go s l v in
           let other = other_length (length b) in

@@ -178,15 +178,15 @@ pub graph6 : Graph6
 graph6 =
     record {
       text_of_graph = λ n E few s. text_well_formed n E few s;
-      graph_of-text = λ t well. ((framed-facts t (and_left (framed t) (zero_padded t) well)).few, graph_simple t (size_of t), text_back t well);
+      graph_of_text = λ t well. ((framed-facts t (and_left (framed t) (zero_padded t) well)).few, graph_simple t (size_of t), text_back t well);
       wrote = λ e total out n h. rw (written_text_in e total out n h) (wrote_text e total (writes e total (length out) n h).passed);
       was_read = λ t out n total h.
           let r = reads t (length out) n total h in
           rw (r.size, r.total-is, list-in t out r.well r.fits) (was_read_list t r.well);
-      refused-as_survey = λ e total m k r nineteen h.
+      refused_as_survey = λ e total m k r nineteen h.
           same_refusal (list_verdict e total) (write_listed e total m) (survey_listed e total k) r
           (λ q. other_than_19 (18 ∷ []) refl r (subst (OfWritten (18 ∷ []) (length (write_text e total)) m) q (write_rest (18 ∷ []) refl e total m)) nineteen) h;
-      survey-as_refused = λ e total m k r nineteen h.
+      survey_as_refused = λ e total m k r nineteen h.
           same_refusal (list_verdict e total) (survey_listed e total k) (write_listed e total m) r
           (λ q. other_than_19 (20 ∷ 18 ∷ []) refl r (subst (OfWritten (20 ∷ 18 ∷ []) (length (survey_records e total)) k) q (survey-rest (20 ∷ 18 ∷ []) refl refl e total k)) nineteen) h;
       laid = λ s v.

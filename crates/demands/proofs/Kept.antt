@@ -158,8 +158,8 @@ accepted-once calls number b b' a a' = sym (accepted-there calls number b a).sam
 pub reads_back : ReadsBack
 reads_back =
     record {
-      accepted-held = λ calls number b a. held calls number b (accepted-there calls number b a);
-      held-accepted = λ calls number l. ⊎_elim (λ z. absurd (omega (arith, z, cleared-state.no_blocks)))
+      accepted_held = λ calls number b a. held calls number b (accepted-there calls number b a);
+      held_accepted = λ calls number l. ⊎_elim (λ z. absurd (omega (arith, z, cleared-state.no_blocks)))
           (λ a. (a.0, record { before = a.1; rest = a.2; offered = a.3; answer = a.4 })) (came_all calls cleared_loan no_tally (reach []) number l);
     }
   where

@@ -71,8 +71,8 @@ module _ (s : Loan) where
   after-undone : undo_answer s ≡ Undo.Undone → undo_after s ≡ undone_loan s
   after-undone e = ap (λ (a : UndoAnswer). after_undo a s) e
 
-  undo-keeps : undo_answer s ≡ Undo.Undone → LaidLoan s × Preserves s (undo_after s)
-  undo-keeps e =
+  undo_keeps : undo_answer s ≡ Undo.Undone → LaidLoan s × Preserves s (undo_after s)
+  undo_keeps e =
       let f = undone-facts s e in
       (f.loan, subst (Preserves s) (sym (after-undone e)) (undo-preserves s f.loan f.some))
 
@@ -80,13 +80,13 @@ module _ (s : Loan) where
     after-swapped : swap_after s x ≡ swapped_loan s x
     after-swapped = ap (λ (a : SwapAnswer). after_swap a s x) e
 
-    swap-keeps : LaidLoan s × allows s x × Preserves s (swap_after s x)
-    swap-keeps =
+    swap_keeps : LaidLoan s × allows s x × Preserves s (swap_after s x)
+    swap_keeps =
         let f = swapped-facts s x e in
         (f.loan, f.allowed, subst (Preserves s) (sym after-swapped) (swap-preserves s f.loan x f.allowed f.room))
 
-    swap-undone : (undo_answer (swap_after s x) ≡ Undo.Undone) × (undo_after (swap_after s x) ≡ s)
-    swap-undone =
+    swap_undone : (undo_answer (swap_after s x) ≡ Undo.Undone) × (undo_after (swap_after s x) ≡ s)
+    swap_undone =
         subst (λ (b : Loan). (undo_answer b ≡ Undo.Undone) × (undo_after b ≡ s)) (sym after-swapped)
         (undone, ap (λ (a : UndoAnswer). after_undo a (swapped_loan s x)) undone ∙ swap-back s f.loan x f.allowed f.room)
       where
@@ -285,9 +285,9 @@ swaps-and_undos =
     record {
       swaps = λ s x v can room. facts_swapped s x (record { loan = v; allowed = can; room = room });
       undoes = λ s v some. facts_undone s (record { loan = v; some = some });
-      swap-keeps = swap-keeps;
-      undo-keeps = undo-keeps;
-      swap-undone = swap-undone;
+      swap_keeps = swap_keeps;
+      undo_keeps = undo_keeps;
+      swap_undone = swap_undone;
       tells = tells;
       mixed = λ s v calls h.
           let m = mix calls s v h in

@@ -48,14 +48,14 @@ pub record WasRead (t e : List ℕ) (total : ℕ) : Type 0 where
 pub record Graph6 : Type 0 where
   -- the well-formed texts are those of the simple graphs on up to 200 vertices, each the text of its own graph
   pub text_of_graph : (n : ℕ) (E : Graph) → n ≤ most_vertices → Simple n E → well_formed_text (graph6_text n E) ≡ true
-  pub graph_of-text : (t : List ℕ) → well_formed_text t ≡ true →
+  pub graph_of_text : (t : List ℕ) → well_formed_text t ≡ true →
       (size_of t ≤ most_vertices) × Simple (size_of t) (text_graph t) × (graph6_text (size_of t) (text_graph t) ≡ t)
   pub wrote : (e : List ℕ) (total : ℕ) (out : List ℕ) (n : ℕ) → write_answer e total (length out) ≡ Written n → Wrote e total (text_in e total out n)
   pub was_read : (t out : List ℕ) (n total : ℕ) → read_answer t (length out) ≡ Read n total → WasRead t (list_in t out n) total
   -- 19 exactly where a survey gives 19, with its places, whatever room the two are lent
-  pub refused-as_survey : (e : List ℕ) (total m k : ℕ) (r : Refusal) → number_of r.cause ≡ 19 →
+  pub refused_as_survey : (e : List ℕ) (total m k : ℕ) (r : Refusal) → number_of r.cause ≡ 19 →
       write_answer e total m ≡ Refused r → survey_answer e total k ≡ Refused r
-  pub survey-as_refused : (e : List ℕ) (total m k : ℕ) (r : Refusal) → number_of r.cause ≡ 19 →
+  pub survey_as_refused : (e : List ℕ) (total m k : ℕ) (r : Refusal) → number_of r.cause ≡ 19 →
       survey_answer e total k ≡ Refused r → write_answer e total m ≡ Refused r
   -- the list of a valid laid state, written with its N, is the text of the state's graph, and only a short output is refused
   pub laid : (s : State) → ValidLaid s →

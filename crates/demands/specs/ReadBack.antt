@@ -25,6 +25,6 @@ pub record Holds (s : State) (number : ℕ) (b : List ℕ) : Type 0 where
 
 pub record ReadsBack : Type 0 where
   -- every block answered as taken or held is held from then on, whatever calls came after it ..
-  pub accepted-held : (calls : List Call) (number : ℕ) (b : List ℕ) → AcceptedIn calls number b → Holds (after_all cleared_loan calls).state number b
+  pub accepted_held : (calls : List Call) (number : ℕ) (b : List ℕ) → AcceptedIn calls number b → Holds (after_all cleared_loan calls).state number b
   -- .. and nothing else is: each block of the journal was answered so
-  pub held-accepted : (calls : List Call) (number : ℕ) → number < blocks (after_all cleared_loan calls).state.journal → (b : List ℕ) × AcceptedIn calls number b
+  pub held_accepted : (calls : List Call) (number : ℕ) → number < blocks (after_all cleared_loan calls).state.journal → (b : List ℕ) × AcceptedIn calls number b

@@ -78,10 +78,10 @@ pub record Swaps : Type 0 where
   pub swaps : (s : Loan) (x : Swap) → LaidLoan s → allows s x → swap_count s.log < most_swaps → swap_answer s x ≡ Swapped
   pub undoes : (s : Loan) → LaidLoan s → 0 < swap_count s.log → undo_answer s ≡ Undone
   -- Each keeps every cell, every degree, the number of edges, validity, and the grid that the log began with.
-  pub swap-keeps : (s : Loan) (x : Swap) → swap_answer s x ≡ Swapped → LaidLoan s × allows s x × Preserves s (swap_after s x)
-  pub undo-keeps : (s : Loan) → undo_answer s ≡ Undone → LaidLoan s × Preserves s (undo_after s)
+  pub swap_keeps : (s : Loan) (x : Swap) → swap_answer s x ≡ Swapped → LaidLoan s × allows s x × Preserves s (swap_after s x)
+  pub undo_keeps : (s : Loan) → undo_answer s ≡ Undone → LaidLoan s × Preserves s (undo_after s)
   -- Taken back, a swap leaves matrix and log as they were, byte for byte.
-  pub swap-undone : (s : Loan) (x : Swap) → swap_answer s x ≡ Swapped → (undo_answer (swap_after s x) ≡ Undone) × (undo_after (swap_after s x) ≡ s)
+  pub swap_undone : (s : Loan) (x : Swap) → swap_answer s x ≡ Swapped → (undo_answer (swap_after s x) ≡ Undone) × (undo_after (swap_after s x) ≡ s)
   -- After every list of calls from a cleared loan the log tells how the matrix came from the grid that it began with ..
   pub tells : (calls : List Call) → Tells (after_all cleared_loan calls) (since_all empty_matrix cleared_loan calls)
   -- .. and after any mix of swaps and takings-back from any valid laid state with any valid log.

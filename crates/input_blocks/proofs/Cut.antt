@@ -29,6 +29,6 @@ input_cut =
     record {
       none = refl;
       full = λ input m e. omega (arith, e);
-      not-empty = λ input i l. omega (arith, length_part block_most (block_most * i) input);
+      not_empty = λ input i l. omega (arith, length_part block_most (block_most * i) input);
       together = λ input. first_blocks input (blocks_in input) ∙ take_all (block_most * blocks_in input) input (omega arith);
     }

@@ -50,5 +50,5 @@ input_most = block_most * (most_blocks + 1)
 pub record InputCut : Type 0 where
   pub none : blocks_in [] ≡ 0
   pub full : (input : List ℕ) (m : ℕ) → length input ≡ block_most * m → blocks_in input ≡ m
-  pub not-empty : (input : List ℕ) (i : ℕ) → i < blocks_in input → 0 < length (block_in input i)
+  pub not_empty : (input : List ℕ) (i : ℕ) → i < blocks_in input → 0 < length (block_in input i)
   pub together : (input : List ℕ) → cat_to (blocks_in input) (block_in input) ≡ input

@@ -48,8 +48,8 @@ module _ (j : List ℕ) (size : length j ≡ journal_size) where
   facts-clauses : Facts j → JournalClauses j
   facts-clauses f =
       record {
-        phase-byte = zero_or_one (phase j) f.phase-le;
-        blocks-byte = f.blocks-le;
+        phase_byte = zero_or_one (phase j) f.phase-le;
+        blocks_byte = f.blocks-le;
         used = used;
         unused = unused;
       }
@@ -92,8 +92,8 @@ module _ (j : List ℕ) (size : length j ≡ journal_size) where
   clauses-facts : JournalClauses j → Facts j
   clauses-facts c =
       record {
-        phase-le = ⊎_elim (λ e. omega (arith, e)) (λ e. omega (arith, e)) c.phase-byte;
-        blocks-le = c.blocks-byte;
+        phase-le = ⊎_elim (λ e. omega (arith, e)) (λ e. omega (arith, e)) c.phase_byte;
+        blocks-le = c.blocks_byte;
         used = λ i u. and_both _ _ (le-leb (slot_length j i) block_most (c.used i u).most) (eq-eqb _ 0 (c.used i u).whole);
         good = good;
         unused = λ i g l. rw (add-zero (slot_at i)) at (c.unused i g l 0 (omega arith));
@@ -104,7 +104,7 @@ module _ (j : List ℕ) (size : length j ≡ journal_size) where
       good i u = good_all (block_at j i) (λ r n. (good-pair (block_at j i) r).1 (rw (k-of j size i l most r n, l-of j size i l most r n) ((c.used i u).good r (small r n))))
         where
           l : i < most_blocks
-          l = omega (arith, c.blocks-byte)
+          l = omega (arith, c.blocks_byte)
 
           most : slot_length j i ≤ block_most
           most = (c.used i u).most

@@ -17,9 +17,9 @@ pub record HoldsBlock (j : List ℕ) (p : ℕ) : Type 0 where
 
 pub record JournalClauses (j : List ℕ) : Type 0 where
   -- "byte 0 is the stage (0 taking, 1 laid)"
-  pub phase-byte : (get_or j 0 0 ≡ 0) ⊎ (get_or j 0 0 ≡ 1)
+  pub phase_byte : (get_or j 0 0 ≡ 0) ⊎ (get_or j 0 0 ≡ 1)
   -- "byte 1 the blocks in it (0 to 64)"
-  pub blocks-byte : get_or j 1 0 ≤ 64
+  pub blocks_byte : get_or j 1 0 ≤ 64
   -- "Slot i starts at byte 2 + 65 × i": so many hold a block
   pub used : (i : ℕ) → i < get_or j 1 0 → HoldsBlock j (2 + 65 * i)
   -- "Unused slots are zero": the others, all 65 bytes

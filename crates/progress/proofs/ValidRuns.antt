@@ -43,11 +43,11 @@ module _ (n : ℕ) (cls : ℕ → ℕ) (T : ℕ → ℕ → ℕ) (room : ℕ) wh
           filling = st.filling;
           joins_le = omega (arith, p.joins_le, st.one_more);
           switches_le = omega (arith, p.switches_le, count-le (join_switches n cls s.adjacency v w));
-          records-fit = omega (arith, p.records-fit, st.one_more);
+          records_fit = omega (arith, p.records_fit, st.one_more);
         }
 
     pub joined-room : join_record_size * s.joins + join_record_size ≤ room
-    joined-room = omega (arith, p.records-fit, st.one_more, edges-within n cls T (joined n cls s v w).adjacency st.filling)
+    joined-room = omega (arith, p.records_fit, st.one_more, edges-within n cls T (joined n cls s v w).adjacency st.filling)
 
   -- one join in a short cell
   step-valid : (s : Ran) → ValidRun n cls T room s → (k l : ℕ) → k < most_classes → l < most_classes → jdm n cls (edge s.adjacency) k l < T k l

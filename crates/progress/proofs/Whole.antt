@@ -105,7 +105,7 @@ module _ (s : State) {cells counts degrees : List ℕ} (passed : phase_verdict p
                 filling = classed-filling;
                 joins_le = omega arith;
                 switches_le = omega arith;
-                records-fit = omega (arith, fits, cells-sum, missing-is en refl refl, wanted-enough en refl refl);
+                records_fit = omega (arith, fits, cells-sum, missing-is en refl refl, wanted-enough en refl refl);
               };
           degrees_right = o.degrees_right ∙ ap (λ (m : ℕ). degrees_of m g) (sym (en ∙ ap vertices o.said));
         }

@@ -29,7 +29,7 @@ module _ (s : State) (size : Lengths s) where
             let d = f.laid e in
             record {
               tests = (passes-passed (jdm_of s.journal)).0 d.passed;
-              vertices-most = d.vertices-le;
+              vertices_most = d.vertices-le;
               matrix =
                   (matrix_by_clauses (vertex_count s) (class_at s) (jdm_of s.journal) s.adjacency size.adjacency_length d.vertices-le).0
                   d.adjacency-ok;
@@ -42,9 +42,9 @@ module _ (s : State) (size : Lengths s) where
       (λ e. facts_valid_0 s e ok (λ p. zero p (c.taking e p) (dec_lt p adjacency_size)))
       (λ e.
       let d = c.laid e in
-      facts_valid_1 s e ok ((passes-passed (jdm_of s.journal)).1 d.tests) d.vertices-most
-      ((matrix_by_clauses (vertex_count s) (class_at s) (jdm_of s.journal) s.adjacency size.adjacency_length d.vertices-most).1 d.matrix))
-      c.journal_clauses.phase-byte
+      facts_valid_1 s e ok ((passes-passed (jdm_of s.journal)).1 d.tests) d.vertices_most
+      ((matrix_by_clauses (vertex_count s) (class_at s) (jdm_of s.journal) s.adjacency size.adjacency_length d.vertices_most).1 d.matrix))
+      c.journal_clauses.phase_byte
     where
       ok : journal_ok s.journal ≡ true
       ok = (journal_by_clauses s.journal size.journal_length).1 c.journal_clauses
@@ -54,8 +54,8 @@ module _ (s : State) (size : Lengths s) where
       zero p z (yes l) = z l
       zero p z (no l) = get_or-eq_default s.adjacency 0 (omega (arith, size.adjacency_length))
 
-pub valid-by_clauses : ValidByClauses
-valid-by_clauses =
+pub valid_by_clauses : ValidByClauses
+valid_by_clauses =
     record {
       lengths = λ s. (
         λ l. record { journal_length = lengths_journal s l; adjacency_length = lengths_adjacency s l },

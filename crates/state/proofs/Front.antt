@@ -68,8 +68,8 @@ module _ (s : State) where
         adjacency_length = lengths_adjacency s f.0;
         journal-ok = f.1;
         no_cells = refl;
-        no-counts = refl;
-        no-degrees = refl;
+        no_counts = refl;
+        no_degrees = refl;
       }
 
   -- a journal that passes is taking or laid

@@ -1,6 +1,6 @@
 -- Document 01's sentence, whole and clause by clause: "A bench is *sound* when the book is as above with well-formed blocks; in stage 0 the grid is all zero;
 -- in stage 1 the summed table passes tests 9 to 12 below, and the grid is symmetric, 0 or 1, with a zero diagonal, zero outside the boards, no board
--- above its degree, and no cell above the table." `valid` tests exactly this (proofs/Clauses.antt `valid-by_clauses`).
+-- above its degree, and no cell above the table." `valid` tests exactly this (proofs/Clauses.antt `valid_by_clauses`).
 -- A list that is lent besides and belongs to the state has its clauses in a record of its own, beside `StateClauses`.
 -- Assumes nothing.
 use Rattle.std.specs.Prelude.{◌≡◌, true, List, ◌↔◌, ℕ, ◌≤◌, ◌<◌, length, get_or}
@@ -22,7 +22,7 @@ pub record LaidClauses (t : DegreeTable) (g : List ℕ) : Type 0 where
   -- "the summed table passes tests 9 to 12 below": 9, 10 and 11; and 12, "the sum N of all D(k) at most 200", the isolated vertices counted too
   -- (document 02, P1)
   pub tests : Passed t.cells
-  pub vertices-most : vertices t ≤ 200
+  pub vertices_most : vertices t ≤ 200
   -- "and the grid is symmetric, 0 or 1, with a zero diagonal, zero outside the boards, no board above its degree, and no cell above the table"
   pub matrix : MatrixClauses (vertices t) (vertex_class t) t.cells g
 

@@ -17,7 +17,7 @@ use Rattle.swapping.specs.declared.Swap.{Swap}
 use Rattle.swapping.specs.Swap.{are_vertices, is_allowed, can_swap, swap_bytes, undoing}
 use Rattle.swapping.specs.Theorems.{CanSwap, Swapped, Kept, Matrix, SwapsWork}
 use Rattle.swapping.proofs.Rule.{are-vertices, more_vertices, rule_met, met_rule}
-use Rattle.swapping.proofs.Kept.{off, swap-keeps, undone-is_before}
+use Rattle.swapping.proofs.Kept.{off, swap_keeps, undone-is_before}
 
 pub swap-length : (g : List ℕ) (x : Swap) → length (swap_bytes g x) ≡ length g
 swap-length g x = rw (set-length, set-length, set-length, set-length)
@@ -59,33 +59,33 @@ module _ (n : ℕ) (cls : ℕ → ℕ) (g : List ℕ) (x : Swap) (m : Matrix n g
   l3 : length g3 ≡ adjacency_size
   l3 = set-length g2 x.a x.d 1 ∙ l2
 
-  no-ab : AddsEdge n (edge g1) x.a x.b (edge g)
-  no-ab =
+  no_ab : AddsEdge n (edge g1) x.a x.b (edge g)
+  no_ab =
       set-removes n g x.a x.b m.sized a-side b-side m.few can.ab can.first
       (m.simple.symmetric x.b x.a can.b_vertex can.a_vertex ∙ can.first)
 
   simple1 : Simple n (edge g1)
-  simple1 = (removing_updates n cls (edge g1) (edge g) x.a x.b can.a_vertex can.b_vertex can.ab no-ab m.simple).0
+  simple1 = (removing_updates n cls (edge g1) (edge g) x.a x.b can.a_vertex can.b_vertex can.ab no_ab m.simple).0
 
   still-cd : edge g1 x.c x.d ≡ 1
   still-cd =
       omega (
         arith,
-        no-ab x.c x.d can.c_vertex can.d_vertex,
+        no_ab x.c x.d can.c_vertex can.d_vertex,
         can.second,
         off x.a x.b x.c x.d (λ e. can.ac (sym e.0)) (λ e. can.bc (sym e.0)),
       )
 
-  no-cd : AddsEdge n (edge g2) x.c x.d (edge g1)
-  no-cd =
+  no_cd : AddsEdge n (edge g2) x.c x.d (edge g1)
+  no_cd =
       set-removes n g1 x.c x.d l1 c-side d-side m.few can.cd still-cd
       (simple1.symmetric x.d x.c can.d_vertex can.c_vertex ∙ still-cd)
 
   simple2 : Simple n (edge g2)
-  simple2 = (removing_updates n cls (edge g2) (edge g1) x.c x.d can.c_vertex can.d_vertex can.cd no-cd simple1).0
+  simple2 = (removing_updates n cls (edge g2) (edge g1) x.c x.d can.c_vertex can.d_vertex can.cd no_cd simple1).0
 
   free-ad : edge g2 x.a x.d ≡ 0
-  free-ad = omega (arith, no-ab x.a x.d can.a_vertex can.d_vertex, no-cd x.a x.d can.a_vertex can.d_vertex, can.no-ad)
+  free-ad = omega (arith, no_ab x.a x.d can.a_vertex can.d_vertex, no_cd x.a x.d can.a_vertex can.d_vertex, can.no_ad)
 
   with_ad : AddsEdge n (edge g2) x.a x.d (edge g3)
   with_ad =
@@ -99,10 +99,10 @@ module _ (n : ℕ) (cls : ℕ → ℕ) (g : List ℕ) (x : Swap) (m : Matrix n g
   free-bc =
       omega (
         arith,
-        no-ab x.b x.c can.b_vertex can.c_vertex,
-        no-cd x.b x.c can.b_vertex can.c_vertex,
+        no_ab x.b x.c can.b_vertex can.c_vertex,
+        no_cd x.b x.c can.b_vertex can.c_vertex,
         with_ad x.b x.c can.b_vertex can.c_vertex,
-        can.no-bc,
+        can.no_bc,
         off x.a x.d x.b x.c (λ e. can.ab (sym e.0)) (λ e. can.bd e.0),
       )
 
@@ -113,10 +113,10 @@ module _ (n : ℕ) (cls : ℕ → ℕ) (g : List ℕ) (x : Swap) (m : Matrix n g
 
   pub swapped : Swapped n (edge g) x (edge (swap_bytes g x))
   swapped =
-      record { once = edge g1; twice = edge g2; thrice = edge g3; no-ab = no-ab; no-cd = no-cd; with_ad = with_ad; with_bc = with_bc }
+      record { once = edge g1; twice = edge g2; thrice = edge g3; no_ab = no_ab; no_cd = no_cd; with_ad = with_ad; with_bc = with_bc }
 
   pub kept : Kept n cls (edge g) x (edge (swap_bytes g x))
-  kept = swap-keeps n cls (edge g) x m.simple can (edge (swap_bytes g x)) swapped
+  kept = swap_keeps n cls (edge g) x m.simple can (edge (swap_bytes g x)) swapped
 
   outside : ZeroOutside n (swap_bytes g x)
   outside v w vs ws o =

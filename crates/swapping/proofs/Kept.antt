@@ -38,13 +38,13 @@ module _ (n : ℕ) (cls : ℕ → ℕ) (E : Graph) (x : Swap) (simple : Simple n
   d = x.d
 
   r1 : Simple n s.once × (s.once a b ≡ 0) × Updated n cls s.once a b E
-  r1 = removing_updates n cls s.once E a b can.a_vertex can.b_vertex can.ab s.no-ab simple
+  r1 = removing_updates n cls s.once E a b can.a_vertex can.b_vertex can.ab s.no_ab simple
 
   r2 : Simple n s.twice × (s.twice c d ≡ 0) × Updated n cls s.twice c d s.once
-  r2 = removing_updates n cls s.twice s.once c d can.c_vertex can.d_vertex can.cd s.no-cd r1.0
+  r2 = removing_updates n cls s.twice s.once c d can.c_vertex can.d_vertex can.cd s.no_cd r1.0
 
   free-ad : s.twice a d ≡ 0
-  free-ad = omega (arith, s.no-ab a d can.a_vertex can.d_vertex, s.no-cd a d can.a_vertex can.d_vertex, can.no-ad)
+  free-ad = omega (arith, s.no_ab a d can.a_vertex can.d_vertex, s.no_cd a d can.a_vertex can.d_vertex, can.no_ad)
 
   r3 : Simple n s.thrice × (s.thrice a d ≡ 1) × Updated n cls s.twice a d s.thrice
   r3 = adding_updates n cls s.twice s.thrice a d can.a_vertex can.d_vertex can.ad s.with_ad r2.0 free-ad
@@ -53,10 +53,10 @@ module _ (n : ℕ) (cls : ℕ → ℕ) (E : Graph) (x : Swap) (simple : Simple n
   free-bc =
       omega (
         arith,
-        s.no-ab b c can.b_vertex can.c_vertex,
-        s.no-cd b c can.b_vertex can.c_vertex,
+        s.no_ab b c can.b_vertex can.c_vertex,
+        s.no_cd b c can.b_vertex can.c_vertex,
         s.with_ad b c can.b_vertex can.c_vertex,
-        can.no-bc,
+        can.no_bc,
         off a d b c (λ e. can.ab (sym e.0)) (λ e. can.bd e.0),
       )
 
@@ -80,7 +80,7 @@ module _ (n : ℕ) (cls : ℕ → ℕ) (E : Graph) (x : Swap) (simple : Simple n
   degrees v p = omega (arith, r1.2.degrees v p, r2.2.degrees v p, r3.2.degrees v p, r4.2.degrees v p)
 
   at : (v w : ℕ) → v < n → w < n → E' v w + at_edge a b v w + at_edge c d v w ≡ E v w + at_edge a d v w + at_edge b c v w
-  at v w p q = omega (arith, s.no-ab v w p q, s.no-cd v w p q, s.with_ad v w p q, s.with_bc v w p q)
+  at v w p q = omega (arith, s.no_ab v w p q, s.no_cd v w p q, s.with_ad v w p q, s.with_bc v w p q)
 
   pub kept : Kept n cls E x E'
   kept =
@@ -110,19 +110,19 @@ module _ (n : ℕ) (cls : ℕ → ℕ) (E : Graph) (x : Swap) (simple : Simple n
               bd = λ e. can.bd (sym e);
               cd = λ e. can.bc (sym e);
               same_class = can.same_class;
-              no-ad =
+              no_ad =
                   omega (
                     arith,
                     at a b can.a_vertex can.b_vertex,
-                    s.no-ab a b can.a_vertex can.b_vertex,
+                    s.no_ab a b can.a_vertex can.b_vertex,
                     r1.1,
                     off a d a b (λ e. can.bd e.1) (λ e. can.ad e.0),
                     off b c a b (λ e. can.ab e.0) (λ e. can.ac e.0),
                   );
-              no-bc =
+              no_bc =
                   omega (
                     arith,
-                    s.no-cd d c can.d_vertex can.c_vertex,
+                    s.no_cd d c can.d_vertex can.c_vertex,
                     s.with_ad d c can.d_vertex can.c_vertex,
                     s.with_bc d c can.d_vertex can.c_vertex,
                     r2.0.symmetric d c can.d_vertex can.c_vertex,
@@ -133,19 +133,19 @@ module _ (n : ℕ) (cls : ℕ → ℕ) (E : Graph) (x : Swap) (simple : Simple n
             };
       }
 
-pub swap-keeps : SwapKeeps
-swap-keeps = kept
+pub swap_keeps : SwapKeeps
+swap_keeps = kept
 
 pub undone-is_before : UndoneIsBefore
 undone-is_before n E E' E'' x s u v w p q =
     omega (
       arith,
-      s.no-ab v w p q,
-      s.no-cd v w p q,
+      s.no_ab v w p q,
+      s.no_cd v w p q,
       s.with_ad v w p q,
       s.with_bc v w p q,
-      u.no-ab v w p q,
-      u.no-cd v w p q,
+      u.no_ab v w p q,
+      u.no_cd v w p q,
       u.with_ad v w p q,
       u.with_bc v w p q,
       edge-sym x.b x.c v w,

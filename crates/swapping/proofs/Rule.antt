@@ -73,8 +73,8 @@ module _ (x : Swap) where
           bd = apart x.b x.d (and_right (ab && ac && ad && bc) bd five);
           cd = apart x.c x.d (and_right (ab && ac && ad && bc && bd) cd dist);
           same_class = eqb-true (cls x.a) (cls x.c) (and_right (have_edges g x && are_distinct x) _ edc);
-          no-ad = eqb-true (edge g x.a x.d) 0 (and_left _ (eqb (edge g x.b x.c) 0) f);
-          no-bc = eqb-true (edge g x.b x.c) 0 (and_right (eqb (edge g x.a x.d) 0) _ f);
+          no_ad = eqb-true (edge g x.a x.d) 0 (and_left _ (eqb (edge g x.b x.c) 0) f);
+          no_bc = eqb-true (edge g x.b x.c) 0 (and_right (eqb (edge g x.a x.d) 0) _ f);
         }
       where
         v : (x.a < n) × (x.b < n) × (x.c < n) × (x.d < n)
@@ -123,8 +123,8 @@ module _ (x : Swap) where
           ne_eqb x.b x.d c.bd,
           ne_eqb x.c x.d c.cd,
           eq-eqb (cls x.a) (cls x.c) c.same_class,
-          eq-eqb (edge g x.a x.d) 0 c.no-ad,
-          eq-eqb (edge g x.b x.c) 0 c.no-bc,
+          eq-eqb (edge g x.a x.d) 0 c.no_ad,
+          eq-eqb (edge g x.b x.c) 0 c.no_bc,
         )
 
   -- classes that agree on the vertices

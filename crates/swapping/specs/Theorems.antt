@@ -22,16 +22,16 @@ pub record CanSwap (n : ℕ) (cls : ℕ → ℕ) (E : Graph) (x : Swap) : Type 0
   pub bd : x.b ≢ x.d
   pub cd : x.c ≢ x.d
   pub same_class : cls x.a ≡ cls x.c
-  pub no-ad : E x.a x.d ≡ 0
-  pub no-bc : E x.b x.c ≡ 0
+  pub no_ad : E x.a x.d ≡ 0
+  pub no_bc : E x.b x.c ≡ 0
 
 -- E' is E after the swap: two edges removed, two added
 pub record Swapped (n : ℕ) (E : Graph) (x : Swap) (E' : Graph) : Type 0 where
   pub once : Graph
   pub twice : Graph
   pub thrice : Graph
-  pub no-ab : AddsEdge n once x.a x.b E
-  pub no-cd : AddsEdge n twice x.c x.d once
+  pub no_ab : AddsEdge n once x.a x.b E
+  pub no_cd : AddsEdge n twice x.c x.d once
   pub with_ad : AddsEdge n twice x.a x.d thrice
   pub with_bc : AddsEdge n thrice x.b x.c E'
 

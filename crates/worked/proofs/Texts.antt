@@ -13,7 +13,7 @@ graph6_cases =
       read = refl;
       fits = refl;
       short = refl;
-      written-short = refl;
+      written_short = refl;
       columns = (refl, refl, refl);
       none = (refl, refl);
       one = (refl, refl);
@@ -21,5 +21,5 @@ graph6_cases =
       large = (refl, refl, refl, refl);
       bad = (refl, refl, refl, refl, refl, refl, refl, refl, refl, refl, refl);
       lists = (refl, refl, refl);
-      degree-41 = (refl, refl, refl);
+      degree_41 = (refl, refl, refl);
     }

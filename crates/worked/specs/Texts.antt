@@ -38,7 +38,7 @@ pub record Graph6Cases : Type 0 where
   pub read : read_list CN ≡ links
   pub fits : read_numbers (read_answer CN 8) ≡ done 8 4
   pub short : read_numbers (read_answer CN 7) ≡ refused (refuse OutputTooShort 0 0)
-  pub written-short : written_numbers (write_answer links 4 1) ≡ refused (refuse OutputTooShort 0 0)
+  pub written_short : written_numbers (write_answer links 4 1) ≡ refused (refuse OutputTooShort 0 0)
   -- of three vertices: (0, 1) is the first bit, (0, 2) the second, (1, 2) the third
   pub columns : (write_text (0 ∷ 1 ∷ []) 3 ≡ 66 ∷ 95 ∷ []) × (write_text (0 ∷ 2 ∷ []) 3 ≡ 66 ∷ 79 ∷ []) × (write_text (1 ∷ 2 ∷ []) 3 ≡ 66 ∷ 71 ∷ [])
   -- "?" is the graph of no vertices, "@" that of one, both without a body
@@ -59,5 +59,5 @@ pub record Graph6Cases : Type 0 where
   pub lists : (written_numbers (write_answer links 201 0) ≡ refused (refuse BadEdgeList 0 0))
       × (written_numbers (write_answer (0 ∷ 1 ∷ 2 ∷ []) 4 0) ≡ refused (refuse BadEdgeList 1 0))
       × (written_numbers (write_answer links 3 0) ≡ refused (refuse BadEdgeList 0 0))
-  pub degree-41 : (written_numbers (survey_answer (star 41) 42 1000) ≡ refused (refuse DegreeTooHigh 0 0))
+  pub degree_41 : (written_numbers (survey_answer (star 41) 42 1000) ≡ refused (refuse DegreeTooHigh 0 0))
       × (written_numbers (write_answer (star 41) 42 1000) ≡ done 145 0) × (read_list (write_text (star 41) 42) ≡ star 41)

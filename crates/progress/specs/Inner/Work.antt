@@ -54,7 +54,7 @@ pub record ValidRun (n : ℕ) (cls : ℕ → ℕ) (T : ℕ → ℕ → ℕ) (roo
   pub filling : Filling n cls T s.adjacency
   pub joins_le : s.joins ≤ edges n (edge s.adjacency)
   pub switches_le : s.switches ≤ 2 * s.joins
-  pub records-fit : join_record_size * (2 * s.joins + all_cells most_classes T) ≤ 2 * (room + join_record_size * edges n (edge s.adjacency))
+  pub records_fit : join_record_size * (2 * s.joins + all_cells most_classes T) ≤ 2 * (room + join_record_size * edges n (edge s.adjacency))
 
 -- the vertices of class k below `low` are saturated
 abbrev pub Saturated : ℕ → (ℕ → ℕ) → List ℕ → ℕ → ℕ → Type 0

@@ -24,7 +24,7 @@ adjacency_ok-requires c =
       rw en go.1,
       class_below (table_of j) go.1 en ec,
       class_rises (table_of j) go.1 en ec,
-      c.requires.no-degrees,
+      c.requires.no_degrees,
     )
 
 pub returns-in-Go : goal.returns-in-Go

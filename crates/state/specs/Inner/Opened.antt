@@ -33,8 +33,8 @@ pub record Openable (s : State) (cells counts degrees : List ℕ) : Type 0 where
   pub adjacency_length : length s.adjacency ≡ adjacency_size
   pub journal-ok : journal_ok s.journal ≡ true
   pub no_cells : cells ≡ replicate cells_size 0
-  pub no-counts : counts ≡ replicate most_classes 0
-  pub no-degrees : degrees ≡ replicate most_vertices 0
+  pub no_counts : counts ≡ replicate most_classes 0
+  pub no_degrees : degrees ≡ replicate most_vertices 0
 
 -- The cells of the journal's table, how many vertices each class has, and the degrees that the vertices have so far.
 pub record Opened (s : State) (cells counts degrees : List ℕ) : Type 0 where
