@@ -1,3 +1,19 @@
+// Finite ranges of numbers: the search for the lowest that passes a test. Sums, tests and folds over a range have definitions (specs/Range.antt)
+// and laws (proofs/) alone.
 #![tactic(auto)]
 
-// Laws of finite ranges of numbers. No code: see specs/Range.antt and proofs/.
+ghost use Rattle.std.specs.Prelude.{◌≡◌, Bool, ℕ, ◌≤◌, ◌<◌};
+ghost use Rattle.finite.specs.Range.{lowest};
+
+// The lowest of from, .., to - 1 that passes, and `to` where none does; `from` where `to` is below it.
+pub fn lowest_passing<F: Fn(usize) -> bool>(from: usize, to: usize, passes: F) -> usize
+    requires { (i : ℕ) → from ≤ i → i < to → F.pre passes i }
+    ensures { (p : ℕ → Bool) → ((i : ℕ) (b : Bool) → from ≤ i → i < to → F.post passes i b → b ≡ p i) → result ≡ lowest from to p }
+{
+    for i in from..to {
+        if passes(i) {
+            return i;
+        }
+    }
+    from.max(to)
+}

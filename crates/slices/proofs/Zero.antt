@@ -1,15 +1,16 @@
 -- `all_zero`: every byte is 0.
 -- Assumes nothing.
-use mathlib.Core.Path.{◌≡◌, refl}
-use mathlib.Core.Bool.{true, ◌&&◌}
+use mathlib.Core.Path.{◌≡◌, refl, sym, ap, ◌∙◌}
+use mathlib.Core.Bool.{Bool, true, ◌&&◌}
 use mathlib.Core.List.{List}
-use Prim.Native.Nat.{ℕ, zero, suc, ◌≤◌, ◌<◌}
+use Prim.Native.Nat.{ℕ, zero, suc, ◌<◌, max}
 use lib.Dec.{eqb}
 use lib.ListN.{length, get_or, replicate, get_or-eq_default}
 use native.Mathlib.Decide.{dec_lt, ℕ_discrete}
 use native.Mathlib.Omega.{arith}
 use borrow.Author.Tests.{eqb-true, eq-eqb, ne_eqb}
-use Rattle.finite.proofs.All.{all_to-at, all_to-holds, and-false}
+use Rattle.std.proofs.Math.Nat.{le-max_left, zero-max}
+use Rattle.finite.proofs.All.{all_to-at, all_to-holds}
 use Rattle.slices.specs.Slices.{all_zero}
 
 module _ (s : List ℕ) where
@@ -30,12 +31,11 @@ get_or-zeros (suc n) zero = refl
 get_or-zeros (suc n) (suc p) = get_or-zeros n p
 
 -- the larger of two numbers is 0 where both are
-pub above_not_zero : (a b : ℕ) → a < b → eqb b 0 ≡ (eqb a 0 && eqb b 0)
-above_not_zero a b l = rw (ne_eqb b 0 (λ e. omega (arith, e, l)), and-false (eqb a 0))
-
-pub zero_below : (a b : ℕ) → b ≤ a → eqb a 0 ≡ (eqb a 0 && eqb b 0)
-zero_below a b l = go (ℕ_discrete a 0)
+pub max_zero : (a b : ℕ) → eqb (max a b) 0 ≡ (eqb a 0 && eqb b 0)
+max_zero a b = go (ℕ_discrete a 0)
   where
-    go : Dec (a ≡ 0) → eqb a 0 ≡ (eqb a 0 && eqb b 0)
-    go (yes e) = let z : b ≡ 0 = omega arith in rw (eq-eqb a 0 e, eq-eqb b 0 z)
-    go (no n) = rw (ne_eqb a 0 n)
+    go : Dec (a ≡ 0) → eqb (max a b) 0 ≡ (eqb a 0 && eqb b 0)
+    go (yes e) = rw (e, zero-max)
+    go (no n) =
+        let l = le-max_left a b in
+        ne_eqb (max a b) 0 (λ e. n (omega (arith, e, l))) ∙ sym (ap (λ (t : Bool). t && eqb b 0) (ne_eqb a 0 n))

@@ -1,7 +1,7 @@
-// Byte slices: a byte as a number, the smaller of two numbers, the sum, the ones, all zero, equal, one byte stored, copied into another.
+// Byte slices: their sum, their ones, all zero, equal, one byte stored, copied into another.
 #![tactic(auto)]
 
-ghost use Rattle.std.specs.Prelude.{◌≡◌, ◌&&◌, ℕ, ◌+◌, ◌≤◌, ◌<◌, min, eqb, length, get_or, replicate, set};
+ghost use Rattle.std.specs.Prelude.{◌≡◌, ℕ, ◌+◌, ◌≤◌, ◌<◌, min, length, get_or, replicate, set};
 ghost use Rattle.std.proofs.lemmas.List.Edits.{sets};
 ghost use Rattle.finite.specs.Range.{sum_to};
 ghost use Rattle.slices.specs.Slices.{all_zero, equal_bytes};
@@ -23,23 +23,16 @@ pub fn least(a: usize, b: usize) -> usize
     b
 }
 
-// A byte as a number of 16 bits: sums of these are vector sums of 8 at a time.
-fn byte16(x: u8) -> u16
-    ensures { (result ≡ x) × (result < 256) }
-{
-    x as u16
-}
-
-// The sum of the bytes, where it is below 65,536.
+// The sum of the bytes, where it is below 65,536: sums of 16 bits are vector sums of 8 at a time.
 pub fn byte_sum(s: &[u8]) -> usize
     requires { sum_to (length s.now) (λ i. get_or s.now i 0) < 65536 }
     ensures { (result ≡ sum_to (length s.now) (λ i. get_or s.now i 0)) × (result < 65536) }
 {
     let mut sum: u16 = 0;
-    for i in 0..s.len() {
-        sum += byte16(s[i]);
+    for x in s {
+        sum += u16::from(*x);
     }
-    sum as usize
+    usize::from(sum)
 }
 
 // How many of these bytes are 1, where each is 0 or 1. The sum fits in a byte: this is a vector loop of 16 at a time.
@@ -48,20 +41,10 @@ pub fn ones(s: &[u8]) -> usize
     ensures { (result ≡ sum_to (length s.now) (λ i. get_or s.now i 0)) × (result ≤ length s.now) }
 {
     let mut sum: u8 = 0;
-    for i in 0..s.len() {
-        sum += s[i];
+    for x in s {
+        sum += x;
     }
-    wide(sum)
-}
-
-// The larger of two bytes, which is 0 where both are.
-fn larger(a: u8, b: u8) -> u8
-    ensures { eqb result 0 ≡ (eqb a 0 && eqb b 0) }
-{
-    if a < b {
-        return b;
-    }
-    a
+    usize::from(sum)
 }
 
 // Every byte is 0: the largest is. No early exit, and one operation a vector: a flag takes two.
@@ -69,8 +52,8 @@ pub fn all_zero(s: &[u8]) -> bool
     ensures { result ≡ all_zero s.now }
 {
     let mut most: u8 = 0;
-    for i in 0..s.len() {
-        most = larger(most, s[i]);
+    for x in s {
+        most = most.max(*x);
     }
     most == 0
 }
@@ -79,15 +62,7 @@ pub fn all_zero(s: &[u8]) -> bool
 pub fn same_bytes(a: &[u8], b: &[u8]) -> bool
     ensures { result ≡ equal_bytes a.now b.now }
 {
-    if a.len() != b.len() {
-        return false;
-    }
-    for i in 0..a.len() {
-        if a[i] != b[i] {
-            return false;
-        }
-    }
-    true
+    a == b
 }
 
 // The byte b at place at, if there is such a place.
@@ -104,16 +79,12 @@ pub fn copy_in(dst: &mut [u8], at: usize, src: &[u8])
     requires { at + length src.now ≤ length dst.old }
     ensures { dst.new ≡ sets dst.old at src.now }
 {
-    for i in 0..src.len() {
-        dst[at + i] = src[i];
-    }
+    dst[at..at + src.len()].copy_from_slice(src);
 }
 
 // Every byte becomes 0.
 pub fn clear_bytes(s: &mut [u8])
     ensures { s.new ≡ replicate (length s.old) 0 }
 {
-    for i in 0..s.len() {
-        s[i] = 0;
-    }
+    s.fill(0);
 }

@@ -6,5 +6,5 @@ use lib.ListN.{length, get_or}
 use Rattle.finite.specs.Range.{all_to}
 use Rattle.slices.proofs.all_zero.Given as goal
 
-abbrev pub invariant-loop-i : goal.invariant-loop-i
-invariant-loop-i l = (l.i ≤ length l.s) × (eqb l.most 0 ≡ all_to l.i (λ i. eqb (get_or l.s i 0) 0))
+abbrev pub invariant-loop-x : goal.invariant-loop-x
+invariant-loop-x l = (l.x-index ≤ length l.s) × (eqb l.most 0 ≡ all_to l.x-index (λ i. eqb (get_or l.s i 0) 0))

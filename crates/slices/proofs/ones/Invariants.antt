@@ -5,5 +5,5 @@ use lib.ListN.{length, get_or}
 use Rattle.finite.specs.Range.{sum_to}
 use Rattle.slices.proofs.ones.Given as goal
 
-abbrev pub invariant-loop-i : goal.invariant-loop-i
-invariant-loop-i l = (l.i ≤ length l.s) × (l.sum ≡ sum_to l.i (λ i. get_or l.s i 0)) × (l.sum ≤ l.i)
+abbrev pub invariant-loop-x : goal.invariant-loop-x
+invariant-loop-x l = (l.x-index ≤ length l.s) × (l.sum ≡ sum_to l.x-index (λ i. get_or l.s i 0)) × (l.sum ≤ l.x-index)
