@@ -1,4 +1,3 @@
 pub mod Block
-pub mod Made
 pub mod Matrix
 pub mod Empty

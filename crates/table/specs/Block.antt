@@ -1,12 +1,11 @@
 -- Blocks and records (document 01, "Blocks and records"), and what a block adds to a degree table: to the cells of its matrix, and to the isolated
 -- vertices beside them (document 02, P1).
 -- Assumes nothing.
-use Rattle.std.specs.Prelude.{◌≡◌, Bool, ◌&&◌, ◌||◌, not, cond, List, ◌⊎◌, ℕ, ◌+◌, ◌*◌, ◌/◌, ◌%◌, ◌≤◌, eqb, leb, length, get_or}
+use Rattle.std.specs.Prelude.{◌≡◌, Bool, ◌&&◌, ◌||◌, not, cond, List, Option, Some, None, ◌⊎◌, ℕ, ◌+◌, ◌*◌, ◌/◌, ◌%◌, ◌≤◌, eqb, leb, length, get_or}
 use Rattle.finite.specs.Range.{sum_to, lowest}
 use Rattle.graph.specs.Graph.{DegreeTable}
 use Rattle.graph.specs.Tests.{least_degree, most_degree}
-use Rattle.table.specs.declared.degree.MadeDegree.{MadeDegree}
-use Rattle.table.specs.declared.degree.MadeDegree.TheVariants.{Made, OutOfRange}
+use Rattle.table.specs.declared.degree.Degree.{Degree}
 
 -- bytes of a record, most records of a block, the most bytes of a block, 64, and most blocks of a table
 abbrev pub record_size : ℕ
@@ -26,8 +25,8 @@ abbrev pub is_degree : ℕ → Bool
 is_degree x = leb least_degree x && leb x most_degree
 
 -- the degree of a record byte, or none
-abbrev pub made_degree : ℕ → MadeDegree
-made_degree x = cond (is_degree x) (Made (record { 0 = x })) OutOfRange
+abbrev pub made_degree : ℕ → Option Degree
+made_degree x = cond (is_degree x) (Some (record { 0 = x })) None
 
 -- a block of n bytes: up to 16 whole records; one of no bytes is a report too, that there is nothing to report (document 02, P4)
 abbrev pub block_length : ℕ → Bool

@@ -6,7 +6,6 @@ ghost use Rattle.table.specs.Block.{record_size, block_most, good_record, record
 ghost use Rattle.table.specs.Inner.Cells.{cells_size, matrix_of, place, isolated_place, add_record, add_block, AtMost, cell_sum_most, block_sum_most};
 
 use crate::class::MAX_CLASSES;
-use slices::wide;
 
 pub const CELLS: usize = MAX_CLASSES * MAX_CLASSES;
 
@@ -21,10 +20,7 @@ pub fn place_of(k: usize, l: usize) -> usize
     requires { (k < most_classes) × (l < most_classes) }
     ensures { (result ≡ place k l) × (result < cells_size) }
 {
-    if k <= l {
-        return k * MAX_CLASSES + l;
-    }
-    l * MAX_CLASSES + k
+    k.min(l) * MAX_CLASSES + k.max(l)
 }
 
 // Cell (k, l) where k is not above l: row k of these is one part of the array.
@@ -32,7 +28,7 @@ pub fn upper_cell(cells: &[u32; CELLS], k: usize, l: usize) -> usize
     requires { (k ≤ l) × (l < most_classes) }
     ensures { (result ≡ matrix_of cells.now k l) × (result < 4294967296) }
 {
-    wide32(cells[k * MAX_CLASSES + l])
+    cells[k * MAX_CLASSES + l] as usize
 }
 
 // Cell (k, l), which is also cell (l, k).
@@ -40,10 +36,7 @@ pub fn cell(cells: &[u32; CELLS], k: usize, l: usize) -> usize
     requires { (k < most_classes) × (l < most_classes) }
     ensures { (result ≡ matrix_of cells.now k l) × (result < 4294967296) }
 {
-    if k <= l {
-        return upper_cell(cells, k, l);
-    }
-    upper_cell(cells, l, k)
+    upper_cell(cells, k.min(l), k.max(l))
 }
 
 // A record of isolated vertices is added at (0, 0), which is no cell, until take_isolated.
@@ -52,10 +45,10 @@ fn add_record(cells: &mut [u32; CELLS], block: &[u8], i: usize)
     ensures { cells.new ≡ add_record block.now i cells.old }
 {
     let at = crate::record::RECORD_BYTES * i;
-    let k = wide(block[at]);
-    let l = wide(block[at + 1]);
+    let k = usize::from(block[at]);
+    let l = usize::from(block[at + 1]);
     let p = place_of(k, l);
-    let sum = wide32(cells[p]) + crate::record::record_count(block, i);
+    let sum = cells[p] as usize + crate::record::record_count(block, i);
     cells[p] = sum as u32;
 }
 
@@ -75,7 +68,7 @@ pub fn take_isolated(cells: &mut [u32; CELLS]) -> usize
     ensures value { result ≡ get_or cells.old isolated_place 0 }
     ensures cells_after { cells.new ≡ set cells.old isolated_place 0 }
 {
-    let isolated = wide32(cells[0]);
+    let isolated = cells[0] as usize;
     cells[0] = 0;
     isolated
 }

@@ -1,38 +1,25 @@
 // A degree of the table.
-ghost use Rattle.std.specs.Prelude.{◌≡◌, leb};
+ghost use Rattle.std.specs.Prelude.{◌≡◌};
 ghost use Rattle.table.specs.Block.{made_degree};
 
 // The field is private: from_byte is the only way to make one.
-#[derive(Clone, Copy)]
+#[derive(Clone, Copy, PartialEq, Eq, PartialOrd, Ord)]
 pub struct Degree(u8);
-
-// A degree made from a record byte, or none.
-#[derive(Clone, Copy)]
-pub enum MadeDegree {
-    Made(Degree),
-    OutOfRange,
-}
 
 impl Degree {
     pub const LEAST: Degree = Degree(1);
 
     pub const MOST: Degree = Degree(40);
 
-    pub fn from_byte(b: u8) -> MadeDegree
+    // The degree of a record byte, or none.
+    pub fn from_byte(b: u8) -> Option<Degree>
         ensures { result ≡ made_degree b }
     {
         if (Degree::LEAST.0 <= b) & (b <= Degree::MOST.0) {
-            MadeDegree::Made(Degree(b))
+            Some(Degree(b))
         } else {
-            MadeDegree::OutOfRange
+            None
         }
-    }
-
-    // This degree is not above the other.
-    pub fn at_most(self, other: Degree) -> bool
-        ensures { result ≡ leb self.0 other.0 }
-    {
-        self.0 <= other.0
     }
 }
 

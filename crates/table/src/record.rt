@@ -3,8 +3,8 @@ ghost use Rattle.std.specs.Prelude.{◌≡◌, ◌+◌, ◌*◌, ◌≤◌, ◌<
 ghost use Rattle.table.specs.Block.{record_size, is_degree, block_length, record_count, good_record, first_bad};
 ghost use Rattle.table.specs.Inner.Cells.{record_most};
 
-use crate::degree::{Degree, MadeDegree};
-use slices::wide;
+use crate::degree::Degree;
+use finite::lowest_passing;
 
 pub const RECORD_BYTES: usize = 4;
 
@@ -27,20 +27,17 @@ pub fn record_count(block: &[u8], i: usize) -> usize
     ensures { (result ≡ record_count block.now i) × (result ≤ record_most) }
 {
     let at = RECORD_BYTES * i;
-    wide(block[at + 2]) + 256 * wide(block[at + 3])
+    usize::from(block[at + 2]) + 256 * usize::from(block[at + 3])
 }
 
 // A cell: two degrees, k not above l; or isolated vertices: 0 and 0.
 fn good_pair(k: u8, l: u8) -> bool
     ensures { result ≡ (is_degree k && is_degree l && leb k l) || (eqb k 0 && eqb l 0) }
 {
-    let MadeDegree::Made(a) = Degree::from_byte(k) else {
-        return (k == 0) & (l == 0);
-    };
-    let MadeDegree::Made(b) = Degree::from_byte(l) else {
-        return false;
-    };
-    a.at_most(b)
+    match (Degree::from_byte(k), Degree::from_byte(l)) {
+        (Some(a), Some(b)) => a <= b,
+        _ => (k == 0) & (l == 0),
+    }
 }
 
 fn good_record(block: &[u8], i: usize) -> bool
@@ -55,13 +52,5 @@ fn good_record(block: &[u8], i: usize) -> bool
 pub fn first_bad(block: &[u8]) -> usize
     ensures { result ≡ first_bad block.now }
 {
-    let n = block.len() / RECORD_BYTES;
-    let mut i = 0;
-    while i < n {
-        if !good_record(block, i) {
-            return i;
-        }
-        i += 1;
-    }
-    i
+    lowest_passing(0, block.len() / RECORD_BYTES, |i| !good_record(block, i))
 }
