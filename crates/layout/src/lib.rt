@@ -11,6 +11,7 @@ ghost use Rattle.layout.specs.Inner.Arrays.{count_in, row_fits, Reaches, table_i
 ghost use Rattle.layout.specs.Layout.{layout_verdict, most_vertices};
 
 use answer::{Cause, Verdict, refuse, stopped};
+use finite::lowest_passing;
 use table::cells::{CELLS, cell, upper_cell};
 use table::class::{LEAST_CLASS, MAX_CLASSES, class_degree};
 
@@ -26,14 +27,7 @@ fn is_odd(cells: &[u32; CELLS], k: usize) -> bool
 fn first_odd(cells: &[u32; CELLS]) -> usize
     ensures { result ≡ first_odd (matrix_of cells.now) }
 {
-    let mut k = LEAST_CLASS;
-    while k < MAX_CLASSES {
-        if is_odd(cells, k) {
-            return k;
-        }
-        k += 1;
-    }
-    k
+    lowest_passing(LEAST_CLASS, MAX_CLASSES, |k| is_odd(cells, k))
 }
 
 // S(k)
@@ -62,14 +56,7 @@ fn first_uneven(cells: &[u32; CELLS]) -> usize
     requires { AtMost cell_sum_most cells.now }
     ensures { result ≡ first_uneven (matrix_of cells.now) }
 {
-    let mut k = LEAST_CLASS;
-    while k < MAX_CLASSES {
-        if is_uneven(cells, k) {
-            return k;
-        }
-        k += 1;
-    }
-    k
+    lowest_passing(LEAST_CLASS, MAX_CLASSES, |k| is_uneven(cells, k))
 }
 
 // How many vertices each class has, in an array of zeros: D(k), and of class 0 the isolated ones.
@@ -107,14 +94,11 @@ fn first_overfull_in(cells: &[u32; CELLS], counts: &[usize; MAX_CLASSES], k: usi
     requires { (0 < k) × (k < most_classes) × AtMost cell_sum_most cells.now × Counts cells.now counts.now }
     ensures { result ≡ first_overfull_in (matrix_of cells.now) k }
 {
-    let mut l = LEAST_CLASS;
-    while l < MAX_CLASSES {
-        if is_overfull(cells, counts, k, l) {
-            return l;
-        }
-        l += 1;
-    }
-    l
+    lowest_passing(
+        LEAST_CLASS,
+        MAX_CLASSES,
+        |l| is_overfull(cells, counts, k, l),
+    )
 }
 
 // No cell of row k from the diagonal on is above its most. A flag and no early exit: most tables pass.
@@ -135,14 +119,7 @@ fn first_overfull(cells: &[u32; CELLS], counts: &[usize; MAX_CLASSES]) -> usize
     requires { AtMost cell_sum_most cells.now × Counts cells.now counts.now }
     ensures { result ≡ first_overfull (matrix_of cells.now) }
 {
-    let mut k = LEAST_CLASS;
-    while k < MAX_CLASSES {
-        if !row_fits(cells, counts, k) {
-            return k;
-        }
-        k += 1;
-    }
-    k
+    lowest_passing(LEAST_CLASS, MAX_CLASSES, |k| !row_fits(cells, counts, k))
 }
 
 // N
@@ -151,8 +128,8 @@ pub fn vertex_count(cells: &[u32; CELLS], counts: &[usize; MAX_CLASSES]) -> usiz
     ensures { result ≡ vertices (table_in cells.now (count_in counts.now 0)) }
 {
     let mut n = 0;
-    for k in 0..MAX_CLASSES {
-        n += counts[k];
+    for count in counts {
+        n += count;
     }
     n
 }
@@ -202,8 +179,8 @@ pub fn edges_wanted(counts: &[usize; MAX_CLASSES]) -> usize
     ensures { result ≡ sum_to most_classes (λ k. count_in counts.now k * class_degree k) / 2 }
 {
     let mut sum = 0;
-    for k in 0..MAX_CLASSES {
-        sum += counts[k] * class_degree(k);
+    for (k, count) in counts.iter().enumerate() {
+        sum += count * class_degree(k);
     }
     sum / 2
 }

@@ -6,21 +6,21 @@ use Rattle.graph.specs.Tests.{most_classes}
 use Rattle.layout.proofs.Counted.{counted-total, counts_most}
 use Rattle.layout.proofs.vertex_count.Goals as goal
 
-pub loop-k-init : goal.loop-k-init
-loop-k-init c = simp sum_to-none (omega arith)
+pub loop-count-init : goal.loop-count-init
+loop-count-init c = simp sum_to-none (omega arith)
 
 pub overflow_add-n : goal.overflow_add-n
 overflow_add-n c =
-    let m = counts_most c.args.cells.now c.args.counts.now c.requires.0 c.requires.1 c.loop-k.k in
+    let m = counts_most c.args.cells.now c.args.counts.now c.requires.0 c.requires.1 c.loop-count.count-index in
     omega arith
 
-pub loop-k-preserved : goal.loop-k-preserved
-loop-k-preserved c =
-    let m = counts_most c.args.cells.now c.args.counts.now c.requires.0 c.requires.1 c.loop-k.k in
+pub loop-count-preserved : goal.loop-count-preserved
+loop-count-preserved c =
+    let m = counts_most c.args.cells.now c.args.counts.now c.requires.0 c.requires.1 c.loop-count.count-index in
     simp sum_to-more (omega arith)
 
 pub returns : goal.returns
 returns c =
-    let e : c.loop-k.k ≡ most_classes = omega arith in
-    (rw e at c.loop-k.invariant.1)
+    let e : c.loop-count.count-index ≡ most_classes = omega arith in
+    (rw e at c.loop-count.invariant.1)
     ∙ counted-total c.args.cells.now c.args.counts.now c.requires.1
