@@ -7,7 +7,6 @@ ghost use Rattle.graph.specs.Tests.{most_degree};
 ghost use Rattle.adjacency.specs.Adjacency.{adjacency_size, side, edge, set_edge};
 
 use layout::MAX_VERTICES;
-use slices::wide;
 
 pub const SIDE: usize = MAX_VERTICES;
 
@@ -18,7 +17,7 @@ pub fn edge_at(adjacency: &[u8], v: usize, w: usize) -> usize
     requires { (length adjacency.now ≡ adjacency_size) × (v < side) × (w < side) }
     ensures { (result ≡ edge adjacency.now v w) × (result < 256) }
 {
-    wide(adjacency[v * SIDE + w])
+    usize::from(adjacency[v * SIDE + w])
 }
 
 // How many edges there are, by the degrees of the n vertices: each edge stands at both its ends.
@@ -27,8 +26,8 @@ pub fn edge_total(degrees: &[usize; MAX_VERTICES], n: usize) -> usize
     ensures { result ≡ sum_to n (λ v. get_or degrees.now v 0) / 2 }
 {
     let mut sum = 0;
-    for v in 0..n {
-        sum += degrees[v];
+    for degree in &degrees[..n] {
+        sum += degree;
     }
     sum / 2
 }

@@ -10,9 +10,9 @@ ghost use Rattle.adjacency.specs.Adjacency.{adjacency_size, side, edge, mirrored
 ghost use Rattle.matrix_cells.specs.Inner.Sums.{sums_size, Added, class_edges};
 
 use adjacency::SIDE;
+use finite::lowest_passing;
 use layout::MAX_VERTICES;
-use slices::wide;
-use table::cells::{CELLS, upper_cell, wide32};
+use table::cells::{CELLS, upper_cell};
 use table::class::MAX_CLASSES;
 
 // One sum for each class and each vertex.
@@ -34,7 +34,7 @@ fn sum_classes(adjacency: &[u8], n: usize, classes: &[u8; MAX_VERTICES], sums: &
     ensures { (k w : ℕ) → w < n → get_or sums.new (k * side + w) 0 ≡ class_edges n (class_in classes.now) (edge adjacency.now) k w }
 {
     for v in 0..n {
-        add_row(sums, wide(classes[v]) * SIDE, adjacency, v * SIDE, n);
+        add_row(sums, usize::from(classes[v]) * SIDE, adjacency, v * SIDE, n);
     }
 }
 
@@ -43,12 +43,7 @@ fn skip_below(classes: &[u8; MAX_VERTICES], n: usize, k: usize, start: usize) ->
     requires { (start ≤ n) × (n ≤ side) × ((w : ℕ) → w < start → class_in classes.now w < k) }
     ensures { (result ≤ n) × ((w : ℕ) → w < result → class_in classes.now w < k) × (result < n → k ≤ class_in classes.now result) }
 {
-    for w in start..n {
-        if k <= wide(classes[w]) {
-            return w;
-        }
-    }
-    n
+    lowest_passing(start, n, |w| k <= usize::from(classes[w]))
 }
 
 // Vertex start has class k; n is no vertex. As classes rise, where the one that skip_below found has not, none has.
@@ -59,7 +54,7 @@ fn has_class(classes: &[u8; MAX_VERTICES], n: usize, k: usize, start: usize) -> 
     if start == n {
         return false;
     }
-    wide(classes[start]) == k
+    usize::from(classes[start]) == k
 }
 
 // For each class l from k on, the sum over its vertices of one row of the sums. None of them is before start.
@@ -75,8 +70,8 @@ fn count_class(
     ensures { (l : ℕ) → k ≤ l → get_or have.new l 0 ≡ sum_to n (λ w. δ (class_in classes.now w) l * get_or sums.now (k * side + w) 0) }
 {
     for w in start..n {
-        let l = wide(classes[w]);
-        let sum = wide32(have[l]) + wide(sums[k * SIDE + w]);
+        let l = usize::from(classes[w]);
+        let sum = have[l] as usize + usize::from(sums[k * SIDE + w]);
         have[l] = sum as u32;
     }
 }
@@ -97,7 +92,7 @@ fn class_within(
     count_class(sums, n, classes, k, start, &mut have);
     let mut ok = true;
     for l in k..MAX_CLASSES {
-        ok = ok & (wide32(have[l]) <= upper_cell(cells, k, l));
+        ok = ok & (have[l] as usize <= upper_cell(cells, k, l));
     }
     ok
 }

@@ -15,7 +15,7 @@ ghost use Rattle.adjacency.specs.Inner.Degrees.{degrees_of};
 use adjacency::SIDE;
 use layout::MAX_VERTICES;
 use matrix_cells::cells_within;
-use slices::{all_zero, ones, wide};
+use slices::{all_zero, ones};
 use table::cells::CELLS;
 use table::class::class_degree;
 
@@ -100,7 +100,7 @@ fn degrees_within(degrees: &[usize; MAX_VERTICES], n: usize, classes: &[u8; MAX_
 {
     let mut ok = true;
     for v in 0..n {
-        ok = ok & (degrees[v] <= class_degree(wide(classes[v])));
+        ok = ok & (degrees[v] <= class_degree(usize::from(classes[v])));
     }
     ok
 }

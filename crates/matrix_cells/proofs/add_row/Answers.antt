@@ -1,5 +1,5 @@
 -- `matrix_cells::add_row` meets its contract: after i turns the first i bytes are added.
-use Prim.Native.Nat.{ℕ, ◌+◌, ◌-◌}
+use Prim.Native.Nat.{ℕ, ◌+◌}
 use native.Mathlib.Omega.{arith}
 use lib.ListN.{get_or}
 use Rattle.matrix_cells.proofs.Sums.{added_none, added_more, added-elsewhere}

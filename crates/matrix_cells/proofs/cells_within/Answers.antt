@@ -1,12 +1,10 @@
 -- `matrix_cells::cells_within` meets its contract: the flag is the test of the classes passed.
 use mathlib.Core.Path.{◌≡◌, sym}
 use mathlib.Core.Bool.{and-true}
-use mathlib.Core.Logic.{⊎_elim}
-use Prim.Native.Nat.{ℕ, ◌-◌}
+use Prim.Native.Nat.{ℕ}
 use native.Mathlib.Omega.{arith}
 use borrow.Author.Count.{below_none}
 use lib.ListN.{length-replicate}
-use Rattle.finite.specs.Range.{all_to}
 use Rattle.finite.proofs.All.{all_to-none, all_to-more}
 use Rattle.graph.specs.Tests.{most_classes}
 use Rattle.table.specs.Inner.Cells.{matrix_of}

@@ -1,7 +1,7 @@
 -- `matrix_cells::cells_within` meets its contract: the flag is the test of the classes passed.
 use mathlib.Core.Path.{◌≡◌}
 use mathlib.Core.Bool.{◌||◌}
-use Prim.Native.Nat.{ℕ, ◌≤◌, ◌<◌, ◌-◌}
+use Prim.Native.Nat.{ℕ, ◌≤◌, ◌<◌}
 use lib.Dec.{leb, ltb}
 use Rattle.finite.specs.Range.{all_to}
 use Rattle.graph.specs.Graph.{jdm}
@@ -14,6 +14,3 @@ use Rattle.matrix_cells.proofs.cells_within.Given as goal
 abbrev pub invariant-loop-k : goal.invariant-loop-k
 invariant-loop-k st = (st.k ≤ most_classes) × (st.start ≤ st.n) × ((w : ℕ) → w < st.start → class_in st.classes w < st.k)
     × (st.ok ≡ all_to st.k (λ k. all_to most_classes (λ l. ltb l k || leb (jdm st.n (class_in st.classes) (edge st.adjacency) k l) (matrix_of st.cells k l))))
-
-abbrev pub decreases-loop-k : goal.decreases-loop-k
-decreases-loop-k l = most_classes - l.k

@@ -1,11 +1,9 @@
 -- `matrix_cells::class_within` meets its contract: the flag is the test of the cells passed.
 use mathlib.Core.Path.{sym}
-use Prim.Native.Nat.{ℕ, ◌≤◌, ◌-◌}
+use Prim.Native.Nat.{ℕ, ◌≤◌}
 use native.Mathlib.Omega.{arith}
-use lib.Dec.{ltb}
 use borrow.Author.Tests.{lt-ltb, le-ltb}
 use lib.ListN.{length-replicate}
-use Rattle.finite.specs.Range.{all_to}
 use Rattle.finite.proofs.All.{all_to-more, all_to-holds}
 use Rattle.graph.specs.Tests.{most_classes}
 use Rattle.slices.proofs.Zero.{get_or-zeros}
@@ -27,7 +25,6 @@ loop-l-preserved c =
         all_to-more,
         le-ltb c.loop-l.l k h,
         c.loop-l.invariant.2,
-        c.wide32.ensures.0,
         c.count_class.ensures c.loop-l.l h,
         c.upper_cell.ensures.0,
       ),

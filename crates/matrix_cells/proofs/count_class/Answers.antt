@@ -1,9 +1,9 @@
 -- `matrix_cells::count_class` meets its contract: the vertices below w are counted, for each class from k on.
 use mathlib.Core.Path.{sym, ap, ◌∙◌}
-use Prim.Native.Nat.{ℕ, ◌<◌, ◌+◌, ◌*◌, ◌-◌}
+use Prim.Native.Nat.{ℕ, ◌<◌, ◌+◌, ◌*◌}
 use native.Mathlib.Omega.{arith}
 use lib.ListN.{length, get_or, length-set}
-use Rattle.finite.specs.Range.{δ, sum_to}
+use Rattle.finite.specs.Range.{δ}
 use Rattle.finite.proofs.Sum.{sum_to-more}
 use Rattle.layout.specs.Inner.Arrays.{class_in}
 use Rattle.adjacency.specs.Adjacency.{side}
@@ -27,7 +27,7 @@ loop-w-preserved c =
     let q : cls c.loop-w.w < length c.loop-w.have = omega (arith, c.requires.2 c.loop-w.w (omega arith)) in
     let a = more_at c.loop-w.have (cls c.loop-w.w) (row c.loop-w.w) q in
     let m = more_at_most c.loop-w.have (cls c.loop-w.w) (row c.loop-w.w) (255 * c.loop-w.w) q c.loop-w.invariant.3 in
-    rw (c.wide.ensures.0, c.wide32.ensures.0, c.wide-l.ensures.0) (
+    rw (c.from.ensures, c.from-l.ensures) (
       omega arith,
       length-set c.loop-w.have (cls c.loop-w.w) (get_or c.loop-w.have (cls c.loop-w.w) 0 + row c.loop-w.w) ∙ c.loop-w.invariant.1,
       λ j h. rw sum_to-more (a j ∙ ap (λ (x : ℕ). x + δ (cls c.loop-w.w) j * row c.loop-w.w) (c.loop-w.invariant.2 j h)),

@@ -1,6 +1,6 @@
 -- `matrix_cells::count_class` meets its contract: the vertices below w are counted, for each class from k on.
 use mathlib.Core.Path.{◌≡◌}
-use Prim.Native.Nat.{ℕ, ◌≤◌, ◌+◌, ◌*◌, ◌-◌}
+use Prim.Native.Nat.{ℕ, ◌≤◌, ◌+◌, ◌*◌}
 use lib.ListN.{length, get_or}
 use Rattle.finite.specs.Range.{δ, sum_to}
 use Rattle.graph.specs.Tests.{most_classes}
@@ -12,6 +12,3 @@ abbrev pub invariant-loop-w : goal.invariant-loop-w
 invariant-loop-w st = (st.w ≤ st.n) × (length st.have ≡ most_classes)
     × ((l : ℕ) → st.k ≤ l → get_or st.have l 0 ≡ sum_to st.w (λ w. δ (class_in st.classes w) l * get_or st.sums (st.k * side + w) 0))
     × ((l : ℕ) → get_or st.have l 0 ≤ 255 * st.w)
-
-abbrev pub decreases-loop-w : goal.decreases-loop-w
-decreases-loop-w l = l.n - l.w

@@ -1,10 +1,9 @@
 -- `matrix_cells::sum_classes` meets its contract: after v turns the sums are over the first v vertices.
 use mathlib.Core.Path.{sym, ◌∙◌}
-use Prim.Native.Nat.{◌+◌, ◌*◌, ◌-◌}
+use Prim.Native.Nat.{◌+◌, ◌*◌}
 use native.Mathlib.Omega.{arith}
 use Rattle.layout.specs.Inner.Arrays.{class_in}
 use Rattle.adjacency.specs.Adjacency.{side, edge}
-use Rattle.matrix_cells.specs.Inner.Sums.{class_edges}
 use Rattle.adjacency.proofs.Mirrored.{mirrored-simple}
 use Rattle.matrix_cells.proofs.Sums.{class_edges-none, class_edges-le, class_edgess_more}
 use Rattle.matrix_cells.proofs.sum_classes.Goals as goal
@@ -28,8 +27,8 @@ add_row-requires c =
       c.requires.0,
       λ i h. omega (
         arith,
-        c.loop-v.invariant.2 c.wide.result i h,
-        class_edges-le cls E c.wide.result i c.loop-v.v (λ u m. simple.binary u i (omega arith) h),
+        c.loop-v.invariant.2 c.from.result i h,
+        class_edges-le cls E c.from.result i c.loop-v.v (λ u m. simple.binary u i (omega arith) h),
         simple.binary c.loop-v.v i (omega arith) h,
       ),
     )
@@ -40,6 +39,6 @@ loop-v-preserved c =
     let E = edge c.args.adjacency.now in (
       omega arith,
       c.add_row.ensures.long ∙ c.loop-v.invariant.1,
-      class_edgess_more c.args.n cls E c.loop-v.sums _ c.loop-v.v c.wide.result (omega arith) c.wide.ensures.0
+      class_edgess_more c.args.n cls E c.loop-v.sums _ c.loop-v.v c.from.result (omega arith) c.from.ensures
           c.loop-v.invariant.2 c.add_row.ensures,
     )

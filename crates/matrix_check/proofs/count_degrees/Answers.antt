@@ -1,10 +1,7 @@
 -- `matrix_check::count_degrees` meets its contract: after v turns the degrees of the first v vertices are filled in.
 use mathlib.Core.Path.{sym, ◌∙◌}
-use Prim.Native.Nat.{◌-◌}
 use native.Mathlib.Omega.{arith}
-use Rattle.finite.specs.Inner.Fill.{fill_to}
 use Rattle.finite.proofs.Fold.{fill_to-none, fill_to-more}
-use Rattle.graph.specs.Graph.{degree}
 use Rattle.matrix_check.proofs.count_degrees.Goals as goal
 
 pub loop-v-init : goal.loop-v-init

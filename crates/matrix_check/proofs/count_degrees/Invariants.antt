@@ -1,6 +1,6 @@
 -- `matrix_check::count_degrees` meets its contract: after v turns the degrees of the first v vertices are filled in.
 use mathlib.Core.Path.{◌≡◌}
-use Prim.Native.Nat.{◌≤◌, ◌-◌}
+use Prim.Native.Nat.{◌≤◌}
 use lib.ListN.{replicate}
 use Rattle.finite.specs.Inner.Fill.{fill_to}
 use Rattle.graph.specs.Graph.{degree}
@@ -10,6 +10,3 @@ use Rattle.matrix_check.proofs.count_degrees.Given as goal
 
 abbrev pub invariant-loop-v : goal.invariant-loop-v
 invariant-loop-v l = (l.v ≤ l.n) × (l.degrees ≡ fill_to l.v (degree l.n (edge l.adjacency)) (replicate most_vertices 0))
-
-abbrev pub decreases-loop-v : goal.decreases-loop-v
-decreases-loop-v l = l.n - l.v

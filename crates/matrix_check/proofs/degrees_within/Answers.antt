@@ -1,13 +1,10 @@
 -- `matrix_check::degrees_within` meets its contract: the flag is the test of the vertices passed.
-use Prim.Native.Nat.{◌-◌}
 use native.Mathlib.Omega.{arith}
-use Rattle.finite.specs.Range.{all_to}
 use Rattle.finite.proofs.All.{all_to-none, all_to-more}
-use Rattle.graph.specs.Tests.{class_degree}
 use Rattle.matrix_check.proofs.degrees_within.Goals as goal
 
 pub loop-v-init : goal.loop-v-init
 loop-v-init c = (omega arith, rw all_to-none)
 
 pub loop-v-preserved : goal.loop-v-preserved
-loop-v-preserved c = (omega arith, rw (all_to-more, c.loop-v.invariant.1, c.class_degree.ensures, c.wide.ensures.0))
+loop-v-preserved c = (omega arith, rw (all_to-more, c.loop-v.invariant.1, c.class_degree.ensures, c.from.ensures))

@@ -1,11 +1,7 @@
 -- `matrix_check::is_mirrored` meets its contract: the rows passed are mirrored.
 use mathlib.Core.Path.{sym, ◌∙◌}
-use mathlib.Core.Bool.{true}
-use Prim.Native.Nat.{◌-◌}
 use native.Mathlib.Omega.{arith}
-use Rattle.finite.specs.Range.{all_to}
 use Rattle.finite.proofs.All.{all_to-none, all_to-more, all_to-fails, and_both}
-use Rattle.adjacency.specs.Adjacency.{row_mirrored}
 use Rattle.matrix_check.proofs.is_mirrored.Goals as goal
 
 pub loop-v-init : goal.loop-v-init

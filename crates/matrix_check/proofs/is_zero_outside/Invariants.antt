@@ -9,6 +9,3 @@ use Rattle.matrix_check.proofs.is_zero_outside.Given as goal
 
 abbrev pub invariant-loop-v : goal.invariant-loop-v
 invariant-loop-v l = (l.v ≤ l.n) × (l.ok ≡ all_to l.v (λ v. all_zero (take (side - l.n) (drop (v * side + l.n) l.adjacency))))
-
-abbrev pub decreases-loop-v : goal.decreases-loop-v
-decreases-loop-v l = l.n - l.v

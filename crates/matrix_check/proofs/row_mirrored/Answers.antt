@@ -1,7 +1,5 @@
 -- `matrix_check::row_mirrored` meets its contract: the flag is the test of the pairs passed.
-use Prim.Native.Nat.{◌-◌}
 use native.Mathlib.Omega.{arith}
-use Rattle.finite.specs.Range.{all_to}
 use Rattle.finite.proofs.All.{all_to-none, all_to-more}
 use Rattle.matrix_check.proofs.row_mirrored.Goals as goal
 
