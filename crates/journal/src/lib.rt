@@ -8,7 +8,7 @@ ghost use Rattle.table.specs.Block.{most_blocks, block_most, block_length, recor
 ghost use Rattle.table.specs.Inner.Cells.{cells_size, matrix_of, AtMost, cell_sum_most};
 ghost use Rattle.journal.specs.Journal.{journal_size, phase, blocks, slot_at, slot_length, block_from, block_at, slot_rest, slot_ok, journal_ok, jdm_of, isolated_of, same_block, stored, laid};
 
-use slices::{all_zero, same_bytes, wide};
+use slices::{all_zero, same_bytes};
 use table::cells::CELLS;
 use table::record::{MAX_BLOCK_BYTES, MAX_BLOCKS, RECORD_BYTES, block_length, first_bad};
 
@@ -26,14 +26,14 @@ pub fn phase_of(journal: &[u8]) -> usize
     requires { length journal.now ≡ journal_size }
     ensures { (result ≡ phase journal.now) × (result < 256) }
 {
-    wide(journal[0])
+    usize::from(journal[0])
 }
 
 pub fn block_count(journal: &[u8]) -> usize
     requires { length journal.now ≡ journal_size }
     ensures { (result ≡ blocks journal.now) × (result < 256) }
 {
-    wide(journal[1])
+    usize::from(journal[1])
 }
 
 // Where slot i begins.
@@ -57,7 +57,7 @@ pub fn slot_length(journal: &[u8], i: usize) -> usize
     requires { (length journal.now ≡ journal_size) × (i < most_blocks) }
     ensures { (result ≡ slot_length journal.now i) × (result < 256) }
 {
-    wide(journal[slot_at(i)])
+    usize::from(journal[slot_at(i)])
 }
 
 // The block of slot i, a part of the journal itself.
