@@ -11,7 +11,7 @@ ghost use Rattle.swapping.specs.Theorems.{Matrix};
 ghost use Rattle.swap_log.specs.Log.{most_swaps, log_size, swap_count, swap_at, undo_all, zero_after, log_ok, empty_log, written};
 
 use layout::{MAX_VERTICES, classes};
-use slices::{clear_bytes, put, wide};
+use slices::{clear_bytes, put};
 use swapping::{Swap, can_swap, swap_bytes};
 use table::cells::CELLS;
 use table::class::MAX_CLASSES;
@@ -29,7 +29,7 @@ pub fn swap_count(log: &[u8]) -> usize
     requires { length log.now ≡ log_size }
     ensures { (result ≡ swap_count log.now) × (result < 65536) × (get_or log.now 0 0 < 256) }
 {
-    wide(log[0]) + 256 * wide(log[1])
+    usize::from(log[0]) + 256 * usize::from(log[1])
 }
 
 // Record i.
@@ -39,10 +39,10 @@ pub fn swap_at(log: &[u8], i: usize) -> Swap
 {
     let at = COUNT_BYTES + SWAP_BYTES * i;
     Swap {
-        a: wide(log[at]),
-        b: wide(log[at + 1]),
-        c: wide(log[at + 2]),
-        d: wide(log[at + 3]),
+        a: usize::from(log[at]),
+        b: usize::from(log[at + 1]),
+        c: usize::from(log[at + 2]),
+        d: usize::from(log[at + 3]),
     }
 }
 

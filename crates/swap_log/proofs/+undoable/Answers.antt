@@ -1,13 +1,11 @@
 -- `swap_log::undoable` meets its contract. Its measure is the number of records.
 use mathlib.Core.Path.{◌≡◌, refl, sym, ap, ◌∙◌}
-use mathlib.Core.Bool.{true}
 use mathlib.Core.List.{List}
 use Prim.Native.Nat.{ℕ, ◌-◌}
 use native.Mathlib.Omega.{arith}
 use Rattle.layout.specs.Inner.Arrays.{class_in}
 use Rattle.swapping.specs.declared.Swap.{Swap}
-use Rattle.swapping.specs.Swap.{can_swap, swap_bytes, undoing}
-use Rattle.swapping.specs.Theorems.{Matrix, SwapWorks}
+use Rattle.swapping.specs.Swap.{swap_bytes, undoing}
 use Rattle.swapping.proofs.Bytes.{swap-inside, swaps-work}
 use Rattle.swap_log.specs.Log.{undo_all}
 use Rattle.swap_log.proofs.Undo.{undo-none, undo-refused, undo-allowed}
