@@ -29,7 +29,7 @@ pub fn swap_count(log: &[u8]) -> usize
     requires { length log.now ≡ log_size }
     ensures { (result ≡ swap_count log.now) × (result < 65536) × (get_or log.now 0 0 < 256) }
 {
-    usize::from(log[0]) + 256 * usize::from(log[1])
+    usize::from(u16::from_le_bytes([log[0], log[1]]))
 }
 
 // Record i.

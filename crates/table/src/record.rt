@@ -27,7 +27,7 @@ pub fn record_count(block: &[u8], i: usize) -> usize
     ensures { (result ≡ record_count block.now i) × (result ≤ record_most) }
 {
     let at = RECORD_BYTES * i;
-    usize::from(block[at + 2]) + 256 * usize::from(block[at + 3])
+    usize::from(u16::from_le_bytes([block[at + 2], block[at + 3]]))
 }
 
 // A cell: two degrees, k not above l; or isolated vertices: 0 and 0.
