@@ -9,11 +9,9 @@ use native.Mathlib.Omega.{arith}
 use lib.Dec.{ltb}
 use lib.ListN.{length, get_or}
 use borrow.Author.Tests.{ltb-true}
-use Rattle.answer.specs.Refusals.{unless_stopped}
+use Rattle.answer.specs.Refusals.{Verdict, Go, unless_stopped}
 use Rattle.answer.specs.declared.AddAnswer.{AddAnswer}
 use Rattle.answer.specs.declared.AddAnswer.TheVariants.{Added, Refused}
-use Rattle.answer.specs.declared.Verdict.{Verdict}
-use Rattle.answer.specs.declared.Verdict.TheVariants.{Go}
 use Rattle.graph.specs.Graph.{jdm, DegreeTable}
 use Rattle.graph.specs.Target.{is_short}
 use Rattle.graph.specs.Numbering.{total}

@@ -2,11 +2,10 @@
 #![tactic(auto)]
 
 ghost use Rattle.std.specs.Prelude.{◌≡◌, ◌+◌, ◌<◌, min, max, ltb, length, get_or};
-ghost use Rattle.answer.specs.Refusals.{refuse};
+ghost use Rattle.answer.specs.Refusals.{Go, refuse};
 ghost use Rattle.answer.specs.declared.Cause.TheVariants.{CellNotShort};
 ghost use Rattle.graph.specs.Tests.{most_classes, vertices};
 ghost use Rattle.table.specs.Inner.Cells.{matrix_of, AtMost, cell_sum_most};
-ghost use Rattle.answer.specs.declared.Verdict.TheVariants.{Go};
 ghost use Rattle.layout.specs.Inner.Arrays.{count_in, table_in, Counts};
 ghost use Rattle.journal.specs.Journal.{phase_laid, table_of};
 ghost use Rattle.adjacency.specs.Adjacency.{adjacency_size, edge};
@@ -20,7 +19,7 @@ ghost use Rattle.add_edge.specs.Add.{add_unlinked, add_laid, add_answer, add_aft
 ghost use Rattle.add_edge.specs.Inner.Work.{Unlinked, end_in, added_adjacency};
 
 use adjacency::edge_at;
-use answer::{AddAnswer, Cause, Refusal, Verdict, refuse};
+use answer::{AddAnswer, Cause, Refusal, refuse};
 use classes::{STARTS, block_sum, class_at, starts};
 use joining::{both_reliefs, join};
 use layout::{MAX_VERTICES, vertex_count};
@@ -110,16 +109,13 @@ fn add_laid(
     ensures adjacency_after { adjacency.new ≡ added_adjacency (add_laid (state_of journal.now adjacency.old) v w) (table_of journal.now) adjacency.old v w }
 {
     let n = vertex_count(cells, counts);
-    let verdict = pair_check(n, v, w);
-    match verdict {
-        Verdict::Stop(r) => AddAnswer::Refused(r),
-        Verdict::Go => {
-            if edge_at(adjacency, v, w) != 0 {
-                return AddAnswer::Refused(refuse(Cause::EdgePresent, 0, 0));
-            }
-            add_unlinked(adjacency, degrees, cells, counts, n, v, w)
-        }
+    if let Err(r) = pair_check(n, v, w) {
+        return AddAnswer::Refused(r);
     }
+    if edge_at(adjacency, v, w) != 0 {
+        return AddAnswer::Refused(refuse(Cause::EdgePresent, 0, 0));
+    }
+    add_unlinked(adjacency, degrees, cells, counts, n, v, w)
 }
 
 // Behind the front: the laid matrix and its log, then the pair. A join empties the log.
@@ -149,13 +145,10 @@ fn add_checked(
         return AddAnswer::Refused(refuse(Cause::InvalidState, 0, 0));
     }
     let answer = add_laid(journal, adjacency, &cells, &counts, &mut degrees, v, w);
-    match answer {
-        AddAnswer::Refused(r) => AddAnswer::Refused(r),
-        AddAnswer::Added(x) => {
-            empty_log(log);
-            AddAnswer::Added(x)
-        }
+    if let AddAnswer::Added(_) = answer {
+        empty_log(log);
     }
+    answer
 }
 
 pub fn add_edge(
@@ -169,9 +162,8 @@ pub fn add_edge(
     ensures adjacency_after { adjacency.new ≡ (add_after (loan_of journal.now adjacency.old log.old) v w).state.adjacency }
     ensures log_after { log.new ≡ (add_after (loan_of journal.now adjacency.old log.old) v w).log }
 {
-    let verdict = loan_check(journal, adjacency, log);
-    match verdict {
-        Verdict::Stop(r) => AddAnswer::Refused(r),
-        Verdict::Go => add_checked(journal, adjacency, log, v, w),
+    match loan_check(journal, adjacency, log) {
+        Err(r) => AddAnswer::Refused(r),
+        Ok(()) => add_checked(journal, adjacency, log, v, w),
     }
 }

@@ -1,14 +1,22 @@
 -- Refusals as values, and the chain of checks that document 01's table is.
 -- Assumes nothing.
-use Rattle.std.specs.Prelude.{Bool, true, false, ℕ, leb}
+use Rattle.std.specs.Prelude.{Bool, true, false, ℕ, leb, Result, Ok, Err}
 use Rattle.answer.specs.declared.Cause.{Cause}
 use Rattle.answer.specs.declared.Cause.TheVariants.{OutputTooShort}
 use Rattle.answer.specs.declared.Refusal.{Refusal}
-use Rattle.answer.specs.declared.Verdict.{Verdict}
-use Rattle.answer.specs.declared.Verdict.TheVariants.{Go, Stop}
 
 abbrev pub refuse : Cause → ℕ → ℕ → Refusal
 refuse c a b = record { cause = c; first = a; second = b }
+
+-- whether a call may go on: what a check answers. Document 01's words: it goes, or it stops, with a refusal
+abbrev pub Verdict : Type 0
+Verdict = Result (Unit {0}) Refusal
+
+abbrev pub Go : Verdict
+Go = Ok tt
+
+abbrev pub Stop : Refusal → Verdict
+Stop r = Err r
 
 abbrev pub stopped : Cause → Verdict
 stopped c = Stop (refuse c 0 0)
@@ -25,5 +33,5 @@ module _ {A : Type 0} where
 
   -- What a verdict lets through: its refusal, or the rest.
   abbrev pub unless_stopped : Verdict → (Refusal → A) → A → A
-  unless_stopped Go refused rest = rest
-  unless_stopped (Stop r) refused rest = refused r
+  unless_stopped (Ok _) refused rest = rest
+  unless_stopped (Err r) refused rest = refused r

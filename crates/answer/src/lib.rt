@@ -47,13 +47,6 @@ pub struct Refusal {
     pub second: usize,
 }
 
-// Whether a call may go on.
-#[derive(Clone, Copy)]
-pub enum Verdict {
-    Go,
-    Stop(Refusal),
-}
-
 #[derive(Clone, Copy)]
 pub enum ClearAnswer {
     Cleared,
@@ -170,11 +163,11 @@ pub fn refuse(cause: Cause, first: usize, second: usize) -> Refusal
     }
 }
 
-// The verdict that refuses, with no place named.
-pub fn stopped(cause: Cause) -> Verdict
+// What a check answers that refuses, with no place named.
+pub fn stopped(cause: Cause) -> Result<(), Refusal>
     ensures { result ≡ stopped cause }
 {
-    Verdict::Stop(refuse(cause, 0, 0))
+    Err(refuse(cause, 0, 0))
 }
 
 // Document 01's number of a cause.

@@ -3,7 +3,7 @@
 #![tactic(auto)]
 
 ghost use Rattle.std.specs.Prelude.{◌≡◌, length};
-ghost use Rattle.answer.specs.declared.Verdict.TheVariants.{Go};
+ghost use Rattle.answer.specs.Refusals.{Go};
 ghost use Rattle.journal.specs.Journal.{phase_laid};
 ghost use Rattle.state.specs.State.{state_of};
 ghost use Rattle.state.specs.Checks.{phase_verdict};
@@ -16,7 +16,7 @@ ghost use Rattle.completion.specs.Inner.Laid.{adjacency_ran};
 mod fill;
 
 use crate::fill::fill_all;
-use answer::{Cause, CompleteAnswer, Verdict, refuse};
+use answer::{Cause, CompleteAnswer, refuse};
 use join_records::JOIN_RECORD_BYTES;
 use layout::MAX_VERTICES;
 use loan::{loan_check, open_loan};
@@ -78,13 +78,10 @@ fn complete_checked(
         return CompleteAnswer::Refused(refuse(Cause::InvalidState, 0, 0));
     }
     let answer = complete_laid(journal, adjacency, &cells, &counts, &mut degrees, output);
-    match answer {
-        CompleteAnswer::Refused(r) => CompleteAnswer::Refused(r),
-        CompleteAnswer::Completed(joins, switches, n) => {
-            log_after(log, joins);
-            CompleteAnswer::Completed(joins, switches, n)
-        }
+    if let CompleteAnswer::Completed(joins, _, _) = answer {
+        log_after(log, joins);
     }
+    answer
 }
 
 pub fn complete(
@@ -98,9 +95,8 @@ pub fn complete(
     ensures log_after { log.new ≡ (complete_after (loan_of journal.now adjacency.old log.old) (length output.old)).log }
     ensures output_after { output.new ≡ complete_output (loan_of journal.now adjacency.old log.old) output.old }
 {
-    let verdict = loan_check(journal, adjacency, log);
-    match verdict {
-        Verdict::Stop(r) => CompleteAnswer::Refused(r),
-        Verdict::Go => complete_checked(journal, adjacency, log, output),
+    match loan_check(journal, adjacency, log) {
+        Err(r) => CompleteAnswer::Refused(r),
+        Ok(()) => complete_checked(journal, adjacency, log, output),
     }
 }

@@ -8,7 +8,7 @@ use Rattle.answer.specs.declared.CompleteAnswer.{CompleteAnswer}
 use Rattle.answer.specs.declared.Refusal.{Refusal}
 use Rattle.answer.specs.declared.ShuffleAnswer.{ShuffleAnswer}
 use Rattle.answer.specs.declared.ShuffleAnswer.TheVariants.{Completed, Refused}
-use Rattle.answer.specs.declared.Verdict.TheVariants.{Go}
+use Rattle.answer.specs.Refusals.{Go}
 use Rattle.state.specs.State.{State}
 use Rattle.loan.specs.Loan.{Loan}
 use Rattle.loan.specs.Checks.{laid_verdict}

@@ -7,7 +7,7 @@ use native.Mathlib.Omega.{arith}
 use lib.ListN.{length, get_or, take, replicate, length-replicate}
 use Rattle.finite.proofs.Fold.{fill_to-at}
 use Rattle.answer.specs.declared.ShuffleAnswer.TheVariants.{Completed}
-use Rattle.answer.specs.declared.Verdict.TheVariants.{Go}
+use Rattle.answer.specs.Refusals.{Go}
 use Rattle.graph.specs.Graph.{DegreeTable}
 use Rattle.graph.specs.Tests.{vertices, vertex_class}
 use Rattle.table.specs.Inner.Cells.{matrix_of}

@@ -3,7 +3,7 @@
 #![tactic(auto)]
 
 ghost use Rattle.std.specs.Prelude.{◌≡◌, length};
-ghost use Rattle.answer.specs.declared.Verdict.TheVariants.{Go};
+ghost use Rattle.answer.specs.Refusals.{Go};
 ghost use Rattle.journal.specs.Journal.{phase_laid};
 ghost use Rattle.state.specs.State.{state_of};
 ghost use Rattle.state.specs.Checks.{phase_verdict};
@@ -18,7 +18,7 @@ mod fill;
 mod step;
 
 use crate::fill::shuffle_cells;
-use answer::{Cause, ShuffleAnswer, Verdict, refuse};
+use answer::{Cause, ShuffleAnswer, refuse};
 use join_records::JOIN_RECORD_BYTES;
 use layout::MAX_VERTICES;
 use loan::{loan_check, open_loan};
@@ -96,13 +96,10 @@ fn shuffle_checked(
         return ShuffleAnswer::Refused(refuse(Cause::InvalidState, 0, 0));
     }
     let answer = shuffle_laid(journal, adjacency, &cells, &counts, &mut degrees, x, output);
-    match answer {
-        ShuffleAnswer::Refused(r) => ShuffleAnswer::Refused(r),
-        ShuffleAnswer::Completed(joins, switches, n, last) => {
-            log_after(log, joins);
-            ShuffleAnswer::Completed(joins, switches, n, last)
-        }
+    if let ShuffleAnswer::Completed(joins, _, _, _) = answer {
+        log_after(log, joins);
     }
+    answer
 }
 
 pub fn complete_shuffled(
@@ -117,9 +114,8 @@ pub fn complete_shuffled(
     ensures log_after { log.new ≡ (shuffle_after (loan_of journal.now adjacency.old log.old) x (length output.old)).log }
     ensures output_after { output.new ≡ shuffle_output (loan_of journal.now adjacency.old log.old) x output.old }
 {
-    let verdict = loan_check(journal, adjacency, log);
-    match verdict {
-        Verdict::Stop(r) => ShuffleAnswer::Refused(r),
-        Verdict::Go => shuffle_checked(journal, adjacency, log, x, output),
+    match loan_check(journal, adjacency, log) {
+        Err(r) => ShuffleAnswer::Refused(r),
+        Ok(()) => shuffle_checked(journal, adjacency, log, x, output),
     }
 }

@@ -6,12 +6,11 @@ use mathlib.Core.List.{List, [], ◌∷◌}
 use Prim.Native.Nat.{ℕ, ◌+◌, ◌%◌, ◌≤◌}
 use lib.Dec.{leb, ltb, eqb}
 use lib.ListN.{length}
-use Rattle.answer.specs.Refusals.{refuse, stopped, unless, unless_stopped}
+use Rattle.std.specs.Prelude.{Ok, Err}
+use Rattle.answer.specs.Refusals.{Verdict, Go, Stop, refuse, stopped, unless, unless_stopped}
 use Rattle.answer.specs.Numbers.{number_of, one_of}
 use Rattle.answer.specs.declared.Cause.TheVariants.{WrongLength, InvalidState, WrongPhase, BlockLength, BadRecord, BlockNumber, BlockDiffers, JournalFull, OddDiagonal, RowNotDivisible, CellTooLarge, TooManyVertices, NoSuchVertex, SameVertex, EdgePresent, CellNotShort, EdgeAbsent, OutputTooShort, BadEdgeList, DegreeTooHigh, Graph6Text, Graph6Size, SwapNotAllowed, LogFull, LogEmpty}
 use Rattle.answer.specs.declared.Refusal.{Refusal}
-use Rattle.answer.specs.declared.Verdict.{Verdict}
-use Rattle.answer.specs.declared.Verdict.TheVariants.{Go, Stop}
 use Rattle.answer.specs.declared.switches.Switches.{Switches}
 use Rattle.answer.specs.declared.ClearAnswer.{ClearAnswer}
 use Rattle.answer.specs.declared.ClearAnswer.TheVariants as Clear
@@ -54,8 +53,8 @@ use Rattle.demands.specs.Demand1.{CarriesOneOf}
 
 -- What is claimed of an answer: a refusal's number is one of these; of a written length, that it is n and fits m bytes.
 abbrev pub OfVerdict : List ℕ → Verdict → Type 0
-OfVerdict ns Go = Unit {0}
-OfVerdict ns (Stop r) = CarriesOneOf r ns
+OfVerdict ns (Ok _) = Unit {0}
+OfVerdict ns (Err r) = CarriesOneOf r ns
 
 abbrev pub OfClear : List ℕ → ClearAnswer → Type 0
 OfClear ns Clear.Cleared = Unit {0}
@@ -109,8 +108,8 @@ OfRead ns n m (Read.Refused r) = CarriesOneOf r ns
 -- behind a verdict: its refusal, or what is claimed of the rest
 pub behind : {A : Type 0} (Of : List ℕ → A → Type 0) (ns : List ℕ) (v : Verdict) (refused : Refusal → A) (rest : A)
     → ((r : Refusal) → CarriesOneOf r ns → Of ns (refused r)) → OfVerdict ns v → Of ns rest → Of ns (unless_stopped v refused rest)
-behind Of ns Go refused rest f h x = x
-behind Of ns (Stop r) refused rest f h x = f r h
+behind Of ns (Ok _) refused rest f h x = x
+behind Of ns (Err r) refused rest f h x = f r h
 
 -- the checks 1 and 2, and 3: of a state, and of a loan
 first_chain : (ns : List ℕ) (a b : Bool) → OfVerdict (1 ∷ 2 ∷ ns) (unless a (stopped WrongLength) (unless b (stopped InvalidState) Go))

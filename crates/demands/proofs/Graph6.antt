@@ -9,12 +9,11 @@ use native.Mathlib.Omega.{arith}
 use lib.Dec.{leb}
 use lib.ListN.{length}
 use borrow.Author.Tests.{leb-true, le-leb}
+use Rattle.std.specs.Prelude.{Ok, Err}
 use Rattle.graph.specs.Graph.{Graph, Simple, SameOn}
-use Rattle.answer.specs.Refusals.{unless_stopped}
+use Rattle.answer.specs.Refusals.{Verdict, Go, unless_stopped}
 use Rattle.answer.specs.Numbers.{number_of}
 use Rattle.answer.specs.declared.Refusal.{Refusal}
-use Rattle.answer.specs.declared.Verdict.{Verdict}
-use Rattle.answer.specs.declared.Verdict.TheVariants.{Go, Stop}
 use Rattle.answer.specs.declared.WrittenAnswer.{WrittenAnswer}
 use Rattle.answer.specs.declared.WrittenAnswer.TheVariants.{Written, Refused}
 use Rattle.answer.specs.declared.ReadAnswer.{ReadAnswer}
@@ -171,8 +170,8 @@ other_than_19 : (ns : List ℕ) → one_of 19 ns ≡ false → (r : Refusal) →
 other_than_19 ns off r h e = true≢false (sym (rw e at h) ∙ off)
 
 same_refusal : (v : Verdict) (a b : WrittenAnswer) (r : Refusal) → (a ≡ Refused r → ⊥) → unless_stopped v Refused a ≡ Refused r → unless_stopped v Refused b ≡ Refused r
-same_refusal Go a b r other h = absurd (other h)
-same_refusal (Stop s) a b r other h = h
+same_refusal (Ok _) a b r other h = absurd (other h)
+same_refusal (Err s) a b r other h = h
 
 pub graph6 : Graph6
 graph6 =

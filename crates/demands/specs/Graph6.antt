@@ -5,7 +5,7 @@ use Rattle.std.specs.Prelude.{◌≡◌, true, List, ℕ, ◌≤◌, ◌<◌, le
 use Rattle.graph.specs.Graph.{Graph, Simple, SameOn}
 use Rattle.answer.specs.Numbers.{number_of}
 use Rattle.answer.specs.declared.Refusal.{Refusal}
-use Rattle.answer.specs.declared.Verdict.TheVariants.{Go}
+use Rattle.answer.specs.Refusals.{Go}
 use Rattle.answer.specs.declared.WrittenAnswer.TheVariants.{Written, Refused}
 use Rattle.answer.specs.declared.ReadAnswer.TheVariants.{Read}
 use Rattle.layout.specs.Layout.{most_vertices}

@@ -6,7 +6,7 @@ use Prim.Native.Nat.{ℕ, ◌*◌, ◌/◌, ◌≤◌, ◌<◌}
 use native.Mathlib.Omega.{arith}
 use lib.ListN.{length, get_or, take, drop}
 use Rattle.finite.specs.Range.{sum_to}
-use Rattle.answer.specs.declared.Verdict.TheVariants.{Go}
+use Rattle.answer.specs.Refusals.{Go}
 use Rattle.graph.specs.Graph.{edges}
 use Rattle.graph.specs.Tests.{most_degree, vertices}
 use Rattle.slices.proofs.Part.{length_part, get_or-part}

@@ -3,7 +3,7 @@
 
 ghost use Rattle.std.specs.Prelude.{◌≡◌, ◌≤◌, length};
 ghost use Rattle.std.proofs.lemmas.List.Edits.{sets};
-ghost use Rattle.answer.specs.declared.Verdict.TheVariants.{Go};
+ghost use Rattle.answer.specs.Refusals.{Go};
 ghost use Rattle.journal.specs.Journal.{phase_laid};
 ghost use Rattle.adjacency.specs.Adjacency.{adjacency_size, side};
 ghost use Rattle.state.specs.State.{state_of};
@@ -12,7 +12,7 @@ ghost use Rattle.state.specs.Inner.Opened.{laid_front, Opened};
 ghost use Rattle.edge_list.specs.List.{list_bytes, list_answer, list_output};
 
 use adjacency::{SIDE, edge_total};
-use answer::{Cause, Verdict, WrittenAnswer, refuse};
+use answer::{Cause, WrittenAnswer, refuse};
 use edge_lists::put_row;
 use layout::{MAX_VERTICES, vertex_count};
 use state::{laid_check, open};
@@ -72,9 +72,8 @@ pub fn edge_list(journal: &[u8], adjacency: &[u8], output: &mut [u8]) -> Written
     ensures value { result ≡ list_answer (state_of journal.now adjacency.now) (length output.old) }
     ensures output_after { output.new ≡ list_output (state_of journal.now adjacency.now) output.old }
 {
-    let verdict = laid_check(journal, adjacency);
-    match verdict {
-        Verdict::Stop(r) => WrittenAnswer::Refused(r),
-        Verdict::Go => list_checked(journal, adjacency, output),
+    match laid_check(journal, adjacency) {
+        Err(r) => WrittenAnswer::Refused(r),
+        Ok(()) => list_checked(journal, adjacency, output),
     }
 }

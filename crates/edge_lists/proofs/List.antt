@@ -18,7 +18,7 @@ use Rattle.finite.proofs.Sum.{sum_to-none, sum_to-more, sum_to-zero}
 use Rattle.graph.specs.Graph.{Graph, Simple, edges, at_edge, AddsEdge}
 use Rattle.graph.proofs.Edge.{Place, forth, back, elsewhere, place}
 use Rattle.graph.proofs.Update.{simple_adds, edges-adds}
-use Rattle.answer.specs.declared.Verdict.TheVariants.{Go}
+use Rattle.answer.specs.Refusals.{Go}
 use Rattle.answer.proofs.Checks.{unless_go}
 use Rattle.layout.specs.Layout.{most_vertices}
 use Rattle.edge_lists.specs.EdgeList.{listed, end_v, end_w, rises, good_edge, first_bad_edge, graph_of, list_verdict}

@@ -13,7 +13,7 @@ use Rattle.finite.specs.Range.{bit, sum_to}
 use Rattle.finite.proofs.All.{and_left, and_both}
 use Rattle.finite.proofs.Lowest.{lowest-none}
 use Rattle.finite.proofs.Sum.{sum_to-cong}
-use Rattle.answer.specs.declared.Verdict.TheVariants.{Go}
+use Rattle.answer.specs.Refusals.{Go}
 use Rattle.graph.specs.Graph.{Graph, Simple, at_edge, SameOn}
 use Rattle.graph.proofs.Edge.{at_edge-sum}
 use Rattle.layout.specs.Layout.{most_vertices}

@@ -4,10 +4,8 @@
 use Rattle.std.specs.Prelude.{Bool, ◌&&◌, ◌||◌, not, cond, List, [], ◌∷◌, ℕ, ◌+◌, ◌-◌, ◌*◌, ◌/◌, ◌%◌, eqb, ltb, leb, length, get_or}
 use Rattle.finite.specs.Range.{sum_to, lowest, cat_to}
 use Rattle.graph.specs.Graph.{Graph, at_edge}
-use Rattle.answer.specs.Refusals.{refuse, unless}
+use Rattle.answer.specs.Refusals.{Verdict, Go, Stop, refuse, unless}
 use Rattle.answer.specs.declared.Cause.TheVariants.{BadEdgeList}
-use Rattle.answer.specs.declared.Verdict.{Verdict}
-use Rattle.answer.specs.declared.Verdict.TheVariants.{Go, Stop}
 use Rattle.layout.specs.Layout.{most_vertices}
 
 -- how many whole edges the bytes hold, and the two ends of edge i

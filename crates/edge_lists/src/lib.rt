@@ -6,7 +6,7 @@ ghost use Rattle.std.proofs.lemmas.List.Edits.{sets};
 ghost use Rattle.layout.specs.Layout.{most_vertices};
 ghost use Rattle.edge_lists.specs.EdgeList.{rises, good_edge, first_bad_edge, list_verdict, edge_bytes, row_bytes};
 
-use answer::{Cause, Verdict, refuse};
+use answer::{Cause, Refusal, refuse};
 use layout::MAX_VERTICES;
 use slices::wide;
 
@@ -51,21 +51,21 @@ fn first_bad_edge(edges: &[u8], total: usize) -> usize
 }
 
 // The checks 19: the total, the length, the edges.
-pub fn list_check(edges: &[u8], total: usize) -> Verdict
+pub fn list_check(edges: &[u8], total: usize) -> Result<(), Refusal>
     ensures { result ≡ list_verdict edges.now total }
 {
     if MAX_VERTICES < total {
-        return Verdict::Stop(refuse(Cause::BadEdgeList, 0, 0));
+        return Err(refuse(Cause::BadEdgeList, 0, 0));
     }
     let n = edges.len() / 2;
     if edges.len() % 2 != 0 {
-        return Verdict::Stop(refuse(Cause::BadEdgeList, n, 0));
+        return Err(refuse(Cause::BadEdgeList, n, 0));
     }
     let bad = first_bad_edge(edges, total);
     if bad != n {
-        return Verdict::Stop(refuse(Cause::BadEdgeList, bad, 0));
+        return Err(refuse(Cause::BadEdgeList, bad, 0));
     }
-    Verdict::Go
+    Ok(())
 }
 
 // The bytes of the edge v – w, if the row of v has it, written at place at. The place behind them.

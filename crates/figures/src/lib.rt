@@ -2,7 +2,7 @@
 #![tactic(auto)]
 
 ghost use Rattle.std.specs.Prelude.{◌≡◌, false};
-ghost use Rattle.answer.specs.declared.Verdict.TheVariants.{Go};
+ghost use Rattle.answer.specs.Refusals.{Go};
 ghost use Rattle.journal.specs.Journal.{phase_laid, phase};
 ghost use Rattle.state.specs.State.{state_of};
 ghost use Rattle.state.specs.Checks.{phase_verdict};
@@ -10,7 +10,7 @@ ghost use Rattle.state.specs.Inner.Opened.{front_verdict, Opened};
 ghost use Rattle.figures.specs.Figures.{figures_answer, figures_of};
 
 use adjacency::edge_total;
-use answer::{Cause, Figures, FiguresAnswer, Verdict, refuse};
+use answer::{Cause, Figures, FiguresAnswer, refuse};
 use journal::{PHASE_LAID, PHASE_TAKING, block_count, phase_of};
 use layout::{MAX_VERTICES, edges_wanted, vertex_count};
 use state::{front_check, open};
@@ -58,20 +58,17 @@ fn figures_checked(journal: &[u8], adjacency: &[u8]) -> FiguresAnswer
 pub fn figures(journal: &[u8], adjacency: &[u8]) -> FiguresAnswer
     ensures { result ≡ figures_answer (state_of journal.now adjacency.now) }
 {
-    let verdict = front_check(journal, adjacency);
-    match verdict {
-        Verdict::Stop(r) => FiguresAnswer::Refused(r),
-        Verdict::Go => {
-            if phase_of(journal) == PHASE_TAKING {
-                return FiguresAnswer::Reported(Figures {
-                    phase: PHASE_TAKING,
-                    blocks: block_count(journal),
-                    vertices: 0,
-                    wanted: 0,
-                    laid: 0,
-                });
-            }
-            figures_checked(journal, adjacency)
-        }
+    if let Err(r) = front_check(journal, adjacency) {
+        return FiguresAnswer::Refused(r);
     }
+    if phase_of(journal) == PHASE_TAKING {
+        return FiguresAnswer::Reported(Figures {
+            phase: PHASE_TAKING,
+            blocks: block_count(journal),
+            vertices: 0,
+            wanted: 0,
+            laid: 0,
+        });
+    }
+    figures_checked(journal, adjacency)
 }

@@ -3,14 +3,14 @@
 
 ghost use Rattle.std.specs.Prelude.{◌≡◌, ◌+◌, ◌/◌, ◌%◌, ◌≤◌, ◌<◌, length, get_or};
 ghost use Rattle.std.proofs.lemmas.List.Edits.{sets};
-ghost use Rattle.answer.specs.declared.Verdict.TheVariants.{Go};
+ghost use Rattle.answer.specs.Refusals.{Go};
 ghost use Rattle.layout.specs.Layout.{most_vertices};
 ghost use Rattle.edge_lists.specs.EdgeList.{listed, list_verdict};
 ghost use Rattle.graph6.specs.Format.{offset, body_most, size_bytes};
 ghost use Rattle.graph6_write.specs.Write.{write_listed, write_answer, write_output};
 ghost use Rattle.graph6_write.specs.Inner.Body.{weight_of, add_bit, body_to};
 
-use answer::{Cause, Verdict, WrittenAnswer, refuse};
+use answer::{Cause, WrittenAnswer, refuse};
 use edge_lists::list_check;
 use graph6::column_starts::COLUMN_STARTS;
 use graph6::{MAX_BODY_BYTES, MAX_BYTE, MAX_SHORT, PLUS, body_length, wide16};
@@ -99,9 +99,8 @@ pub fn graph6_write(edges: &[u8], total: usize, output: &mut [u8]) -> WrittenAns
     ensures value { result ≡ write_answer edges.now total (length output.old) }
     ensures output_after { output.new ≡ write_output (write_answer edges.now total (length output.old)) edges.now total output.old }
 {
-    let verdict = list_check(edges, total);
-    match verdict {
-        Verdict::Stop(r) => WrittenAnswer::Refused(r),
-        Verdict::Go => write_listed(edges, total, output),
+    match list_check(edges, total) {
+        Err(r) => WrittenAnswer::Refused(r),
+        Ok(()) => write_listed(edges, total, output),
     }
 }

@@ -6,7 +6,7 @@ ghost use Rattle.slices.specs.Slices.{further};
 ghost use Rattle.state.specs.State.{state_of};
 ghost use Rattle.held_block.specs.Held.{length_answer, held_part, held_from};
 
-use answer::{Cause, LengthAnswer, Verdict, refuse};
+use answer::{Cause, LengthAnswer, refuse};
 use journal::{block_count, block_part, slot_length};
 use state::state_check;
 
@@ -14,16 +14,13 @@ use state::state_check;
 pub fn held_block_length(journal: &[u8], adjacency: &[u8], number: usize) -> LengthAnswer
     ensures { result ≡ length_answer (state_of journal.now adjacency.now) number }
 {
-    let verdict = state_check(journal, adjacency);
-    match verdict {
-        Verdict::Stop(r) => LengthAnswer::Refused(r),
-        Verdict::Go => {
-            if block_count(journal) <= number {
-                return LengthAnswer::Refused(refuse(Cause::BlockNumber, 0, 0));
-            }
-            LengthAnswer::Length(slot_length(journal, number))
-        }
+    if let Err(r) = state_check(journal, adjacency) {
+        return LengthAnswer::Refused(r);
     }
+    if block_count(journal) <= number {
+        return LengthAnswer::Refused(refuse(Cause::BlockNumber, 0, 0));
+    }
+    LengthAnswer::Length(slot_length(journal, number))
 }
 
 // Held block `number`, the part of the journal itself; an empty part where there is none.
@@ -31,8 +28,7 @@ pub fn held_block<'a, 'b>(journal: &'a [u8], adjacency: &'b [u8], number: usize)
     ensures ref_ptr_value { result.ref_ptr ≡ further journal.entry.ref_ptr (held_from (state_of journal.now adjacency.now) number) }
     ensures result_value { result.now ≡ held_part (state_of journal.now adjacency.now) number }
 {
-    let answer = held_block_length(journal, adjacency, number);
-    match answer {
+    match held_block_length(journal, adjacency, number) {
         LengthAnswer::Length(_) => block_part(journal, number),
         LengthAnswer::Refused(_) => &journal[..0],
     }

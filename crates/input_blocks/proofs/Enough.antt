@@ -8,9 +8,9 @@ use native.Mathlib.Decide.{dec_lt}
 use native.Mathlib.Omega.{arith}
 use lib.ListN.{length, take, drop, length-take}
 use lib.Seq.{take_all as whole_taken, get_or-take, ext_get_or}
+use Rattle.std.specs.Prelude.{Ok, Err}
 use Rattle.finite.proofs.Fold.{fold_to-none, fold_to-more}
-use Rattle.answer.specs.declared.Verdict.{Verdict}
-use Rattle.answer.specs.declared.Verdict.TheVariants.{Go, Stop}
+use Rattle.answer.specs.Refusals.{Verdict, Go}
 use Rattle.slices.proofs.Part.{length_part, get_or-part}
 use Rattle.table.specs.Block.{block_most, most_blocks}
 use Rattle.state.specs.State.{State}
@@ -54,8 +54,8 @@ module _ (s : State) (input : List ℕ) (long : input_most < length input) where
       size = length-take input_most input ∙ (omega arith)
 
       go : (v : Verdict) → (after s input (most_blocks + 1)).verdict ≡ v → take_all s input ≡ take_all s (take input_most input)
-      go Go e = absurd (full s input e)
-      go (Stop r) e =
+      go (Ok _) e = absurd (full s input e)
+      go (Err r) e =
           let p : blocks_in input ≡ most_blocks + 1 + (blocks_in input - (most_blocks + 1)) = omega arith in
           let q : most_blocks + 1 ≡ blocks_in (take input_most input) = omega (arith, size) in
           ap (after s input) p

@@ -13,10 +13,9 @@ use Rattle.finite.proofs.Sum.{sum_to-none, sum_to-more}
 use Rattle.finite.proofs.Fold.{fold_to-none, fold_to-more, fold_to-keeps}
 use Rattle.graph.specs.Graph.{DegreeTable}
 use Rattle.graph.proofs.Counts.{same_table}
-use Rattle.answer.specs.Refusals.{refuse}
+use Rattle.answer.specs.Refusals.{Go, Stop, refuse}
 use Rattle.answer.specs.declared.Cause.TheVariants.{JournalFull}
 use Rattle.answer.specs.declared.Refusal.{Refusal}
-use Rattle.answer.specs.declared.Verdict.TheVariants.{Go, Stop}
 use Rattle.answer.specs.declared.TakeAnswer.{TakeAnswer}
 use Rattle.answer.specs.declared.TakeAnswer.TheVariants.{Taken, Held, Refused}
 use Rattle.table.specs.Block.{most_blocks, well_formed, block_cell, block_isolated, plus}

@@ -8,11 +8,11 @@ use native.Mathlib.Decide.{dec_lt}
 use native.Mathlib.Omega.{arith}
 use lib.ListN.{length, take, drop, length-drop}
 use lib.Seq.{take_all as whole_taken}
+use Rattle.std.specs.Prelude.{Ok, Err}
 use Rattle.finite.specs.Range.{fold_to}
 use Rattle.finite.proofs.Fold.{fold_to-more, fold_to-keeps}
 use Rattle.answer.specs.declared.Refusal.{Refusal}
-use Rattle.answer.specs.declared.Verdict.{Verdict}
-use Rattle.answer.specs.declared.Verdict.TheVariants.{Go, Stop}
+use Rattle.answer.specs.Refusals.{Verdict, Go, Stop}
 use Rattle.answer.specs.declared.TakeAnswer.{TakeAnswer}
 use Rattle.answer.specs.declared.TakeAnswer.TheVariants.{Taken, Held, Refused}
 use Rattle.table.specs.Block.{block_most, most_blocks}
@@ -24,8 +24,8 @@ use Rattle.take_block.proofs.Take.{taken-facts, held-facts}
 use Rattle.input_blocks.specs.Blocks.{blocks_in, block_in, Taking, take_verdict, take_next, take_all}
 
 abbrev pub IsGo : Verdict → Type 0
-IsGo Go = Unit {0}
-IsGo (Stop r) = ⊥
+IsGo (Ok _) = Unit {0}
+IsGo (Err r) = ⊥
 
 -- what is left of the input, where that is less than a block
 pub rest_block : (input : List ℕ) (i : ℕ) → length input - block_most * i < block_most
@@ -110,8 +110,8 @@ module _ (s₀ : State) (input : List ℕ) where
       last = ap (λ (t : Taking). t.verdict) (sym (fold_to-more (take_next input) start most_blocks)) ∙ e
 
       go : (v : Verdict) → (after most_blocks).verdict ≡ v → ⊥
-      go Go p = late_refused (after most_blocks).state most_blocks (block_in input most_blocks) (omega arith) (rw p at last)
-      go (Stop r) p = let z : Stop r ≡ Go = rw p at last in subst IsGo (sym z) tt
+      go (Ok _) p = late_refused (after most_blocks).state most_blocks (block_in input most_blocks) (omega arith) (rw p at last)
+      go (Err r) p = let z : Stop r ≡ Go = rw p at last in subst IsGo (sym z) tt
 
   -- where all went that there are, or 65 of them, all went
   pub all-went : (i : ℕ) (s : State) → i ≡ min (blocks_in input) (most_blocks + 1) → Went i s
@@ -133,8 +133,8 @@ module _ (s₀ : State) (input : List ℕ) where
     where
       kept : (i : ℕ) (t : Taking) → t.state ≡ with_journal s₀ t.state.journal → (v : Verdict) → t.verdict ≡ v
           → (take_next input i t).state ≡ with_journal s₀ (take_next input i t).state.journal
-      kept i t e Go p =
+      kept i t e (Ok _) p =
           rw p
           (take-matrix t.state i (block_in input i)
           ∙ ap (λ (x : State). with_journal x (take_after t.state i (block_in input i)).journal) e)
-      kept i t e (Stop r) p = rw p e
+      kept i t e (Err r) p = rw p e

@@ -3,9 +3,7 @@
 -- Assumes nothing.
 use Rattle.std.specs.Prelude.{◌≡◌, List, [], ℕ, ◌+◌, ◌-◌, ◌*◌, ◌/◌, ◌<◌, length, take, drop}
 use Rattle.finite.specs.Range.{cat_to, fold_to}
-use Rattle.answer.specs.Refusals.{unless_stopped}
-use Rattle.answer.specs.declared.Verdict.{Verdict}
-use Rattle.answer.specs.declared.Verdict.TheVariants.{Go, Stop}
+use Rattle.answer.specs.Refusals.{Verdict, Go, Stop, unless_stopped}
 use Rattle.answer.specs.declared.TakeAnswer.{TakeAnswer}
 use Rattle.answer.specs.declared.TakeAnswer.TheVariants.{Taken, Held, Refused}
 use Rattle.table.specs.Block.{block_most, most_blocks}

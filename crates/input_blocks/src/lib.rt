@@ -7,7 +7,7 @@ ghost use Rattle.state.specs.State.{state_of};
 ghost use Rattle.take_block.specs.Take.{take_answer, take_after};
 ghost use Rattle.input_blocks.specs.Blocks.{block_in, take_verdict, take_all, input_most};
 
-use answer::{TakeAnswer, Verdict};
+use answer::{Refusal, TakeAnswer};
 use slices::least;
 use table::record::{MAX_BLOCK_BYTES, MAX_BLOCKS};
 
@@ -44,30 +44,29 @@ fn block_in(input: &[u8], number: usize) -> &[u8]
 }
 
 // Takes one block; refused or not.
-fn take_one(journal: &mut [u8], adjacency: &[u8], number: usize, block: &[u8]) -> Verdict
+fn take_one(
+    journal: &mut [u8],
+    adjacency: &[u8],
+    number: usize,
+    block: &[u8],
+) -> Result<(), Refusal>
     ensures value { result ≡ take_verdict (take_answer (state_of journal.old adjacency.now) number block.now) }
     ensures journal_after { journal.new ≡ (take_after (state_of journal.old adjacency.now) number block.now).journal }
 {
-    let answer = take_block::take_block(journal, adjacency, number, block);
-    match answer {
-        TakeAnswer::Taken(_) => Verdict::Go,
-        TakeAnswer::Held => Verdict::Go,
-        TakeAnswer::Refused(r) => Verdict::Stop(r),
+    match take_block::take_block(journal, adjacency, number, block) {
+        TakeAnswer::Taken(_) | TakeAnswer::Held => Ok(()),
+        TakeAnswer::Refused(r) => Err(r),
     }
 }
 
 // Takes the input block by block, up to the first refusal. The 65th block is refused, so nothing behind it matters.
-pub fn take_all(journal: &mut [u8], adjacency: &[u8], input: &[u8]) -> Verdict
+pub fn take_all(journal: &mut [u8], adjacency: &[u8], input: &[u8]) -> Result<(), Refusal>
     ensures value { result ≡ (take_all (state_of journal.old adjacency.now) input.now).verdict }
     ensures journal_after { journal.new ≡ (take_all (state_of journal.old adjacency.now) input.now).state.journal }
 {
     let n = least(blocks_in(input.len()), MAX_BLOCKS + 1);
     for number in 0..n {
-        let verdict = take_one(journal, adjacency, number, block_in(input, number));
-        match verdict {
-            Verdict::Stop(r) => return Verdict::Stop(r),
-            Verdict::Go => {}
-        }
+        take_one(journal, adjacency, number, block_in(input, number))?;
     }
-    Verdict::Go
+    Ok(())
 }

@@ -3,14 +3,14 @@
 
 ghost use Rattle.std.specs.Prelude.{◌≡◌, ◌≤◌, length};
 ghost use Rattle.std.proofs.lemmas.List.Edits.{sets};
-ghost use Rattle.answer.specs.declared.Verdict.TheVariants.{Go};
+ghost use Rattle.answer.specs.Refusals.{Go};
 ghost use Rattle.edge_lists.specs.EdgeList.{list_verdict, graph_of};
 ghost use Rattle.table_records.specs.Inner.Bounds.{records_most};
 ghost use Rattle.degree_counts.specs.Above.{first_above};
 ghost use Rattle.degree_counts.specs.Inner.Degrees.{HasDegrees};
 ghost use Rattle.jdm_of_edges.specs.Survey.{survey_records, survey_listed, survey_answer, survey_output};
 
-use answer::{Cause, Verdict, WrittenAnswer, refuse};
+use answer::{Cause, WrittenAnswer, refuse};
 use cell_counts::cells_of;
 use degree_counts::{degrees_of, first_above, isolated_in};
 use edge_lists::list_check;
@@ -64,9 +64,8 @@ pub fn jdm_of_edges(edges: &[u8], total: usize, output: &mut [u8]) -> WrittenAns
     ensures value { result ≡ survey_answer edges.now total (length output.old) }
     ensures output_after { output.new ≡ survey_output (survey_answer edges.now total (length output.old)) edges.now total output.old }
 {
-    let verdict = list_check(edges, total);
-    match verdict {
-        Verdict::Stop(r) => WrittenAnswer::Refused(r),
-        Verdict::Go => survey_listed(edges, total, output),
+    match list_check(edges, total) {
+        Err(r) => WrittenAnswer::Refused(r),
+        Ok(()) => survey_listed(edges, total, output),
     }
 }

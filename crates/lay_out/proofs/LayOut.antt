@@ -14,11 +14,9 @@ use Rattle.graph.specs.Tests.{passes, vertices}
 use Rattle.graph.specs.Theorems.{Realized}
 use Rattle.graph.proofs.Realizability.{realizability}
 use Rattle.answer.specs.Numbers.{lay_out_numbers}
-use Rattle.answer.specs.Refusals.{stopped}
+use Rattle.answer.specs.Refusals.{Verdict, Go, stopped}
 use Rattle.answer.specs.declared.Cause.TheVariants.{TooManyVertices}
 use Rattle.answer.specs.declared.Refusal.{Refusal}
-use Rattle.answer.specs.declared.Verdict.{Verdict}
-use Rattle.answer.specs.declared.Verdict.TheVariants.{Go}
 use Rattle.answer.specs.declared.LayOutAnswer.{LayOutAnswer}
 use Rattle.answer.specs.declared.LayOutAnswer.TheVariants.{LaidOut, Refused}
 use Rattle.answer.proofs.Checks.{unless_stopped_passed}

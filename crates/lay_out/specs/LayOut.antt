@@ -1,8 +1,7 @@
 -- Laying out (document 01).
 -- Assumes nothing.
 use Rattle.std.specs.Prelude.{ℕ}
-use Rattle.answer.specs.Refusals.{unless_stopped}
-use Rattle.answer.specs.declared.Verdict.{Verdict}
+use Rattle.answer.specs.Refusals.{Verdict, unless_stopped}
 use Rattle.answer.specs.declared.LayOutAnswer.{LayOutAnswer}
 use Rattle.answer.specs.declared.LayOutAnswer.TheVariants.{LaidOut, Refused}
 use Rattle.graph.specs.Tests.{vertices}

@@ -8,7 +8,7 @@ ghost use Rattle.journal.specs.Journal.{journal_size, journal_ok, table_of};
 ghost use Rattle.state.specs.State.{state_of};
 ghost use Rattle.lay_out.specs.LayOut.{laid_out, lay_out_answer, lay_out_after};
 
-use answer::{LayOutAnswer, Verdict};
+use answer::LayOutAnswer;
 use journal::PHASE_TAKING;
 use state::{phase_check, sum_table};
 use table::cells::CELLS;
@@ -22,20 +22,18 @@ fn lay_out_table(journal: &[u8]) -> LayOutAnswer
     let mut cells = [0u32; CELLS];
     let mut counts = [0usize; MAX_CLASSES];
     sum_table(journal, &mut cells, &mut counts);
-    let verdict = layout::layout_check(&cells, &counts);
-    match verdict {
-        Verdict::Stop(r) => LayOutAnswer::Refused(r),
-        Verdict::Go => LayOutAnswer::LaidOut(layout::vertex_count(&cells, &counts)),
+    match layout::layout_check(&cells, &counts) {
+        Err(r) => LayOutAnswer::Refused(r),
+        Ok(()) => LayOutAnswer::LaidOut(layout::vertex_count(&cells, &counts)),
     }
 }
 
 fn lay_out_check(journal: &[u8], adjacency: &[u8]) -> LayOutAnswer
     ensures { result ≡ lay_out_answer (state_of journal.now adjacency.now) }
 {
-    let verdict = phase_check(journal, adjacency, PHASE_TAKING);
-    match verdict {
-        Verdict::Stop(r) => LayOutAnswer::Refused(r),
-        Verdict::Go => lay_out_table(journal),
+    match phase_check(journal, adjacency, PHASE_TAKING) {
+        Err(r) => LayOutAnswer::Refused(r),
+        Ok(()) => lay_out_table(journal),
     }
 }
 
@@ -44,11 +42,8 @@ pub fn lay_out(journal: &mut [u8], adjacency: &[u8]) -> LayOutAnswer
     ensures journal_after { journal.new ≡ (lay_out_after (state_of journal.old adjacency.now)).journal }
 {
     let answer = lay_out_check(journal, adjacency);
-    match answer {
-        LayOutAnswer::LaidOut(n) => {
-            journal::set_laid(journal);
-            LayOutAnswer::LaidOut(n)
-        }
-        LayOutAnswer::Refused(r) => LayOutAnswer::Refused(r),
+    if let LayOutAnswer::LaidOut(_) = answer {
+        journal::set_laid(journal);
     }
+    answer
 }

@@ -11,11 +11,9 @@ use Rattle.finite.proofs.All.{and_left, and_right, and_both}
 use Rattle.graph.specs.Graph.{DegreeTable}
 use Rattle.graph.specs.Tests.{most_classes, first_odd, first_uneven, first_overfull, first_overfull_in, passes, vertices}
 use Rattle.answer.specs.Numbers.{number_of}
-use Rattle.answer.specs.Refusals.{refuse, stopped, unless}
+use Rattle.answer.specs.Refusals.{Verdict, Go, Stop, refuse, stopped, unless}
 use Rattle.answer.specs.declared.Cause.TheVariants.{OddDiagonal, RowNotDivisible, CellTooLarge, TooManyVertices}
 use Rattle.answer.specs.declared.Refusal.{Refusal}
-use Rattle.answer.specs.declared.Verdict.{Verdict}
-use Rattle.answer.specs.declared.Verdict.TheVariants.{Go, Stop}
 use Rattle.answer.proofs.Checks.{unless_go}
 use Rattle.layout.specs.Layout.{most_vertices, layout_verdict}
 

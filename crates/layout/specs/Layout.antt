@@ -4,10 +4,8 @@ use Rattle.std.specs.Prelude.{ℕ, ◌/◌, eqb, leb}
 use Rattle.finite.specs.Range.{sum_to}
 use Rattle.graph.specs.Graph.{DegreeTable}
 use Rattle.graph.specs.Tests.{most_classes, row_sum, vertices, first_odd, first_uneven, first_overfull, first_overfull_in}
-use Rattle.answer.specs.Refusals.{refuse, stopped, unless}
+use Rattle.answer.specs.Refusals.{Verdict, Go, Stop, refuse, stopped, unless}
 use Rattle.answer.specs.declared.Cause.TheVariants.{OddDiagonal, RowNotDivisible, CellTooLarge, TooManyVertices}
-use Rattle.answer.specs.declared.Verdict.{Verdict}
-use Rattle.answer.specs.declared.Verdict.TheVariants.{Go, Stop}
 
 -- the most vertices of a layout
 abbrev pub most_vertices : ℕ

@@ -10,7 +10,7 @@ ghost use Rattle.table.specs.Inner.Cells.{matrix_of, AtMost, cell_sum_most};
 ghost use Rattle.layout.specs.Inner.Arrays.{count_in, row_fits, Reaches, table_in, Counts, classes_of};
 ghost use Rattle.layout.specs.Layout.{layout_verdict, most_vertices};
 
-use answer::{Cause, Verdict, refuse, stopped};
+use answer::{Cause, Refusal, refuse, stopped};
 use finite::lowest_passing;
 use table::cells::{CELLS, cell, upper_cell};
 use table::class::{LEAST_CLASS, MAX_CLASSES, class_degree};
@@ -186,25 +186,25 @@ pub fn edges_wanted(counts: &[usize; MAX_CLASSES]) -> usize
 }
 
 // The tests 9 to 12, each over all cells before the next begins.
-pub fn layout_check(cells: &[u32; CELLS], counts: &[usize; MAX_CLASSES]) -> Verdict
+pub fn layout_check(cells: &[u32; CELLS], counts: &[usize; MAX_CLASSES]) -> Result<(), Refusal>
     requires { AtMost cell_sum_most cells.now × Counts cells.now counts.now }
     ensures { result ≡ layout_verdict (table_in cells.now (count_in counts.now 0)) }
 {
     let odd = first_odd(cells);
     if odd != MAX_CLASSES {
-        return Verdict::Stop(refuse(Cause::OddDiagonal, odd, odd));
+        return Err(refuse(Cause::OddDiagonal, odd, odd));
     }
     let uneven = first_uneven(cells);
     if uneven != MAX_CLASSES {
-        return Verdict::Stop(refuse(Cause::RowNotDivisible, uneven, 0));
+        return Err(refuse(Cause::RowNotDivisible, uneven, 0));
     }
     let k = first_overfull(cells, counts);
     if k != MAX_CLASSES {
         let l = first_overfull_in(cells, counts, k);
-        return Verdict::Stop(refuse(Cause::CellTooLarge, k, l));
+        return Err(refuse(Cause::CellTooLarge, k, l));
     }
     if MAX_VERTICES < vertex_count(cells, counts) {
         return stopped(Cause::TooManyVertices);
     }
-    Verdict::Go
+    Ok(())
 }

@@ -8,7 +8,7 @@ use lib.Dec.{eqb}
 use lib.ListN.{length, get_or}
 use borrow.Author.Tests.{eqb-true, eq-eqb}
 use Rattle.finite.proofs.All.{and_left, and_right, and_both}
-use Rattle.answer.specs.declared.Verdict.TheVariants.{Go}
+use Rattle.answer.specs.Refusals.{Go}
 use Rattle.answer.proofs.Checks.{unless_go, unless_stopped_go}
 use Rattle.slices.specs.Slices.{all_zero}
 use Rattle.slices.proofs.Zero.{all_zero-at, zeros-all_zero}

@@ -1,10 +1,8 @@
 -- The checks with which the calls begin that are lent a loan, as verdicts.
 -- Assumes nothing.
 use Rattle.std.specs.Prelude.{eqb}
-use Rattle.answer.specs.Refusals.{stopped, unless, unless_stopped}
+use Rattle.answer.specs.Refusals.{Verdict, Go, Stop, stopped, unless, unless_stopped}
 use Rattle.answer.specs.declared.Cause.TheVariants.{WrongLength, InvalidState, WrongPhase}
-use Rattle.answer.specs.declared.Verdict.{Verdict}
-use Rattle.answer.specs.declared.Verdict.TheVariants.{Go, Stop}
 use Rattle.journal.specs.Journal.{phase_laid, phase}
 use Rattle.loan.specs.Loan.{Loan}
 use Rattle.loan.specs.Valid.{loan_lengths_ok, loan_valid}

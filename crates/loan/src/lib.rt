@@ -10,7 +10,7 @@ ghost use Rattle.loan.specs.Loan.{loan_of};
 ghost use Rattle.loan.specs.Valid.{loan_lengths_ok};
 ghost use Rattle.loan.specs.Inner.Opened.{loan_front, loan_opens};
 
-use answer::{Cause, Verdict, stopped};
+use answer::{Cause, Refusal, stopped};
 use journal::{PHASE_LAID, PHASE_TAKING, phase_of};
 use layout::{MAX_VERTICES, vertex_count};
 use slices::all_zero;
@@ -27,25 +27,20 @@ pub fn loan_lengths_ok(journal: &[u8], adjacency: &[u8], log: &[u8]) -> bool
 }
 
 // The check 1, of 2 all but a laid matrix and its log, and 3: `open_loan` is what is left to check.
-pub fn loan_check(journal: &[u8], adjacency: &[u8], log: &[u8]) -> Verdict
+pub fn loan_check(journal: &[u8], adjacency: &[u8], log: &[u8]) -> Result<(), Refusal>
     ensures { result ≡ loan_front (loan_of journal.now adjacency.now log.now) }
 {
     if log.len() != LOG_BYTES {
         return stopped(Cause::WrongLength);
     }
-    let verdict = front_check(journal, adjacency);
-    match verdict {
-        Verdict::Stop(r) => Verdict::Stop(r),
-        Verdict::Go => {
-            if phase_of(journal) == PHASE_LAID {
-                return Verdict::Go;
-            }
-            if !all_zero(log) {
-                return stopped(Cause::InvalidState);
-            }
-            stopped(Cause::WrongPhase)
-        }
+    front_check(journal, adjacency)?;
+    if phase_of(journal) == PHASE_LAID {
+        return Ok(());
     }
+    if !all_zero(log) {
+        return stopped(Cause::InvalidState);
+    }
+    stopped(Cause::WrongPhase)
 }
 
 // The check 2 of a laid matrix and of its log. Where it passes, the arrays, which are zeros before it, are what it has counted. The log is tried out in the

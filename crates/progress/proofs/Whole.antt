@@ -7,7 +7,7 @@ use native.Mathlib.Omega.{arith}
 use lib.ListN.{length, take}
 use lib.Seq.{sets}
 use Rattle.answer.specs.declared.CompleteAnswer.TheVariants.{Completed}
-use Rattle.answer.specs.declared.Verdict.TheVariants.{Go}
+use Rattle.answer.specs.Refusals.{Go}
 use Rattle.graph.specs.Graph.{DegreeTable, edges}
 use Rattle.graph.specs.Theorems.{all_cells}
 use Rattle.graph.specs.Numbering.{total}

@@ -2,7 +2,7 @@
 #![tactic(auto)]
 
 ghost use Rattle.std.specs.Prelude.{◌≡◌};
-ghost use Rattle.answer.specs.declared.Verdict.TheVariants.{Go};
+ghost use Rattle.answer.specs.Refusals.{Go};
 ghost use Rattle.journal.specs.Journal.{phase_laid};
 ghost use Rattle.state.specs.State.{state_of};
 ghost use Rattle.state.specs.Checks.{phase_verdict};
@@ -13,7 +13,7 @@ ghost use Rattle.remove_edge.specs.Remove.{remove_laid, remove_answer, remove_af
 ghost use Rattle.remove_edge.specs.Inner.Work.{removed_adjacency};
 
 use adjacency::{edge_at, set_edge};
-use answer::{Cause, RemoveAnswer, Verdict, refuse};
+use answer::{Cause, RemoveAnswer, refuse};
 use layout::{MAX_VERTICES, vertex_count};
 use loan::{loan_check, open_loan};
 use state::pair_check;
@@ -27,17 +27,14 @@ fn remove_laid(journal: &[u8], adjacency: &mut [u8], n: usize, v: usize, w: usiz
     ensures value { result ≡ remove_laid (state_of journal.now adjacency.old) v w }
     ensures adjacency_after { adjacency.new ≡ removed_adjacency (remove_laid (state_of journal.now adjacency.old) v w) adjacency.old v w }
 {
-    let verdict = pair_check(n, v, w);
-    match verdict {
-        Verdict::Stop(r) => RemoveAnswer::Refused(r),
-        Verdict::Go => {
-            if edge_at(adjacency, v, w) != 1 {
-                return RemoveAnswer::Refused(refuse(Cause::EdgeAbsent, 0, 0));
-            }
-            set_edge(adjacency, v, w, 0);
-            RemoveAnswer::Removed
-        }
+    if let Err(r) = pair_check(n, v, w) {
+        return RemoveAnswer::Refused(r);
     }
+    if edge_at(adjacency, v, w) != 1 {
+        return RemoveAnswer::Refused(refuse(Cause::EdgeAbsent, 0, 0));
+    }
+    set_edge(adjacency, v, w, 0);
+    RemoveAnswer::Removed
 }
 
 // Behind the front: the laid matrix and its log, then the edge. A removal empties the log.
@@ -68,13 +65,10 @@ fn remove_checked(
     }
     let n = vertex_count(&cells, &counts);
     let answer = remove_laid(journal, adjacency, n, v, w);
-    match answer {
-        RemoveAnswer::Refused(r) => RemoveAnswer::Refused(r),
-        RemoveAnswer::Removed => {
-            empty_log(log);
-            RemoveAnswer::Removed
-        }
+    if let RemoveAnswer::Removed = answer {
+        empty_log(log);
     }
+    answer
 }
 
 pub fn remove_edge(
@@ -88,9 +82,8 @@ pub fn remove_edge(
     ensures adjacency_after { adjacency.new ≡ (remove_after (loan_of journal.now adjacency.old log.old) v w).state.adjacency }
     ensures log_after { log.new ≡ (remove_after (loan_of journal.now adjacency.old log.old) v w).log }
 {
-    let verdict = loan_check(journal, adjacency, log);
-    match verdict {
-        Verdict::Stop(r) => RemoveAnswer::Refused(r),
-        Verdict::Go => remove_checked(journal, adjacency, log, v, w),
+    match loan_check(journal, adjacency, log) {
+        Err(r) => RemoveAnswer::Refused(r),
+        Ok(()) => remove_checked(journal, adjacency, log, v, w),
     }
 }

@@ -3,8 +3,8 @@
 use mathlib.Core.Path.{◌≡◌, refl, sym, ap, ◌∙◌}
 use Prim.Native.Nat.{ℕ, ◌≤◌}
 use lib.ListN.{length}
-use Rattle.answer.specs.declared.Verdict.{Verdict}
-use Rattle.answer.specs.declared.Verdict.TheVariants.{Go, Stop}
+use Rattle.std.specs.Prelude.{Ok, Err}
+use Rattle.answer.specs.Refusals.{Verdict}
 use Rattle.answer.specs.declared.LayOutAnswer.{LayOutAnswer}
 use Rattle.answer.specs.declared.LayOutAnswer.TheVariants.{LaidOut, Refused as LayOutRefused}
 use Rattle.answer.specs.declared.CompleteAnswer.{CompleteAnswer}
@@ -54,8 +54,8 @@ laid-count s n e =
 
 -- every text fits
 pub text_fits : (form : Form) (choice : Choice) (v : Verdict) (s : State) → length (taken_text form choice v s) ≤ text_most
-text_fits form choice (Stop r) s = refused-fits r
-text_fits form choice Go s = go (lay_out_answer s) refl
+text_fits form choice (Err r) s = refused-fits r
+text_fits form choice (Ok _) s = go (lay_out_answer s) refl
   where
     go : (a : LayOutAnswer) → lay_out_answer s ≡ a → length (laid_text form choice a (lay_out_after s)) ≤ text_most
     go (LaidOut n) e = completed-fits form choice (lay_out_after s) n (laid-count s n e)

@@ -2,9 +2,8 @@
 -- 64 bytes (the last may be shorter), numbered from 0, lays out, finishes and prints"; "On a refusal it prints only" that. Document 02 adds the form, lines
 -- as before or one line of graph6 (P5), the second way to complete (P7), and a log, which the program lends too, all zero (P8).
 -- Assumes nothing.
-use Rattle.std.specs.Prelude.{List, ℕ, ◌*◌}
-use Rattle.answer.specs.declared.Verdict.{Verdict}
-use Rattle.answer.specs.declared.Verdict.TheVariants.{Go, Stop}
+use Rattle.std.specs.Prelude.{List, ℕ, ◌*◌, Ok, Err}
+use Rattle.answer.specs.Refusals.{Verdict}
 use Rattle.answer.specs.declared.LayOutAnswer.{LayOutAnswer}
 use Rattle.answer.specs.declared.LayOutAnswer.TheVariants.{LaidOut, Refused as LayOutRefused}
 use Rattle.answer.specs.declared.CompleteAnswer.{CompleteAnswer}
@@ -45,8 +44,8 @@ laid_text form choice (LayOutRefused r) s = refused_line r
 
 -- after taking
 abbrev pub taken_text : Form → Choice → Verdict → State → List ℕ
-taken_text form choice Go s = laid_text form choice (lay_out_answer s) (lay_out_after s)
-taken_text form choice (Stop r) s = refused_line r
+taken_text form choice (Ok _) s = laid_text form choice (lay_out_answer s) (lay_out_after s)
+taken_text form choice (Err r) s = refused_line r
 
 -- from a state s
 abbrev pub text_from : Form → Choice → State → List ℕ → List ℕ

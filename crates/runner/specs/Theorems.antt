@@ -3,10 +3,9 @@
 use Rattle.std.specs.Prelude.{◌≡◌, true, List, ◌⊎◌, ℕ, ◌+◌, ◌≤◌, take}
 use Rattle.graph.specs.Graph.{Simple, own_jdm, isolated, DegreeTable}
 use Rattle.graph.specs.Tests.{vertices}
-use Rattle.answer.specs.Refusals.{refuse}
+use Rattle.answer.specs.Refusals.{Go, refuse}
 use Rattle.answer.specs.declared.Cause.TheVariants.{JournalFull}
 use Rattle.answer.specs.declared.Refusal.{Refusal}
-use Rattle.answer.specs.declared.Verdict.TheVariants.{Go}
 use Rattle.answer.specs.declared.LayOutAnswer.{LayOutAnswer}
 use Rattle.answer.specs.declared.LayOutAnswer.TheVariants.{LaidOut, Refused}
 use Rattle.answer.specs.declared.CompleteAnswer.TheVariants.{Completed}

@@ -4,7 +4,7 @@
 ghost use Rattle.std.specs.Prelude.{◌≡◌, ℕ, ◌≤◌, length};
 ghost use Rattle.std.proofs.lemmas.List.Edits.{sets};
 ghost use Rattle.state.specs.State.{state_of};
-ghost use Rattle.answer.specs.declared.Verdict.TheVariants.{Go};
+ghost use Rattle.answer.specs.Refusals.{Go};
 ghost use Rattle.answer.specs.declared.CompleteAnswer.{CompleteAnswer};
 ghost use Rattle.answer.specs.declared.LayOutAnswer.TheVariants.{LaidOut};
 ghost use Rattle.io.specs.Counts.{IsPrefixLen};
@@ -16,7 +16,7 @@ ghost use Rattle.state_text.specs.StateText.{text_most};
 ghost use Rattle.runner.specs.Program.{join_records_most, laid_text, taken_text, program_text};
 
 use adjacency::ADJACENCY_BYTES;
-use answer::{Choice, CompleteAnswer, LayOutAnswer, ShuffleAnswer, Verdict};
+use answer::{Choice, CompleteAnswer, LayOutAnswer, ShuffleAnswer};
 use complete_shuffled::complete_shuffled;
 use input_blocks::take_all;
 use join_records::JOIN_RECORD_BYTES;
@@ -115,10 +115,9 @@ pub fn program_text(
 {
     let mut journal = [0u8; JOURNAL_BYTES];
     let mut adjacency = [0u8; ADJACENCY_BYTES];
-    let taken = take_all(&mut journal, &adjacency, input);
-    match taken {
-        Verdict::Stop(r) => put_refused(output, 0, r),
-        Verdict::Go => put_taken_text(&mut journal, &mut adjacency, form, choice, output),
+    match take_all(&mut journal, &adjacency, input) {
+        Err(r) => put_refused(output, 0, r),
+        Ok(()) => put_taken_text(&mut journal, &mut adjacency, form, choice, output),
     }
 }
 

@@ -6,7 +6,7 @@ use mathlib.Core.Logic.{◌≢◌}
 use Prim.Native.Nat.{ℕ, ◌<◌}
 use lib.Dec.{eqb, ltb}
 use borrow.Author.Tests.{eqb-true, eq-eqb, ltb-true, lt-ltb, not-true, eqb-false, ne_eqb}
-use Rattle.answer.specs.declared.Verdict.TheVariants.{Go}
+use Rattle.answer.specs.Refusals.{Go}
 use Rattle.answer.proofs.Checks.{unless_go, unless_stopped_go}
 use Rattle.journal.specs.Journal.{phase_laid, phase}
 use Rattle.state.specs.State.{State}

@@ -7,12 +7,11 @@ use native.Mathlib.Omega.{arith}
 use lib.Dec.{eqb, leb}
 use lib.ListN.{replicate}
 use borrow.Author.Tests.{eqb-true, eqb-false, eq-eqb, ne_eqb, leb-true}
+use Rattle.std.specs.Prelude.{Ok, Err}
 use Rattle.finite.proofs.All.{and_left}
-use Rattle.answer.specs.Refusals.{refuse, stopped, unless, unless_stopped}
+use Rattle.answer.specs.Refusals.{Verdict, Go, Stop, refuse, stopped, unless, unless_stopped}
 use Rattle.answer.specs.declared.Cause.TheVariants.{WrongLength, InvalidState}
 use Rattle.answer.specs.declared.Refusal.{Refusal}
-use Rattle.answer.specs.declared.Verdict.{Verdict}
-use Rattle.answer.specs.declared.Verdict.TheVariants.{Go, Stop}
 use Rattle.answer.proofs.Checks.{unless_go, unless_stopped_go}
 use Rattle.graph.specs.Tests.{most_classes}
 use Rattle.slices.specs.Slices.{all_zero}
@@ -104,9 +103,9 @@ module _ (s : State) where
   laid_front-stop r e = go (front_verdict s) refl (eqb (phase s.journal) phase_laid) refl
     where
       go : (f : Verdict) → front_verdict s ≡ f → (p : Bool) → eqb (phase s.journal) phase_laid ≡ p → phase_verdict phase_laid s ≡ Stop r
-      go (Stop q) h p i = rw (front-stop q h) (rw h at e)
-      go Go h true i = let never : ◌≡◌ {A = Verdict} Go (Stop r) = rw (h, i) at e in cc
-      go Go h false i =
+      go (Err q) h p i = rw (front-stop q h) (rw h at e)
+      go (Ok _) h true i = let never : ◌≡◌ {A = Verdict} Go (Stop r) = rw (h, i) at e in cc
+      go (Ok _) h false i =
           let f = front-passed h in
           let none : phase s.journal ≡ phase_taking = omega (arith, two_phases f.1, eqb-false (phase s.journal) phase_laid i) in
           rw (front-taking h none) (rw h at e)

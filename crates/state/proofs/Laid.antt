@@ -6,19 +6,19 @@ use mathlib.Core.List.{List}
 use Prim.Native.Nat.{ℕ}
 use lib.Dec.{leb}
 use borrow.Author.Tests.{leb-true, le-leb}
+use Rattle.std.specs.Prelude.{Ok, Err}
 use Rattle.graph.specs.Graph.{DegreeTable}
 use Rattle.graph.specs.Tests.{passes, vertices, vertex_class}
 use Rattle.answer.specs.declared.Refusal.{Refusal}
-use Rattle.answer.specs.declared.Verdict.{Verdict}
-use Rattle.answer.specs.declared.Verdict.TheVariants.{Go, Stop}
+use Rattle.answer.specs.Refusals.{Verdict, Go, Stop}
 use Rattle.layout.specs.Layout.{most_vertices, layout_verdict}
 use Rattle.layout.proofs.Verdict.{layout_go, go_layout}
 use Rattle.adjacency.specs.Adjacency.{adjacency_ok}
 use Rattle.state.specs.Valid.{laid_ok}
 
 abbrev IsGo : Verdict → Type 0
-IsGo Go = Unit {0}
-IsGo (Stop r) = ⊥
+IsGo (Ok _) = Unit {0}
+IsGo (Err r) = ⊥
 
 module _ (t : DegreeTable) (g : List ℕ) where
   pub laid-go : layout_verdict t ≡ Go → laid_ok t g ≡ adjacency_ok (vertices t) (vertex_class t) t.cells g

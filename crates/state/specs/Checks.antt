@@ -1,10 +1,8 @@
 -- The checks with which entries begin, as verdicts.
 -- Assumes nothing.
 use Rattle.std.specs.Prelude.{not, ℕ, eqb, ltb}
-use Rattle.answer.specs.Refusals.{stopped, unless, unless_stopped}
+use Rattle.answer.specs.Refusals.{Verdict, Go, Stop, stopped, unless, unless_stopped}
 use Rattle.answer.specs.declared.Cause.TheVariants.{WrongLength, InvalidState, WrongPhase, NoSuchVertex, SameVertex}
-use Rattle.answer.specs.declared.Verdict.{Verdict}
-use Rattle.answer.specs.declared.Verdict.TheVariants.{Go, Stop}
 use Rattle.journal.specs.Journal.{phase}
 use Rattle.state.specs.State.{State}
 use Rattle.state.specs.Valid.{lengths_ok, valid}

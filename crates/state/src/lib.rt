@@ -14,7 +14,7 @@ ghost use Rattle.state.specs.Checks.{state_verdict, phase_verdict, pair_verdict}
 ghost use Rattle.state.specs.Inner.Opened.{front_verdict, laid_front, Openable, Opened};
 
 use adjacency::ADJACENCY_BYTES;
-use answer::{Cause, Verdict, stopped};
+use answer::{Cause, Refusal, stopped};
 use journal::{JOURNAL_BYTES, PHASE_LAID, PHASE_TAKING, journal_ok, phase_of, sum_blocks};
 use layout::{MAX_VERTICES, classes, count_classes, layout_check, vertex_count};
 use matrix_check::adjacency_ok;
@@ -51,15 +51,12 @@ pub fn open(
     ensures opened { result ≡ true → Opened (state_of journal.now adjacency.now) cells.new counts.new degrees.new }
 {
     sum_table(journal, cells, counts);
-    let verdict = layout_check(cells, counts);
-    match verdict {
-        Verdict::Stop(_) => false,
-        Verdict::Go => {
-            let n = vertex_count(cells, counts);
-            let c = classes(cells, counts);
-            adjacency_ok(adjacency, n, &c, cells, degrees)
-        }
+    if layout_check(cells, counts).is_err() {
+        return false;
     }
+    let n = vertex_count(cells, counts);
+    let c = classes(cells, counts);
+    adjacency_ok(adjacency, n, &c, cells, degrees)
 }
 
 // The same for a call that goes on with nothing.
@@ -74,7 +71,7 @@ fn is_laid_ok(journal: &[u8], adjacency: &[u8]) -> bool
 }
 
 // The check 1 and, of 2, all but a laid matrix.
-pub fn front_check(journal: &[u8], adjacency: &[u8]) -> Verdict
+pub fn front_check(journal: &[u8], adjacency: &[u8]) -> Result<(), Refusal>
     ensures { result ≡ front_verdict (state_of journal.now adjacency.now) }
 {
     if !lengths_ok(journal, adjacency) {
@@ -84,28 +81,23 @@ pub fn front_check(journal: &[u8], adjacency: &[u8]) -> Verdict
         return stopped(Cause::InvalidState);
     }
     if phase_of(journal) != PHASE_TAKING {
-        return Verdict::Go;
+        return Ok(());
     }
     if !slices::all_zero(adjacency) {
         return stopped(Cause::InvalidState);
     }
-    Verdict::Go
+    Ok(())
 }
 
 // And 3, for a call that needs a laid state: `open` is what is left to check.
-pub fn laid_check(journal: &[u8], adjacency: &[u8]) -> Verdict
+pub fn laid_check(journal: &[u8], adjacency: &[u8]) -> Result<(), Refusal>
     ensures { result ≡ laid_front (state_of journal.now adjacency.now) }
 {
-    let verdict = front_check(journal, adjacency);
-    match verdict {
-        Verdict::Stop(r) => Verdict::Stop(r),
-        Verdict::Go => {
-            if phase_of(journal) != PHASE_LAID {
-                return stopped(Cause::WrongPhase);
-            }
-            Verdict::Go
-        }
+    front_check(journal, adjacency)?;
+    if phase_of(journal) != PHASE_LAID {
+        return stopped(Cause::WrongPhase);
     }
+    Ok(())
 }
 
 // All of the check 2. It tests what `front_check` does, in flags alone: taking a block, which has no matrix to count, pays for each test.
@@ -123,7 +115,7 @@ fn is_valid(journal: &[u8], adjacency: &[u8]) -> bool
 }
 
 // The checks 1 and 2.
-pub fn state_check(journal: &[u8], adjacency: &[u8]) -> Verdict
+pub fn state_check(journal: &[u8], adjacency: &[u8]) -> Result<(), Refusal>
     ensures { result ≡ state_verdict (state_of journal.now adjacency.now) }
 {
     if !lengths_ok(journal, adjacency) {
@@ -132,27 +124,22 @@ pub fn state_check(journal: &[u8], adjacency: &[u8]) -> Verdict
     if !is_valid(journal, adjacency) {
         return stopped(Cause::InvalidState);
     }
-    Verdict::Go
+    Ok(())
 }
 
 // And 3, for a call that needs this phase.
-pub fn phase_check(journal: &[u8], adjacency: &[u8], phase: usize) -> Verdict
+pub fn phase_check(journal: &[u8], adjacency: &[u8], phase: usize) -> Result<(), Refusal>
     ensures { result ≡ phase_verdict phase (state_of journal.now adjacency.now) }
 {
-    let verdict = state_check(journal, adjacency);
-    match verdict {
-        Verdict::Stop(r) => Verdict::Stop(r),
-        Verdict::Go => {
-            if phase_of(journal) != phase {
-                return stopped(Cause::WrongPhase);
-            }
-            Verdict::Go
-        }
+    state_check(journal, adjacency)?;
+    if phase_of(journal) != phase {
+        return stopped(Cause::WrongPhase);
     }
+    Ok(())
 }
 
 // The checks 13 and 14 of a pair.
-pub fn pair_check(n: usize, v: usize, w: usize) -> Verdict
+pub fn pair_check(n: usize, v: usize, w: usize) -> Result<(), Refusal>
     ensures { result ≡ pair_verdict n v w }
 {
     if n <= v {
@@ -164,5 +151,5 @@ pub fn pair_check(n: usize, v: usize, w: usize) -> Verdict
     if v == w {
         return stopped(Cause::SameVertex);
     }
-    Verdict::Go
+    Ok(())
 }

@@ -8,7 +8,7 @@ use lib.ListN.{length, get_or, take, length-append}
 use lib.Seq.{sets, length-sets}
 use borrow.Author.Tests.{le-leb}
 use Rattle.answer.specs.declared.Refusal.{Refusal}
-use Rattle.answer.specs.declared.Verdict.TheVariants.{Go}
+use Rattle.answer.specs.Refusals.{Go}
 use Rattle.answer.specs.declared.WrittenAnswer.{WrittenAnswer}
 use Rattle.answer.specs.declared.WrittenAnswer.TheVariants.{Written, Refused as WriteRefused}
 use Rattle.answer.proofs.Checks.{refused-not_written, written-length}

@@ -3,7 +3,7 @@
 
 ghost use Rattle.std.specs.Prelude.{◌≡◌, ◌++◌, ◌+◌, ◌*◌, ◌/◌, ◌≤◌, length, take};
 ghost use Rattle.std.proofs.lemmas.List.Edits.{sets};
-ghost use Rattle.answer.specs.declared.Verdict.TheVariants.{Go};
+ghost use Rattle.answer.specs.Refusals.{Go};
 ghost use Rattle.state.specs.State.{state_of};
 ghost use Rattle.state.specs.Valid.{ValidLaid};
 ghost use Rattle.state.specs.Laid.{vertex_count};

@@ -9,10 +9,9 @@ use lib.Dec.{ltb}
 use lib.ListN.{length}
 use borrow.Author.Tests.{ltb-true, lt-ltb, le-ltb}
 use Rattle.finite.proofs.All.{and_left, and_right, and_both}
-use Rattle.answer.specs.Refusals.{refuse}
+use Rattle.answer.specs.Refusals.{Go, refuse}
 use Rattle.answer.specs.declared.Cause.TheVariants.{NoSuchVertex, SwapNotAllowed, LogFull}
 use Rattle.answer.specs.declared.Refusal.{Refusal}
-use Rattle.answer.specs.declared.Verdict.TheVariants.{Go}
 use Rattle.answer.specs.declared.SwapAnswer.{SwapAnswer}
 use Rattle.answer.specs.declared.SwapAnswer.TheVariants.{Swapped, Refused}
 use Rattle.answer.proofs.Checks.{unless_passed, unless_stopped_passed}

@@ -2,7 +2,7 @@
 #![tactic(auto)]
 
 ghost use Rattle.std.specs.Prelude.{◌≡◌};
-ghost use Rattle.answer.specs.declared.Verdict.TheVariants.{Go};
+ghost use Rattle.answer.specs.Refusals.{Go};
 ghost use Rattle.layout.specs.Inner.Arrays.{classes_of};
 ghost use Rattle.journal.specs.Journal.{table_of};
 ghost use Rattle.state.specs.State.{state_of};
@@ -13,7 +13,7 @@ ghost use Rattle.loan.specs.Checks.{laid_verdict};
 ghost use Rattle.loan.specs.Inner.Opened.{loan_front};
 ghost use Rattle.swap_edges.specs.Swap.{swap_answer, swap_after};
 
-use answer::{Cause, SwapAnswer, Verdict, refuse};
+use answer::{Cause, SwapAnswer, refuse};
 use layout::{MAX_VERTICES, classes, vertex_count};
 use loan::{loan_check, open_loan};
 use swap_log::{MAX_SWAPS, swap_count, write_swap};
@@ -88,9 +88,8 @@ pub fn swap_edges(
     ensures adjacency_after { adjacency.new ≡ (swap_after (loan_of journal.now adjacency.old log.old) (swap_of a b c d)).state.adjacency }
     ensures log_after { log.new ≡ (swap_after (loan_of journal.now adjacency.old log.old) (swap_of a b c d)).log }
 {
-    let verdict = loan_check(journal, adjacency, log);
-    match verdict {
-        Verdict::Stop(r) => SwapAnswer::Refused(r),
-        Verdict::Go => swap_checked(journal, adjacency, log, Swap { a, b, c, d }),
+    match loan_check(journal, adjacency, log) {
+        Err(r) => SwapAnswer::Refused(r),
+        Ok(()) => swap_checked(journal, adjacency, log, Swap { a, b, c, d }),
     }
 }

@@ -6,7 +6,7 @@ ghost use Rattle.journal.specs.Journal.{journal_size, blocks, journal_ok};
 ghost use Rattle.state.specs.State.{state_of};
 ghost use Rattle.take_block.specs.Take.{take_held, take_new, take_numbered, take_on_valid, take_answer, take_after};
 
-use answer::{Cause, TakeAnswer, Verdict, refuse};
+use answer::{Cause, TakeAnswer, refuse};
 use journal::{PHASE_TAKING, block_count, is_block, phase_of};
 use state::state_check;
 use table::record::MAX_BLOCKS;
@@ -71,10 +71,9 @@ fn take_on_valid(journal: &[u8], number: usize, block: &[u8]) -> TakeAnswer
 fn take_check(journal: &[u8], adjacency: &[u8], number: usize, block: &[u8]) -> TakeAnswer
     ensures { result ≡ take_answer (state_of journal.now adjacency.now) number block.now }
 {
-    let verdict = state_check(journal, adjacency);
-    match verdict {
-        Verdict::Stop(r) => TakeAnswer::Refused(r),
-        Verdict::Go => take_on_valid(journal, number, block),
+    match state_check(journal, adjacency) {
+        Err(r) => TakeAnswer::Refused(r),
+        Ok(()) => take_on_valid(journal, number, block),
     }
 }
 
@@ -83,12 +82,8 @@ pub fn take_block(journal: &mut [u8], adjacency: &[u8], number: usize, block: &[
     ensures journal_after { journal.new ≡ (take_after (state_of journal.old adjacency.now) number block.now).journal }
 {
     let answer = take_check(journal, adjacency, number, block);
-    match answer {
-        TakeAnswer::Taken(next) => {
-            journal::store_block(journal, block);
-            TakeAnswer::Taken(next)
-        }
-        TakeAnswer::Held => TakeAnswer::Held,
-        TakeAnswer::Refused(r) => TakeAnswer::Refused(r),
+    if let TakeAnswer::Taken(_) = answer {
+        journal::store_block(journal, block);
     }
+    answer
 }

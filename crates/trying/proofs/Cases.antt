@@ -7,11 +7,9 @@ use Prim.Native.Nat.{ℕ}
 use lib.Dec.{eqb, ltb}
 use lib.ListN.{length}
 use borrow.Author.Tests.{eqb-true}
-use Rattle.answer.specs.Refusals.{refuse, stopped, unless, unless_stopped}
+use Rattle.answer.specs.Refusals.{Verdict, Go, refuse, stopped, unless, unless_stopped}
 use Rattle.answer.specs.Numbers.{take_numbers, lay_out_numbers, add_numbers, remove_numbers, swap_numbers, undo_numbers, complete_numbers, shuffle_numbers, length_numbers, written_numbers, read_numbers, figures_numbers}
 use Rattle.answer.specs.declared.Cause.TheVariants.{WrongPhase, BlockNumber}
-use Rattle.answer.specs.declared.Verdict.{Verdict}
-use Rattle.answer.specs.declared.Verdict.TheVariants.{Go}
 use Rattle.answer.specs.declared.LengthAnswer.{LengthAnswer}
 use Rattle.answer.specs.declared.LengthAnswer.TheVariants as Len
 use Rattle.answer.specs.declared.LayOutAnswer.{LayOutAnswer}

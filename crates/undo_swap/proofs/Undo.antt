@@ -7,10 +7,9 @@ use native.Mathlib.Omega.{arith}
 use lib.Dec.{ltb}
 use lib.ListN.{length}
 use borrow.Author.Tests.{ltb-true, lt-ltb}
-use Rattle.answer.specs.Refusals.{refuse}
+use Rattle.answer.specs.Refusals.{Go, refuse}
 use Rattle.answer.specs.declared.Cause.TheVariants.{LogEmpty}
 use Rattle.answer.specs.declared.Refusal.{Refusal}
-use Rattle.answer.specs.declared.Verdict.TheVariants.{Go}
 use Rattle.answer.specs.declared.UndoAnswer.{UndoAnswer}
 use Rattle.answer.specs.declared.UndoAnswer.TheVariants.{Undone, Refused}
 use Rattle.answer.proofs.Checks.{unless_passed, unless_stopped_passed}

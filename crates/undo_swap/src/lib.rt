@@ -2,13 +2,13 @@
 #![tactic(auto)]
 
 ghost use Rattle.std.specs.Prelude.{◌≡◌};
-ghost use Rattle.answer.specs.declared.Verdict.TheVariants.{Go};
+ghost use Rattle.answer.specs.Refusals.{Go};
 ghost use Rattle.loan.specs.Loan.{loan_of};
 ghost use Rattle.loan.specs.Checks.{laid_verdict};
 ghost use Rattle.loan.specs.Inner.Opened.{loan_front};
 ghost use Rattle.undo_swap.specs.Undo.{undo_answer, undo_after};
 
-use answer::{Cause, UndoAnswer, Verdict, refuse};
+use answer::{Cause, UndoAnswer, refuse};
 use layout::MAX_VERTICES;
 use loan::{loan_check, open_loan};
 use swap_log::{swap_at, swap_count, undoing, write_swap};
@@ -67,9 +67,8 @@ pub fn undo_swap(journal: &[u8], adjacency: &mut [u8], log: &mut [u8]) -> UndoAn
     ensures adjacency_after { adjacency.new ≡ (undo_after (loan_of journal.now adjacency.old log.old)).state.adjacency }
     ensures log_after { log.new ≡ (undo_after (loan_of journal.now adjacency.old log.old)).log }
 {
-    let verdict = loan_check(journal, adjacency, log);
-    match verdict {
-        Verdict::Stop(r) => UndoAnswer::Refused(r),
-        Verdict::Go => undo_checked(journal, adjacency, log),
+    match loan_check(journal, adjacency, log) {
+        Err(r) => UndoAnswer::Refused(r),
+        Ok(()) => undo_checked(journal, adjacency, log),
     }
 }

@@ -19,7 +19,7 @@ add_unlinked-requires c =
     let f = phase-facts phase_laid st c.requires.0 in
     let laid = f.0.laid f.1 in
     let n = opened_vertices st c.requires.1 laid c.vertex_count-n.ensures in
-    let d = pair-passed c.vertex_count-n.result a.v a.w (sym c.pair_check-verdict.ensures ∙ c.in-Go.is) in (
+    let d = pair-passed c.vertex_count-n.result a.v a.w (sym c.pair_check.ensures ∙ c.in_default.is) in (
       subst (λ (t : DegreeTable). Unlinked t a.adjacency.now a.degrees.now a.v a.w) (sym c.requires.1.said)
           (record {
             sized = f.0.adjacency_length;
@@ -37,15 +37,15 @@ add_unlinked-requires c =
       c.vertex_count-n.ensures,
     )
 
-pub returns-else-edge_at-ne0 : goal.returns-else-edge_at-ne0
-returns-else-edge_at-ne0 c =
+pub returns : goal.returns
+returns c =
     let a = c.args in
     let st = state_of a.journal.now a.adjacency.now in
     let f = phase-facts phase_laid st c.requires.0 in
     let n = opened_vertices st c.requires.1 (f.0.laid f.1) c.vertex_count-n.ensures in
     let T = c.requires.1.said in
     let g = a.adjacency.now in
-    let go = ap (λ (x : ℕ). pair_verdict x a.v a.w) (sym n) ∙ sym c.pair_check-verdict.ensures ∙ c.in-Go.is in
+    let go = ap (λ (x : ℕ). pair_verdict x a.v a.w) (sym n) ∙ sym c.pair_check.ensures ∙ c.in_default.is in
     record {
       value = rw (go, eq-eqb _ _ (rw c.edge_at.ensures.0 at c.if-edge_at-ne0.false)) (c.add_unlinked.ensures.value ∙ ap (λ (t : DegreeTable). add_unlinked t g a.v a.w) T);
       adjacency_after = rw (go, eq-eqb _ _ (rw c.edge_at.ensures.0 at c.if-edge_at-ne0.false)) (c.add_unlinked.ensures.adjacency_after

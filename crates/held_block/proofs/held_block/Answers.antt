@@ -14,7 +14,7 @@ block_part-requires c =
     let a = c.args in
     let j = a.journal.now in
     let s = state_of j a.adjacency.now in
-    let h = length-facts s a.number _ (sym c.held_block_length-answer.ensures ∙ c.in-Length.is) in
+    let h = length-facts s a.number _ (sym c.held_block_length.ensures ∙ c.in-Length.is) in
     let f = journal_facts j (valid-journal s h.is_valid) in
     let m : a.number < most_blocks = omega (arith, f.blocks-le, h.low) in
     (lengths_journal s h.lengths, m, slot_most j f a.number m)

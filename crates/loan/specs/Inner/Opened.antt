@@ -1,10 +1,8 @@
 -- A loan is checked once: what the check goes by before it looks at a laid matrix and its log.
 -- Assumes nothing.
 use Rattle.std.specs.Prelude.{Bool, true, ◌&&◌, cond, eqb, length}
-use Rattle.answer.specs.Refusals.{stopped, unless, unless_stopped}
+use Rattle.answer.specs.Refusals.{Verdict, Go, Stop, stopped, unless, unless_stopped}
 use Rattle.answer.specs.declared.Cause.TheVariants.{WrongLength, InvalidState, WrongPhase}
-use Rattle.answer.specs.declared.Verdict.{Verdict}
-use Rattle.answer.specs.declared.Verdict.TheVariants.{Go, Stop}
 use Rattle.slices.specs.Slices.{all_zero}
 use Rattle.journal.specs.Journal.{phase_taking, phase_laid, phase, table_of}
 use Rattle.state.specs.Valid.{laid_ok}

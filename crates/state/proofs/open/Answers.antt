@@ -3,6 +3,7 @@ use mathlib.Core.Path.{sym, ◌∙◌, ap}
 use Prim.Native.Nat.{ℕ}
 use Rattle.graph.specs.Graph.{DegreeTable}
 use Rattle.graph.specs.Tests.{vertices}
+use Rattle.answer.proofs.Checks.{not_err-go}
 use Rattle.layout.specs.Layout.{layout_verdict}
 use Rattle.layout.specs.Inner.Arrays.{classes_of, class_in}
 use Rattle.layout.proofs.Verdict.{layout_go}
@@ -17,7 +18,7 @@ pub adjacency_ok-requires : goal.adjacency_ok-requires
 adjacency_ok-requires c =
     let j = c.args.journal.now in
     let said = c.sum_table.ensures.0 in
-    let go = layout_go (table_of j) (ap layout_verdict (sym said) ∙ sym c.layout_check-verdict.ensures ∙ c.in-Go.is) in
+    let go = layout_go (table_of j) (ap layout_verdict (sym said) ∙ sym c.layout_check.ensures ∙ not_err-go _ (sym c.is_err.ensures.value ∙ c.if-is_err.false)) in
     let en = c.vertex_count-n.ensures ∙ ap vertices said in
     let ec = c.classes-c.ensures ∙ ap classes_of said in (
       c.requires.adjacency_length,
@@ -27,13 +28,13 @@ adjacency_ok-requires c =
       c.requires.no_degrees,
     )
 
-pub returns-in-Go : goal.returns-in-Go
-returns-in-Go c =
+pub returns : goal.returns
+returns c =
     let a = c.args in
     let j = a.journal.now in
     let g = a.adjacency.now in
     let said = c.sum_table.ensures in
-    let e = ap layout_verdict (sym said.0) ∙ sym c.layout_check-verdict.ensures ∙ c.in-Go.is in
+    let e = ap layout_verdict (sym said.0) ∙ sym c.layout_check.ensures ∙ not_err-go _ (sym c.is_err.ensures.value ∙ c.if-is_err.false) in
     let en = c.vertex_count-n.ensures ∙ ap vertices said.0 in
     record {
       value = c.adjacency_ok.ensures.value

@@ -1,10 +1,8 @@
 -- A state is checked once: what the check goes by before it looks at a laid matrix, and what it hands on where that passes.
 -- Assumes nothing.
 use Rattle.std.specs.Prelude.{◌≡◌, true, ◌&&◌, cond, List, ℕ, eqb, length, replicate}
-use Rattle.answer.specs.Refusals.{stopped, unless, unless_stopped}
+use Rattle.answer.specs.Refusals.{Verdict, Go, Stop, stopped, unless, unless_stopped}
 use Rattle.answer.specs.declared.Cause.TheVariants.{WrongLength, InvalidState, WrongPhase}
-use Rattle.answer.specs.declared.Verdict.{Verdict}
-use Rattle.answer.specs.declared.Verdict.TheVariants.{Go, Stop}
 use Rattle.graph.specs.Tests.{most_classes}
 use Rattle.slices.specs.Slices.{all_zero}
 use Rattle.table.specs.Inner.Cells.{cells_size, AtMost, cell_sum_most}
