@@ -1,6 +1,6 @@
 -- Sums, tests and searches over a finite range of numbers. Definitions only; their laws stand in proofs/.
 -- Assumes nothing.
-use Rattle.std.specs.Prelude.{List, [], ◌++◌, Bool, true, false, ◌&&◌, cond, ℕ, zero, suc, ◌+◌, ◌-◌, eqb}
+use Rattle.std.specs.Prelude.{◌≡◌, Option, MatchOption, ◌<◌, List, [], ◌++◌, Bool, true, false, ◌&&◌, cond, ℕ, zero, suc, ◌+◌, ◌-◌, eqb}
 
 -- 1 where the test passes, else 0
 abbrev pub bit : Bool → ℕ
@@ -40,6 +40,10 @@ fold_to (suc n) f s = f n (fold_to n f s)
 unfoldable pub cat_to : ℕ → (ℕ → List ℕ) → List ℕ
 cat_to zero f = []
 cat_to (suc n) f = cat_to n f ++ f n
+
+-- what a search that ends at b has found, where the lowest number that passes is k, or b where none does: k, or nothing
+abbrev pub IsFound : ℕ → ℕ → Option ℕ → Type 0
+IsFound b k found = MatchOption found (k ≡ b) (λ i. (i ≡ k) × (k < b))
 
 -- at most `fuel` steps of f, while p holds
 unfoldable pub iterate : {A : Type 0} → ℕ → (A → Bool) → (A → A) → A → A

@@ -10,7 +10,7 @@ ghost use Rattle.journal.specs.Journal.{journal_size, phase, blocks, slot_at, sl
 
 use slices::{all_zero, same_bytes};
 use table::cells::CELLS;
-use table::record::{MAX_BLOCK_BYTES, MAX_BLOCKS, RECORD_BYTES, block_length, first_bad};
+use table::record::{MAX_BLOCK_BYTES, MAX_BLOCKS, block_length, first_bad};
 
 // The two phases: blocks are taken, and the vertices are laid out.
 pub const PHASE_TAKING: usize = 0;
@@ -89,7 +89,7 @@ fn block_ok(journal: &[u8], i: usize) -> bool
     ensures { result ≡ block_length (slot_length journal.now i) && eqb (first_bad (block_at journal.now i)) (records (block_at journal.now i)) }
 {
     let part = block_part(journal, i);
-    block_length(slot_length(journal, i)) & (first_bad(part) == part.len() / RECORD_BYTES)
+    block_length(slot_length(journal, i)) & first_bad(part).is_none()
 }
 
 fn slot_ok(journal: &[u8], i: usize) -> bool

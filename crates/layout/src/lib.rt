@@ -2,7 +2,7 @@
 #![tactic(auto)]
 
 ghost use Rattle.std.specs.Prelude.{◌≡◌, ◌*◌, ◌/◌, ◌≤◌, ◌<◌, replicate};
-ghost use Rattle.finite.specs.Range.{sum_to};
+ghost use Rattle.finite.specs.Range.{sum_to, IsFound};
 ghost use Rattle.graph.specs.Numbering.{total, class_of};
 ghost use Rattle.graph.specs.Target.{cell_most};
 ghost use Rattle.graph.specs.Tests.{most_classes, row_sum, odd, uneven, overfull, first_odd, first_uneven, first_overfull, first_overfull_in, vertices, class_degree};
@@ -11,7 +11,7 @@ ghost use Rattle.layout.specs.Inner.Arrays.{count_in, row_fits, Reaches, table_i
 ghost use Rattle.layout.specs.Layout.{layout_verdict, most_vertices};
 
 use answer::{Cause, Refusal, refuse, stopped};
-use finite::lowest_passing;
+use finite::{first_passing, lowest_passing};
 use table::cells::{CELLS, cell, upper_cell};
 use table::class::{LEAST_CLASS, MAX_CLASSES, class_degree};
 
@@ -24,10 +24,10 @@ fn is_odd(cells: &[u32; CELLS], k: usize) -> bool
     cell(cells, k, k) % 2 != 0
 }
 
-fn first_odd(cells: &[u32; CELLS]) -> usize
-    ensures { result ≡ first_odd (matrix_of cells.now) }
+fn first_odd(cells: &[u32; CELLS]) -> Option<usize>
+    ensures { IsFound most_classes (first_odd (matrix_of cells.now)) result }
 {
-    lowest_passing(LEAST_CLASS, MAX_CLASSES, |k| is_odd(cells, k))
+    first_passing(LEAST_CLASS, MAX_CLASSES, |k| is_odd(cells, k))
 }
 
 // S(k)
@@ -52,11 +52,11 @@ fn is_uneven(cells: &[u32; CELLS], k: usize) -> bool
     row_sum(cells, k) % class_degree(k) != 0
 }
 
-fn first_uneven(cells: &[u32; CELLS]) -> usize
+fn first_uneven(cells: &[u32; CELLS]) -> Option<usize>
     requires { AtMost cell_sum_most cells.now }
-    ensures { result ≡ first_uneven (matrix_of cells.now) }
+    ensures { IsFound most_classes (first_uneven (matrix_of cells.now)) result }
 {
-    lowest_passing(LEAST_CLASS, MAX_CLASSES, |k| is_uneven(cells, k))
+    first_passing(LEAST_CLASS, MAX_CLASSES, |k| is_uneven(cells, k))
 }
 
 // How many vertices each class has, in an array of zeros: D(k), and of class 0 the isolated ones.
@@ -115,11 +115,11 @@ fn row_fits(cells: &[u32; CELLS], counts: &[usize; MAX_CLASSES], k: usize) -> bo
 }
 
 // The cells before the diagonal stand in rows that have passed.
-fn first_overfull(cells: &[u32; CELLS], counts: &[usize; MAX_CLASSES]) -> usize
+fn first_overfull(cells: &[u32; CELLS], counts: &[usize; MAX_CLASSES]) -> Option<usize>
     requires { AtMost cell_sum_most cells.now × Counts cells.now counts.now }
-    ensures { result ≡ first_overfull (matrix_of cells.now) }
+    ensures { IsFound most_classes (first_overfull (matrix_of cells.now)) result }
 {
-    lowest_passing(LEAST_CLASS, MAX_CLASSES, |k| !row_fits(cells, counts, k))
+    first_passing(LEAST_CLASS, MAX_CLASSES, |k| !row_fits(cells, counts, k))
 }
 
 // N
@@ -190,18 +190,14 @@ pub fn layout_check(cells: &[u32; CELLS], counts: &[usize; MAX_CLASSES]) -> Resu
     requires { AtMost cell_sum_most cells.now × Counts cells.now counts.now }
     ensures { result ≡ layout_verdict (table_in cells.now (count_in counts.now 0)) }
 {
-    let odd = first_odd(cells);
-    if odd != MAX_CLASSES {
-        return Err(refuse(Cause::OddDiagonal, odd, odd));
+    if let Some(k) = first_odd(cells) {
+        return Err(refuse(Cause::OddDiagonal, k, k));
     }
-    let uneven = first_uneven(cells);
-    if uneven != MAX_CLASSES {
-        return Err(refuse(Cause::RowNotDivisible, uneven, 0));
+    if let Some(k) = first_uneven(cells) {
+        return Err(refuse(Cause::RowNotDivisible, k, 0));
     }
-    let k = first_overfull(cells, counts);
-    if k != MAX_CLASSES {
-        let l = first_overfull_in(cells, counts, k);
-        return Err(refuse(Cause::CellTooLarge, k, l));
+    if let Some(k) = first_overfull(cells, counts) {
+        return Err(refuse(Cause::CellTooLarge, k, first_overfull_in(cells, counts, k)));
     }
     if MAX_VERTICES < vertex_count(cells, counts) {
         return stopped(Cause::TooManyVertices);

@@ -1,10 +1,11 @@
 // Records of a block.
 ghost use Rattle.std.specs.Prelude.{◌≡◌, ◌+◌, ◌*◌, ◌≤◌, ◌<◌, ◌&&◌, ◌||◌, eqb, leb, length};
-ghost use Rattle.table.specs.Block.{record_size, is_degree, block_length, record_count, good_record, first_bad};
+ghost use Rattle.finite.specs.Range.{IsFound};
+ghost use Rattle.table.specs.Block.{record_size, is_degree, block_length, record_count, good_record, first_bad, records};
 ghost use Rattle.table.specs.Inner.Cells.{record_most};
 
 use crate::degree::Degree;
-use finite::lowest_passing;
+use finite::first_passing;
 
 pub const RECORD_BYTES: usize = 4;
 
@@ -48,9 +49,9 @@ fn good_record(block: &[u8], i: usize) -> bool
     good_pair(block[at], block[at + 1])
 }
 
-// The first record that is not good, or the number of records.
-pub fn first_bad(block: &[u8]) -> usize
-    ensures { result ≡ first_bad block.now }
+// The first record that is not good.
+pub fn first_bad(block: &[u8]) -> Option<usize>
+    ensures { IsFound (records block.now) (first_bad block.now) result }
 {
-    lowest_passing(0, block.len() / RECORD_BYTES, |i| !good_record(block, i))
+    first_passing(0, block.len() / RECORD_BYTES, |i| !good_record(block, i))
 }

@@ -60,8 +60,7 @@ fn take_on_valid(journal: &[u8], number: usize, block: &[u8]) -> TakeAnswer
     if !table::record::block_length(block.len()) {
         return TakeAnswer::Refused(refuse(Cause::BlockLength, 0, 0));
     }
-    let bad = table::record::first_bad(block);
-    if bad != block.len() / table::record::RECORD_BYTES {
+    if let Some(bad) = table::record::first_bad(block) {
         return TakeAnswer::Refused(refuse(Cause::BadRecord, bad, 0));
     }
     take_numbered(journal, number, block)

@@ -1,8 +1,9 @@
 -- `layout::first_overfull` meets its contract: the first row that does not fit is the first with an overfull cell.
-use mathlib.Core.Path.{◌≡◌, ◌∙◌}
+use mathlib.Core.Path.{subst}
 use mathlib.Core.Bool.{not}
+use Prim.Native.Nat.{ℕ}
 use Rattle.std.proofs.Common.{rules}
-use Rattle.finite.specs.Range.{lowest}
+use Rattle.finite.specs.Range.{lowest, IsFound}
 use Rattle.graph.specs.Tests.{least_class, most_classes}
 use Rattle.table.specs.Inner.Cells.{matrix_of}
 use Rattle.table.proofs.Matrix.{matrix_sym}
@@ -13,5 +14,5 @@ use Rattle.layout.proofs.first_overfull.Goals as goal
 pub returns : goal.returns
 returns c =
     let T = matrix_of c.args.cells.now in
-    let e : c.lowest_passing.result ≡ lowest least_class most_classes (λ k. not (row_fits T k)) = search rules in
-    e ∙ first_unfit T (matrix_sym c.args.cells.now)
+    let found : IsFound most_classes (lowest least_class most_classes (λ k. not (row_fits T k))) c.first_passing.result = search rules in
+    subst (λ (k : ℕ). IsFound most_classes k c.first_passing.result) (first_unfit T (matrix_sym c.args.cells.now)) found
