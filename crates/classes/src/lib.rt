@@ -24,9 +24,9 @@ pub fn starts(counts: &[usize; MAX_CLASSES]) -> [usize; STARTS]
 {
     let mut t = [0usize; STARTS];
     let mut sum = 0;
-    for k in 0..MAX_CLASSES {
+    for (k, count) in counts.iter().enumerate() {
         t[k] = sum;
-        sum += counts[k];
+        sum += count;
     }
     t[MAX_CLASSES] = sum;
     t
@@ -36,14 +36,12 @@ pub fn starts(counts: &[usize; MAX_CLASSES]) -> [usize; STARTS]
 pub fn class_at(starts: &[usize; STARTS], v: usize) -> usize
     ensures { result ≡ class_from starts.now v }
 {
-    let mut k = 0;
-    while k < MAX_CLASSES {
+    for k in 0..MAX_CLASSES {
         if v < starts[k + 1] {
             return k;
         }
-        k += 1;
     }
-    k
+    MAX_CLASSES
 }
 
 // The ones of row v in columns left, .., right - 1.

@@ -18,7 +18,6 @@ use layout::MAX_VERTICES;
 use open_pairs::row::SUMS;
 use picking::{next_x, pick};
 use progress::{Pair, Totals, advance, record_join};
-use slices::wide;
 use switching::End;
 use table::cells::CELLS;
 use table::class::class_degree;
@@ -107,8 +106,8 @@ pub fn shuffle_step(
     );
     let v = pair.v;
     let w = pair.w;
-    let k = wide(classes[v]);
-    let l = wide(classes[w]);
+    let k = usize::from(classes[v]);
+    let l = usize::from(classes[w]);
     let made = join_pair(adjacency, degrees, low, starts, n, pair, k, l);
     let totals = record_join(output, done.totals, v, w, made);
     update(

@@ -11,7 +11,6 @@ use crate::row::{SUMS, set_row};
 use adjacency::SIDE;
 use answer::switches::{Switch, Switches};
 use layout::MAX_VERTICES;
-use slices::{least, wide};
 
 // Row v counted anew.
 pub fn refresh_row(
@@ -27,7 +26,7 @@ pub fn refresh_row(
     ensures pairs_after { pairs.new ≡ refresh_row n classes.now adjacency.now full.now v pairs.old }
     ensures summed { Summed pairs.new sums.new }
 {
-    let m = row_open(adjacency, full, n, wide(classes[v]), v);
+    let m = row_open(adjacency, full, n, usize::from(classes[v]), v);
     set_row(pairs, sums, v, m);
 }
 
@@ -65,8 +64,8 @@ fn refresh_switch(
     ensures pairs_after { pairs.new ≡ refresh_switch n classes.now adjacency.now full.now s pairs.old }
     ensures summed { Summed pairs.new sums.new }
 {
-    refresh_row(adjacency, full, classes, pairs, sums, n, least(s.a, s.t));
-    refresh_row(adjacency, full, classes, pairs, sums, n, least(s.b, s.t));
+    refresh_row(adjacency, full, classes, pairs, sums, n, s.a.min(s.t));
+    refresh_row(adjacency, full, classes, pairs, sums, n, s.b.min(s.t));
 }
 
 // The rows of the edges that the switches of a join moved.
@@ -98,7 +97,5 @@ pub fn mark_full(full: &mut [u8], k: usize, from: usize, to: usize)
     requires { (length full.old ≡ flags_size) × (k < most_classes) × (from ≤ to) × (to ≤ side) }
     ensures { full.new ≡ mark_full k from to full.old }
 {
-    for w in from..to {
-        full[k * SIDE + w] = 1;
-    }
+    full[k * SIDE + from..k * SIDE + to].fill(1);
 }

@@ -18,22 +18,22 @@ pub struct Place {
     pub rest: usize,
 }
 
-// The entry among from, .., to - 1 in which the position falls.
-fn seek(pairs: &[usize], from: usize, to: usize, position: usize) -> Place
-    requires { (from ≤ to) × (to ≤ length pairs.now) × (position < sum_to (to - from) (λ i. get_or pairs.now (from + i) 0)) }
-    ensures { (from ≤ result.at) × (result.at < to) × (sum_to (result.at - from) (λ i. get_or pairs.now (from + i) 0) + result.rest ≡ position) × (result.rest < get_or pairs.now result.at 0) }
+// The entry in which the position falls.
+fn seek(counts: &[usize], position: usize) -> Place
+    requires { position < sum_to (length counts.now) (λ i. get_or counts.now i 0) }
+    ensures { (result.at < length counts.now) × (sum_to result.at (λ i. get_or counts.now i 0) + result.rest ≡ position) × (result.rest < get_or counts.now result.at 0) }
 {
-    let mut at = from;
     let mut rest = position;
-    while at < to {
-        let count = pairs[at];
+    for (at, &count) in counts.iter().enumerate() {
         if rest < count {
             return Place { at, rest };
         }
         rest -= count;
-        at += 1;
     }
-    Place { at, rest }
+    Place {
+        at: counts.len(),
+        rest,
+    }
 }
 
 // How many open pairs there are.
@@ -41,11 +41,7 @@ pub fn total(pairs: &[usize; MAX_VERTICES], sums: &[usize; SUMS]) -> usize
     requires { Summed pairs.now sums.now }
     ensures { result ≡ open_to pairs.now side }
 {
-    let mut sum = 0;
-    for b in 0..SUMS {
-        sum += sums[b];
-    }
-    sum
+    sums.iter().sum()
 }
 
 // The row in which the open pair at the position stands.
@@ -53,9 +49,13 @@ pub fn row_at(pairs: &[usize; MAX_VERTICES], sums: &[usize; SUMS], position: usi
     requires { Summed pairs.now sums.now × (position < open_to pairs.now side) }
     ensures { (result.at < side) × (open_to pairs.now result.at + result.rest ≡ position) × (result.rest < get_or pairs.now result.at 0) }
 {
-    let block = seek(sums, 0, SUMS, position);
+    let block = seek(sums, position);
     let from = ROWS * block.at;
-    seek(pairs, from, from + ROWS, block.rest)
+    let row = seek(&pairs[from..from + ROWS], block.rest);
+    Place {
+        at: from + row.at,
+        rest: row.rest,
+    }
 }
 
 // Row v has m open pairs now.

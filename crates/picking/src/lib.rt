@@ -13,8 +13,7 @@ use layout::MAX_VERTICES;
 use open_pairs::column::column_at;
 use open_pairs::row::{SUMS, row_at, total};
 use progress::Pair;
-use slices::wide;
-use table::cells::{CELLS, wide32};
+use table::cells::CELLS;
 
 // The step of x.
 const MULTIPLIER: u64 = 1664525;
@@ -58,8 +57,8 @@ pub fn pick(
     ensures w_value { result.w ≡ pair_w n (class_from starts.now) (matrix_of cells.now) adjacency.now (position n (class_from starts.now) (matrix_of cells.now) adjacency.now x) result.v }
 {
     let m = total(pairs, sums);
-    let place = row_at(pairs, sums, wide32(x) / LOW_PART % m);
+    let place = row_at(pairs, sums, x as usize / LOW_PART % m);
     let v = place.at;
-    let w = column_at(adjacency, full, n, wide(classes[v]), v, place.rest);
+    let w = column_at(adjacency, full, n, usize::from(classes[v]), v, place.rest);
     Pair { v, w }
 }

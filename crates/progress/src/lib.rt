@@ -54,19 +54,17 @@ pub fn begin(
     Start { n, missing }
 }
 
-// The lowest vertex of from, .., to - 1 with fewer than k edges; to where there is none.
+// The lowest vertex of from, .., to - 1 with fewer than k edges; to where there is none (from, where to is below it).
 pub fn advance(degrees: &[usize; MAX_VERTICES], from: usize, to: usize, k: usize) -> usize
     requires { to ≤ side }
     ensures { result ≡ lowest from to (λ i. ltb (get_or degrees.now i 0) k) }
 {
-    let mut i = from;
-    while i < to {
+    for i in from..to {
         if degrees[i] < k {
             return i;
         }
-        i += 1;
     }
-    i
+    from.max(to)
 }
 
 // The record of a join written behind those of the joins before it, and one join more.

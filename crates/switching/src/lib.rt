@@ -70,12 +70,10 @@ fn choose_substitute(
 {
     let class = a.class;
     let to = starts[class + 1];
-    let mut b = a.low;
-    while b < to {
+    for b in a.low..to {
         if can_stand_in(degrees, class, other, b) {
             return b;
         }
-        b += 1;
     }
     other
 }
@@ -95,8 +93,8 @@ fn none_transfers(adjacency: &[u8], a: usize, b: usize, t: usize) -> bool
     let x = a * SIDE + t;
     let y = b * SIDE + t;
     let mut none = true;
-    for i in 0..LANES {
-        none = none & (adjacency[x + i] <= adjacency[y + i]);
+    for (p, q) in adjacency[x..x + LANES].iter().zip(&adjacency[y..y + LANES]) {
+        none = none & (*p <= *q);
     }
     none
 }
@@ -106,14 +104,14 @@ fn skip_transfers(adjacency: &[u8], n: usize, a: usize, b: usize) -> usize
     requires { (length adjacency.now ≡ adjacency_size) × (n ≤ side) × (a < side) × (b < side) }
     ensures { (result ≤ n) × ((i : ℕ) → i < result → can_transfer (edge adjacency.now) a b i ≡ false) }
 {
-    let mut t = 0;
-    while t + LANES <= n {
+    let blocks = n / LANES;
+    for block in 0..blocks {
+        let t = LANES * block;
         if !none_transfers(adjacency, a, b, t) {
             return t;
         }
-        t += LANES;
     }
-    t
+    LANES * blocks
 }
 
 // Document 01's t: the lowest vertex, not b, linked to a and not to b.
@@ -121,14 +119,12 @@ fn choose_transfer(adjacency: &[u8], n: usize, a: usize, b: usize) -> usize
     requires { (length adjacency.now ≡ adjacency_size) × (n ≤ side) × (a < side) × (b < side) }
     ensures { result ≡ transfer n (edge adjacency.now) a b }
 {
-    let mut t = skip_transfers(adjacency, n, a, b);
-    while t < n {
+    for t in skip_transfers(adjacency, n, a, b)..n {
         if can_transfer(adjacency, a, b, t) {
             return t;
         }
-        t += 1;
     }
-    t
+    n
 }
 
 // The edge v – w removed.

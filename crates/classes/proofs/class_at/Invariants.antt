@@ -1,6 +1,6 @@
 -- `classes::class_at` meets its contract: what is left to search has the answer of the whole.
 use mathlib.Core.Path.{◌≡◌}
-use Prim.Native.Nat.{◌+◌, ◌-◌, ◌≤◌}
+use Prim.Native.Nat.{◌+◌}
 use lib.Dec.{ltb}
 use lib.ListN.{get_or}
 use Rattle.finite.specs.Range.{lowest}
@@ -9,7 +9,4 @@ use Rattle.classes.specs.Inner.Block.{class_from}
 use Rattle.classes.proofs.class_at.Given as goal
 
 abbrev pub invariant-loop-k : goal.invariant-loop-k
-invariant-loop-k l = (l.k ≤ most_classes) × (class_from l.starts l.v ≡ lowest l.k most_classes (λ k. ltb l.v (get_or l.starts (k + 1) 0)))
-
-abbrev pub decreases-loop-k : goal.decreases-loop-k
-decreases-loop-k l = most_classes - l.k
+invariant-loop-k l = class_from l.starts l.v ≡ lowest l.k most_classes (λ k. ltb l.v (get_or l.starts (k + 1) 0))

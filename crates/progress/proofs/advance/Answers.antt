@@ -2,7 +2,8 @@
 use mathlib.Core.Path.{sym, ◌∙◌}
 use native.Mathlib.Omega.{arith}
 use borrow.Author.Tests.{lt-ltb, le-ltb}
-use Rattle.finite.proofs.Lowest.{lowest-end, lowest-here, lowest-next}
+use Rattle.finite.proofs.Lowest.{lowest-here, lowest-next}
+use Rattle.progress.proofs.Searched.{searched_all}
 use Rattle.progress.proofs.advance.Goals as goal
 
 pub returns-then-degrees-i : goal.returns-then-degrees-i
@@ -12,4 +13,4 @@ pub loop-i-preserved : goal.loop-i-preserved
 loop-i-preserved c = c.loop-i.invariant ∙ lowest-next _ _ _ (omega arith) (le-ltb _ _ c.if-degrees-i.false)
 
 pub returns : goal.returns
-returns c = sym (c.loop-i.invariant ∙ lowest-end _ _ _ c.loop-i-test.false)
+returns c = c.max.ensures ∙ searched_all _ _ _ _ c.loop-i.invariant c.loop-i-test.false (λ h. omega arith)

@@ -1,12 +1,10 @@
 -- `complete_shuffled::fill::shuffle_cells` meets its contract: after i turns i joins are made, and what is left of the run goes on from there.
 use mathlib.Core.Path.{refl, ap, ◌∙◌}
-use Prim.Native.Nat.{◌-◌}
 use native.Mathlib.Omega.{arith}
 use Rattle.graph.specs.Graph.{edges}
 use Rattle.table.specs.Inner.Cells.{matrix_of}
 use Rattle.adjacency.specs.Adjacency.{edge}
 use Rattle.classes.specs.Inner.Block.{class_from}
-use Rattle.progress.specs.Inner.Work.{ran}
 use Rattle.progress.proofs.Output.{wrote_none, wrote_then}
 use Rattle.shuffled_completion.specs.Shuffle.{Shuffled}
 use Rattle.complete_shuffled.specs.Inner.Work.{shuffled_at}

@@ -19,6 +19,3 @@ invariant-loop l = (l.counter ≤ l.m)
     ≡ run_shuffled most_edges l.n (class_from l.starts) (matrix_of l.cells) (begins l.initial.adjacency l.x))
     × (edges l.n (edge l.adjacency) ≡ edges l.n (edge l.initial.adjacency) + l.counter)
     × WroteRecords 0 l.done.totals.joins l.initial.output l.output
-
-abbrev pub decreases-loop : goal.decreases-loop
-decreases-loop l = l.m - l.counter

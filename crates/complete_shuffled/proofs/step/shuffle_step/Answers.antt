@@ -18,8 +18,8 @@ join_pair-made-requires c = (
   c.requires.0.degrees_right,
   c.requires.0.lows,
   c.requires.0.tracked.arranged,
-  row_of c.args.output.now c.args.done c.requires.0 c.requires.1 _ _ _ c.pick-pair.ensures.v_value c.pick-pair.ensures.w_value c.wide-k.ensures.0,
-  column_of c.args.output.now c.args.done c.requires.0 c.requires.1 _ _ _ c.pick-pair.ensures.v_value c.pick-pair.ensures.w_value c.wide-l.ensures.0,
+  row_of c.args.output.now c.args.done c.requires.0 c.requires.1 _ _ _ c.pick-pair.ensures.v_value c.pick-pair.ensures.w_value c.from-k.ensures,
+  column_of c.args.output.now c.args.done c.requires.0 c.requires.1 _ _ _ c.pick-pair.ensures.v_value c.pick-pair.ensures.w_value c.from-l.ensures,
 )
 
 pub record_join-totals-requires : goal.record_join-totals-requires
@@ -28,8 +28,8 @@ record_join-totals-requires c = step_recordable c.args.output.now c.args.done c.
 pub update-requires : goal.update-requires
 update-requires c =
     let asks = update_asks c.args.output.now c.args.done c.requires.0 c.requires.1 _ _ _ c.pick-pair.ensures.v_value c.pick-pair.ensures.w_value
-    (row_of c.args.output.now c.args.done c.requires.0 c.requires.1 _ _ _ c.pick-pair.ensures.v_value c.pick-pair.ensures.w_value c.wide-k.ensures.0)
-    (column_of c.args.output.now c.args.done c.requires.0 c.requires.1 _ _ _ c.pick-pair.ensures.v_value c.pick-pair.ensures.w_value c.wide-l.ensures.0)
+    (row_of c.args.output.now c.args.done c.requires.0 c.requires.1 _ _ _ c.pick-pair.ensures.v_value c.pick-pair.ensures.w_value c.from-k.ensures)
+    (column_of c.args.output.now c.args.done c.requires.0 c.requires.1 _ _ _ c.pick-pair.ensures.v_value c.pick-pair.ensures.w_value c.from-l.ensures)
     c.join_pair-made.ensures.adjacency_after c.join_pair-made.ensures.value in
     let joinable = step_joinable c.args.output.now c.args.done c.requires.0 c.requires.1 _ _ _ c.pick-pair.ensures.v_value c.pick-pair.ensures.w_value in
     record {
@@ -39,8 +39,8 @@ update-requires c =
 
 pub returns : goal.returns
 returns c =
-    let row = row_of c.args.output.now c.args.done c.requires.0 c.requires.1 _ _ _ c.pick-pair.ensures.v_value c.pick-pair.ensures.w_value c.wide-k.ensures.0 in
-    let column = column_of c.args.output.now c.args.done c.requires.0 c.requires.1 _ _ _ c.pick-pair.ensures.v_value c.pick-pair.ensures.w_value c.wide-l.ensures.0 in
+    let row = row_of c.args.output.now c.args.done c.requires.0 c.requires.1 _ _ _ c.pick-pair.ensures.v_value c.pick-pair.ensures.w_value c.from-k.ensures in
+    let column = column_of c.args.output.now c.args.done c.requires.0 c.requires.1 _ _ _ c.pick-pair.ensures.v_value c.pick-pair.ensures.w_value c.from-l.ensures in
     let made = c.join_pair-made.ensures.value in
     let bytes = c.join_pair-made.ensures.adjacency_after in
     record {

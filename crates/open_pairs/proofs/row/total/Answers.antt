@@ -1,17 +1,19 @@
--- `open_pairs::row::total` meets its contract: before sum b, the rows of the sums passed are counted.
+-- `open_pairs::row::total` meets its contract.
+use mathlib.Core.Path.{◌≡◌, ◌∙◌}
+use Prim.Native.Nat.{◌<◌}
 use native.Mathlib.Omega.{arith}
-use Rattle.finite.proofs.Sum.{sum_to-none}
-use Rattle.open_pairs.proofs.Sums.{sum-most, open_block}
+use Rattle.std.proofs.Common.{rules}
+use Rattle.std.specs.Prelude.{sum}
+use Rattle.open_pairs.proofs.Sums.{sums_total}
 use Rattle.open_pairs.proofs.row.total.Goals as goal
 
-pub loop-b-init : goal.loop-b-init
-loop-b-init c = rw sum_to-none (omega arith, omega arith, omega arith)
+pub sum-requires-clause-fits : goal.sum-requires-clause-fits
+sum-requires-clause-fits c =
+    let p = sums_total c.requires in
+    let few : sum c.args.sums.now < 18446744073709551616 = omega (arith, p.0, p.1) in
+    search rules
 
-pub overflow_add-sum : goal.overflow_add-sum
-overflow_add-sum c = omega (arith, sum-most c.requires c.loop-b.b (omega arith))
-
-pub loop-b-preserved : goal.loop-b-preserved
-loop-b-preserved c =
-    let p = c.requires in
-    let b = c.loop-b.b in
-    (omega arith, rw (open_block p b (omega arith), c.loop-b.invariant.1), omega (arith, sum-most p b (omega arith)))
+pub returns : goal.returns
+returns c =
+    let e : c.sum.result ≡ sum c.args.sums.now = search rules in
+    e ∙ (sums_total c.requires).0
