@@ -6,11 +6,12 @@ use Prim.Native.Nat.{ℕ, zero, suc, ◌+◌, ◌-◌, ◌*◌, ◌/◌, ◌≤�
 use native.Mathlib.Numerals.{add-one}
 use native.Mathlib.Decide.{ℕ_discrete}
 use native.Mathlib.Omega.{arith}
-use lib.ListN.{length, get_or, set, length-set}
+use lib.ListN.{length, get_or, set, replicate, length-set, length-replicate}
 use Rattle.std.specs.Prelude.{fold, sum}
 use lib.Seq.{get_or-set_same, get_or-set_other}
+use Rattle.slices.proofs.Zero.{get_or-zeros}
 use Rattle.finite.specs.Range.{sum_to}
-use Rattle.finite.proofs.Sum.{sum_to-none, sum_to-more, sum_to-cong, sum_to-mono, sum_to-const, sum_to-term, sum_to-split, sum_to-change}
+use Rattle.finite.proofs.Sum.{sum_to-none, sum_to-more, sum_to-cong, sum_to-mono, sum_to-const, sum_to-zero, sum_to-term, sum_to-split, sum_to-change}
 use Rattle.adjacency.specs.Adjacency.{side}
 use Rattle.open_pairs.specs.Inner.Rows.{rows_in_sum, sum_count, open_to, Summed}
 
@@ -105,3 +106,15 @@ sums_total {pairs} {sums} s = (
   omega (arith, rw s.sums_sized at (sum_from 0 sums), open_blocks s sum_count (omega arith)),
   omega (arith, sum_to-mono side (λ i. get_or pairs i 0) (λ i. side) (λ i l. s.few i), sum_to-const side side),
 )
+
+-- no row has an open pair
+pub none_summed : Summed (replicate side 0) (replicate sum_count 0)
+none_summed =
+    record {
+      sized = length-replicate {A = ℕ} side 0;
+      sums_sized = length-replicate {A = ℕ} sum_count 0;
+      few = λ v. omega (arith, get_or-zeros side v);
+      summed = λ b h.
+          get_or-zeros sum_count b
+          ∙ sym (sum_to-zero rows_in_sum (λ i. get_or (replicate side 0) (rows_in_sum * b + i) 0) (λ i l. get_or-zeros side (rows_in_sum * b + i)));
+    }

@@ -1,6 +1,5 @@
 pub mod ValidRuns
 pub mod Output
 pub mod Whole
-pub mod Searched
 pub mod Saturated
 pub mod Checked

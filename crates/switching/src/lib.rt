@@ -16,6 +16,7 @@ ghost use Rattle.graph.specs.Tests.{most_classes, class_degree};
 use adjacency::{SIDE, set_edge};
 use answer::switches::Switch;
 use classes::STARTS;
+use finite::lowest_passing;
 use layout::MAX_VERTICES;
 use table::class::class_degree;
 
@@ -70,12 +71,8 @@ fn choose_substitute(
 {
     let class = a.class;
     let to = starts[class + 1];
-    for b in a.low..to {
-        if can_stand_in(degrees, class, other, b) {
-            return b;
-        }
-    }
-    other
+    let b = lowest_passing(a.low, to, |b| can_stand_in(degrees, class, other, b));
+    if b < to { b } else { other }
 }
 
 fn can_transfer(adjacency: &[u8], a: usize, b: usize, t: usize) -> bool
@@ -119,12 +116,8 @@ fn choose_transfer(adjacency: &[u8], n: usize, a: usize, b: usize) -> usize
     requires { (length adjacency.now ≡ adjacency_size) × (n ≤ side) × (a < side) × (b < side) }
     ensures { result ≡ transfer n (edge adjacency.now) a b }
 {
-    for t in skip_transfers(adjacency, n, a, b)..n {
-        if can_transfer(adjacency, a, b, t) {
-            return t;
-        }
-    }
-    n
+    let from = skip_transfers(adjacency, n, a, b);
+    lowest_passing(from, n, |t| can_transfer(adjacency, a, b, t))
 }
 
 // The edge v – w removed.

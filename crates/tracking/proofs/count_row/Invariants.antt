@@ -3,4 +3,4 @@ use Rattle.tracking.specs.Inner.Track.{cell_place, Counted}
 use Rattle.tracking.proofs.count_row.Given as goal
 
 abbrev pub invariant-loop-l : goal.invariant-loop-l
-invariant-loop-l l = Counted (cell_place l.k l.l) l.n l.cells l.starts l.adjacency l.have l.full
+invariant-loop-l l = Counted (cell_place l.k l.l) l.plan.n l.plan.cells.now l.plan.starts.now l.adjacency l.have l.full

@@ -6,11 +6,11 @@ use Rattle.complete_shuffled.proofs.step.shuffle_step.Goals as goal
 pub pick-pair-requires : goal.pick-pair-requires
 pick-pair-requires c = (c.requires.0.tracked, c.requires.0.is_valid.filling, step_some c.args.output.now c.args.done c.requires.0 c.requires.1)
 
-pub bounds-classes-v : goal.bounds-classes-v
-bounds-classes-v c = omega (arith, (step_few c.args.output.now c.args.done c.requires.0 c.requires.1 _ _ _ c.pick-pair.ensures.v_value c.pick-pair.ensures.w_value).0)
+pub bounds-plan-v : goal.bounds-plan-v
+bounds-plan-v c = omega (arith, (step_few c.args.output.now c.args.done c.requires.0 c.requires.1 _ _ _ c.pick-pair.ensures.v_value c.pick-pair.ensures.w_value).0)
 
-pub bounds-classes-w : goal.bounds-classes-w
-bounds-classes-w c = omega (arith, (step_few c.args.output.now c.args.done c.requires.0 c.requires.1 _ _ _ c.pick-pair.ensures.v_value c.pick-pair.ensures.w_value).1)
+pub bounds-plan-w : goal.bounds-plan-w
+bounds-plan-w c = omega (arith, (step_few c.args.output.now c.args.done c.requires.0 c.requires.1 _ _ _ c.pick-pair.ensures.v_value c.pick-pair.ensures.w_value).1)
 
 pub join_pair-made-requires : goal.join_pair-made-requires
 join_pair-made-requires c = (
@@ -33,7 +33,7 @@ update-requires c =
     c.join_pair-made.ensures.adjacency_after c.join_pair-made.ensures.value in
     let joinable = step_joinable c.args.output.now c.args.done c.requires.0 c.requires.1 _ _ _ c.pick-pair.ensures.v_value c.pick-pair.ensures.w_value in
     record {
-      scannable = (asks.0.0, asks.0.1, c.requires.0.tracked.summed, c.requires.0.tracked.arranged, asks.0.2);
+      scannable = (asks.0.0, asks.0.1, c.requires.0.tracked.arranged, asks.0.2);
       v_lt_n = (joinable.pair.first, asks.1.0, asks.1.1, asks.1.2);
     }
 
@@ -47,5 +47,5 @@ returns c =
       result_after = rw c.record_join-totals.ensures.value.0 (step_next c.args.output.now c.args.done c.requires.0 c.requires.1 _ _ _ c.pick-pair.ensures.v_value c.pick-pair.ensures.w_value row column bytes made c.record_join-totals.ensures.output_after c.next_x-stepped.ensures);
       wrote_records = c.record_join-totals.ensures.value.1;
       shuffling = rw c.record_join-totals.ensures.value.0 (step_shuffling c.args.output.now c.args.done c.requires.0 c.requires.1 _ _ _ c.pick-pair.ensures.v_value c.pick-pair.ensures.w_value row column bytes made c.record_join-totals.ensures.output_after
-          c.update.ensures.have_after c.update.ensures.full_after c.update.ensures.pairs_after c.update.ensures.summed c.join_pair-made.ensures.lows c.join_pair-made.ensures.degrees_after);
+          c.update.ensures.have_after c.update.ensures.full_after c.update.ensures.pairs_after c.join_pair-made.ensures.lows c.join_pair-made.ensures.degrees_after);
     }
