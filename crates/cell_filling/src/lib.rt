@@ -16,7 +16,6 @@ use classes::STARTS;
 use joining::{both_reliefs, cut_off, join};
 use layout::MAX_VERTICES;
 use progress::{Pair, Totals, advance, record_join};
-use slices::least;
 use switching::End;
 use table::class::class_degree;
 
@@ -63,7 +62,7 @@ fn cell_step(
         low: w,
     };
     let done = join(adjacency, degrees, starts, n, row, column);
-    let next = least(cut_off(n, done), pair.w + 1);
+    let next = cut_off(n, done).min(pair.w + 1);
     let made = both_reliefs(done);
     let sum = record_join(output, totals, pair.v, pair.w, made);
     Step {

@@ -1,11 +1,12 @@
 // The lowest open pair of a cell, searched from where the last search ended.
-ghost use Rattle.std.specs.Prelude.{◌≡◌, ◌+◌, ◌≤◌, ◌<◌, max, length};
+ghost use Rattle.std.specs.Prelude.{◌≡◌, ◌+◌, ◌≤◌, ◌<◌, length};
 ghost use Rattle.finite.specs.Range.{lowest};
 ghost use Rattle.adjacency.specs.Adjacency.{adjacency_size, side};
 ghost use Rattle.cell_filling.specs.Inner.Cursor.{free_column};
 ghost use Rattle.cell_filling.specs.Inner.Search.{first_column, lowest_column, has_column, Searchable};
 
 use adjacency::SIDE;
+use finite::lowest_passing;
 use progress::Pair;
 
 // The vertices from, .., to - 1.
@@ -31,19 +32,12 @@ fn is_free(adjacency: &[u8], v: usize, w: usize) -> bool
     (adjacency[v * SIDE + w] == 0) & (v != w)
 }
 
-// The lowest w of from, .., to - 1 that is not linked to v and is not v; to or above where there is none.
+// The lowest w of from, .., to - 1 that is not linked to v and is not v; to where there is none (from, where to is below it).
 fn free_column(adjacency: &[u8], v: usize, from: usize, to: usize) -> usize
     requires { (length adjacency.now ≡ adjacency_size) × (v < side) × (to ≤ side) }
     ensures { result ≡ lowest from to (free_column adjacency.now v) }
 {
-    let mut w = from;
-    while w < to {
-        if is_free(adjacency, v, w) {
-            return w;
-        }
-        w += 1;
-    }
-    w
+    lowest_passing(from, to, |w| is_free(adjacency, v, w))
 }
 
 // Where the columns of row v begin: on the diagonal above v.
@@ -57,15 +51,6 @@ fn first_column(cell: Cell, v: usize) -> usize
     cell.columns.from
 }
 
-fn greatest(a: usize, b: usize) -> usize
-    ensures { result ≡ max a b }
-{
-    if a < b {
-        return b;
-    }
-    a
-}
-
 // The lowest open pair of the cell, from row v and in this row from column w on: the columns before it are not free.
 pub fn open_pair(adjacency: &[u8], cell: Cell, v: usize, w: usize) -> Pair
     requires { (length adjacency.now ≡ adjacency_size) × Searchable adjacency.now cell v w }
@@ -73,16 +58,14 @@ pub fn open_pair(adjacency: &[u8], cell: Cell, v: usize, w: usize) -> Pair
 {
     let bottom = cell.rows.to;
     let end = cell.columns.to;
-    let mut row = v;
     let mut from = w;
-    while row < bottom {
-        let first = greatest(from, first_column(cell, row));
+    for row in v..bottom {
+        let first = from.max(first_column(cell, row));
         let column = free_column(adjacency, row, first, end);
         if column < end {
             return Pair { v: row, w: column };
         }
-        row += 1;
         from = 0;
     }
-    Pair { v: row, w: end }
+    Pair { v: bottom, w: end }
 }

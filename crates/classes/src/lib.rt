@@ -11,6 +11,7 @@ ghost use Rattle.adjacency.specs.Adjacency.{adjacency_size, side, edge};
 ghost use Rattle.classes.specs.Inner.Block.{starts_of, class_from, block_sum, triangle_sum, BlockOf};
 
 use adjacency::SIDE;
+use finite::lowest_passing;
 use slices::ones;
 use table::class::MAX_CLASSES;
 
@@ -24,9 +25,9 @@ pub fn starts(counts: &[usize; MAX_CLASSES]) -> [usize; STARTS]
 {
     let mut t = [0usize; STARTS];
     let mut sum = 0;
-    for k in 0..MAX_CLASSES {
+    for (k, count) in counts.iter().enumerate() {
         t[k] = sum;
-        sum += counts[k];
+        sum += count;
     }
     t[MAX_CLASSES] = sum;
     t
@@ -36,14 +37,7 @@ pub fn starts(counts: &[usize; MAX_CLASSES]) -> [usize; STARTS]
 pub fn class_at(starts: &[usize; STARTS], v: usize) -> usize
     ensures { result ≡ class_from starts.now v }
 {
-    let mut k = 0;
-    while k < MAX_CLASSES {
-        if v < starts[k + 1] {
-            return k;
-        }
-        k += 1;
-    }
-    k
+    lowest_passing(0, MAX_CLASSES, |k| v < starts[k + 1])
 }
 
 // The ones of row v in columns left, .., right - 1.

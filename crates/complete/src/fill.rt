@@ -99,8 +99,8 @@ fn fill_row(
         return totals;
     }
     let mut sum = totals;
-    for i in 0..MAX_CLASSES - k {
-        sum = fill_cell(adjacency, output, degrees, cells, starts, n, k, k + i, sum);
+    for l in k..MAX_CLASSES {
+        sum = fill_cell(adjacency, output, degrees, cells, starts, n, k, l, sum);
     }
     sum
 }
@@ -120,17 +120,8 @@ pub fn fill_all(
     ensures wrote_records { WroteRecords totals.joins result.joins output.old output.new }
 {
     let mut sum = totals;
-    for i in 0..MAX_CLASSES - LEAST_CLASS {
-        sum = fill_row(
-            adjacency,
-            output,
-            degrees,
-            cells,
-            starts,
-            n,
-            LEAST_CLASS + i,
-            sum,
-        );
+    for k in LEAST_CLASS..MAX_CLASSES {
+        sum = fill_row(adjacency, output, degrees, cells, starts, n, k, sum);
     }
     sum
 }

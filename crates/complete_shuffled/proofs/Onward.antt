@@ -18,7 +18,7 @@ use Rattle.join_bytes.specs.Join.{join_bytes, join_switches}
 use Rattle.adjacency.specs.Inner.Degrees.{degrees_of}
 use Rattle.join_bytes.specs.Inner.Joinable.{Joinable}
 use Rattle.join_bytes.proofs.Untouched.{switches_below}
-use Rattle.open_pairs.specs.Inner.Rows.{Scannable, Summed}
+use Rattle.open_pairs.specs.Inner.Rows.{Scannable}
 use Rattle.open_pairs.specs.Inner.Refresh.{Classed, Within}
 use Rattle.completion.specs.Complete.{Ran, joined}
 use Rattle.progress.specs.Inner.Work.{ran, with_join, Recordable}
@@ -32,8 +32,8 @@ use Rattle.complete_shuffled.specs.declared.step.Shuffle.{Shuffle}
 use Rattle.shuffled_completion.proofs.Picked.{Picked, picked, some_open, position-below, passes-open, passes-rising}
 use Rattle.tracking.proofs.Following.{joinable, column_class, classes_rise, now_within, scannable_after, tracked_after}
 
-module _ {n : ℕ} {cells starts classes g have full pairs sums low degrees : List ℕ} (out : List ℕ) (d : Shuffle)
-    (p : Shuffling n cells starts classes g have full pairs sums low degrees (length out) (ran g out d.totals))
+module _ {n : ℕ} {cells starts classes g have full pairs low degrees : List ℕ} (out : List ℕ) (d : Shuffle)
+    (p : Shuffling n cells starts classes g have full pairs low degrees (length out) (ran g out d.totals))
     (e : incomplete_shuffled n (class_from starts) (matrix_of cells) (shuffled_at g out d) ≡ true) where
   pub step_some : 0 < open_count n (class_from starts) (matrix_of cells) g
   step_some = some_open n (class_from starts) (matrix_of cells) g p.is_valid.filling e
@@ -90,12 +90,12 @@ module _ {n : ℕ} {cells starts classes g have full pairs sums low degrees : Li
           )
 
       -- what is kept after it
-      step-tracked : {have' full' pairs' sums' : List ℕ} → have' ≡ have_after k l have → full' ≡ flags_after cells starts k l have full
+      step-tracked : {have' full' pairs' : List ℕ} → have' ≡ have_after k l have → full' ≡ flags_after cells starts k l have full
           → pairs' ≡ pairs_after n starts classes g' (flags_after cells starts k l have full) v k (is_full_now cells k l have) s pairs
-          → Summed pairs' sums' → Tracked n cells starts classes g' have' full' pairs' sums'
-      step-tracked eh ef ec summed =
+          → Tracked n cells starts classes g' have' full' pairs'
+      step-tracked eh ef ec =
           let ec' = rw (eg, ek, el, es) at ec in
-          rw (eg, eh, ef, ek, el) (tracked_after p.tracked p.is_valid.filling v w step_rises step_pair ec' summed)
+          rw (eg, eh, ef, ek, el) (tracked_after p.tracked p.is_valid.filling v w step_rises step_pair ec')
 
       -- the output with the record
       module _ {out' : List ℕ} (eo : out' ≡ sets out (join_record_size * d.totals.joins) (join_record v w s)) where
@@ -125,13 +125,13 @@ module _ {n : ℕ} {cells starts classes g have full pairs sums low degrees : Li
                 (next_shuffled n (class_from starts) (matrix_of cells) (shuffled_at g out d))
             same = rw ex refl
 
-        pub step_shuffling : {have' full' pairs' sums' low' degrees' : List ℕ} → have' ≡ have_after k l have → full' ≡ flags_after cells starts k l have full
+        pub step_shuffling : {have' full' pairs' low' degrees' : List ℕ} → have' ≡ have_after k l have → full' ≡ flags_after cells starts k l have full
             → pairs' ≡ pairs_after n starts classes g' (flags_after cells starts k l have full) v k (is_full_now cells k l have) s pairs
-            → Summed pairs' sums' → Lows n starts (join_bytes n (class_from starts) g v w) low' → degrees' ≡ degrees_of n (join_bytes n (class_from starts) g v w)
-            → Shuffling n cells starts classes g' have' full' pairs' sums' low' degrees' (length out) (ran g' out' (with_join d.totals s))
-        step_shuffling eh ef ec summed lows ed =
+            → Lows n starts (join_bytes n (class_from starts) g v w) low' → degrees' ≡ degrees_of n (join_bytes n (class_from starts) g v w)
+            → Shuffling n cells starts classes g' have' full' pairs' low' degrees' (length out) (ran g' out' (with_join d.totals s))
+        step_shuffling eh ef ec lows ed =
             record {
-              tracked = step-tracked eh ef ec summed;
+              tracked = step-tracked eh ef ec;
               lows = rw eg lows;
               is_valid =
                   rw step_ran

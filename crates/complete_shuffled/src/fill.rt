@@ -9,18 +9,11 @@ ghost use Rattle.tracking.specs.Inner.Track.{ClassArray};
 ghost use Rattle.complete_shuffled.specs.Inner.Work.{Lacks, shuffled_at, begins};
 
 use crate::step::{Shuffle, shuffle_step};
-use adjacency::SIDE;
 use classes::STARTS;
 use layout::MAX_VERTICES;
-use open_pairs::refresh::refresh_range;
-use open_pairs::row::SUMS;
 use progress::Totals;
 use table::cells::CELLS;
-use table::class::MAX_CLASSES;
-use tracking::count_cells;
-
-// One flag for each class and vertex.
-const FLAGS: usize = MAX_CLASSES * SIDE;
+use tracking::{Plan, Tracking};
 
 // m joins: as many as are missing.
 pub fn shuffle_cells(
@@ -38,12 +31,13 @@ pub fn shuffle_cells(
     ensures result_after { shuffled_at adjacency.new output.new result ≡ run_shuffled most_edges n (class_from starts.now) (matrix_of cells.now) (begins adjacency.old x) }
     ensures wrote_records { WroteRecords 0 result.totals.joins output.old output.new }
 {
-    let mut have = [0u32; CELLS];
-    let mut full = [0u8; FLAGS];
-    let mut pairs = [0usize; MAX_VERTICES];
-    let mut sums = [0usize; SUMS];
-    count_cells(adjacency, cells, starts, &mut have, &mut full, n);
-    refresh_range(adjacency, &full, classes, &mut pairs, &mut sums, n, 0, n);
+    let plan = Plan {
+        n,
+        cells,
+        starts,
+        classes,
+    };
+    let mut tracking = Tracking::new(adjacency, &plan);
     let mut low = *starts;
     let none = Totals {
         joins: 0,
@@ -52,8 +46,13 @@ pub fn shuffle_cells(
     let mut done = Shuffle { totals: none, x };
     for _ in 0..m {
         done = shuffle_step(
-            adjacency, output, degrees, &mut low, &mut have, &mut full, &mut pairs, &mut sums,
-            cells, starts, classes, n, done,
+            adjacency,
+            output,
+            degrees,
+            &mut low,
+            &mut tracking,
+            &plan,
+            done,
         );
     }
     done

@@ -15,14 +15,11 @@ use answer::switches::Switches;
 use classes::STARTS;
 use joining::{both_reliefs, join};
 use layout::MAX_VERTICES;
-use open_pairs::row::SUMS;
 use picking::{next_x, pick};
 use progress::{Pair, Totals, advance, record_join};
-use slices::wide;
 use switching::End;
-use table::cells::CELLS;
 use table::class::class_degree;
-use tracking::update;
+use tracking::{Plan, Tracking};
 
 // Edges added and switches made, and x.
 #[derive(Clone, Copy)]
@@ -52,20 +49,19 @@ fn join_pair(
     adjacency: &mut [u8],
     degrees: &mut [usize; MAX_VERTICES],
     low: &mut [usize; STARTS],
-    starts: &[usize; STARTS],
-    n: usize,
+    plan: &Plan<'_>,
     pair: Pair,
     k: usize,
     l: usize,
 ) -> Switches
-    requires { Joinable n (class_from starts.now) adjacency.old pair.v pair.w × (degrees.old ≡ degrees_of n adjacency.old) × Lows n starts.now adjacency.old low.old × Arranged n starts.now × (k ≡ class_from starts.now pair.v) × (l ≡ class_from starts.now pair.w) }
-    ensures value { result ≡ join_switches n (class_from starts.now) adjacency.old pair.v pair.w }
-    ensures adjacency_after { adjacency.new ≡ join_bytes n (class_from starts.now) adjacency.old pair.v pair.w }
-    ensures degrees_after { degrees.new ≡ degrees_of n (join_bytes n (class_from starts.now) adjacency.old pair.v pair.w) }
-    ensures lows { Lows n starts.now (join_bytes n (class_from starts.now) adjacency.old pair.v pair.w) low.new }
+    requires { Joinable plan.now.n (class_from plan.now.starts.now) adjacency.old pair.v pair.w × (degrees.old ≡ degrees_of plan.now.n adjacency.old) × Lows plan.now.n plan.now.starts.now adjacency.old low.old × Arranged plan.now.n plan.now.starts.now × (k ≡ class_from plan.now.starts.now pair.v) × (l ≡ class_from plan.now.starts.now pair.w) }
+    ensures value { result ≡ join_switches plan.now.n (class_from plan.now.starts.now) adjacency.old pair.v pair.w }
+    ensures adjacency_after { adjacency.new ≡ join_bytes plan.now.n (class_from plan.now.starts.now) adjacency.old pair.v pair.w }
+    ensures degrees_after { degrees.new ≡ degrees_of plan.now.n (join_bytes plan.now.n (class_from plan.now.starts.now) adjacency.old pair.v pair.w) }
+    ensures lows { Lows plan.now.n plan.now.starts.now (join_bytes plan.now.n (class_from plan.now.starts.now) adjacency.old pair.v pair.w) low.new }
 {
-    let row = low_of(degrees, starts, low, k);
-    let column = low_of(degrees, starts, low, l);
+    let row = low_of(degrees, plan.starts, low, k);
+    let column = low_of(degrees, plan.starts, low, l);
     let v = End {
         at: pair.v,
         class: k,
@@ -76,7 +72,7 @@ fn join_pair(
         class: l,
         low: column,
     };
-    let joined = join(adjacency, degrees, starts, n, v, w);
+    let joined = join(adjacency, degrees, plan.starts, plan.n, v, w);
     both_reliefs(joined)
 }
 
@@ -86,33 +82,23 @@ pub fn shuffle_step(
     output: &mut [u8],
     degrees: &mut [usize; MAX_VERTICES],
     low: &mut [usize; STARTS],
-    have: &mut [u32; CELLS],
-    full: &mut [u8],
-    pairs: &mut [usize; MAX_VERTICES],
-    sums: &mut [usize; SUMS],
-    cells: &[u32; CELLS],
-    starts: &[usize; STARTS],
-    classes: &[u8; MAX_VERTICES],
-    n: usize,
+    tracking: &mut Tracking,
+    plan: &Plan<'_>,
     done: Shuffle,
 ) -> Shuffle
-    requires { Shuffling n cells.now starts.now classes.now adjacency.old have.old full.old pairs.old sums.old low.old degrees.old (length output.old) (ran adjacency.old output.old done.totals) × (incomplete_shuffled n (class_from starts.now) (matrix_of cells.now) (shuffled_at adjacency.old output.old done) ≡ true) }
-    ensures result_after { shuffled_at adjacency.new output.new result ≡ next_shuffled n (class_from starts.now) (matrix_of cells.now) (shuffled_at adjacency.old output.old done) }
+    requires { Shuffling plan.now.n plan.now.cells.now plan.now.starts.now plan.now.classes.now adjacency.old tracking.old.have tracking.old.full tracking.old.counts low.old degrees.old (length output.old) (ran adjacency.old output.old done.totals) × (incomplete_shuffled plan.now.n (class_from plan.now.starts.now) (matrix_of plan.now.cells.now) (shuffled_at adjacency.old output.old done) ≡ true) }
+    ensures result_after { shuffled_at adjacency.new output.new result ≡ next_shuffled plan.now.n (class_from plan.now.starts.now) (matrix_of plan.now.cells.now) (shuffled_at adjacency.old output.old done) }
     ensures wrote_records { WroteRecords done.totals.joins result.totals.joins output.old output.new }
-    ensures shuffling { Shuffling n cells.now starts.now classes.now adjacency.new have.new full.new pairs.new sums.new low.new degrees.new (length output.old) (ran adjacency.new output.new result.totals) }
+    ensures shuffling { Shuffling plan.now.n plan.now.cells.now plan.now.starts.now plan.now.classes.now adjacency.new tracking.new.have tracking.new.full tracking.new.counts low.new degrees.new (length output.old) (ran adjacency.new output.new result.totals) }
 {
     let stepped = next_x(done.x);
-    let pair = pick(
-        adjacency, cells, starts, classes, have, full, pairs, sums, n, stepped,
-    );
+    let pair = pick(adjacency, plan, tracking, stepped);
     let v = pair.v;
     let w = pair.w;
-    let k = wide(classes[v]);
-    let l = wide(classes[w]);
-    let made = join_pair(adjacency, degrees, low, starts, n, pair, k, l);
+    let k = usize::from(plan.classes[v]);
+    let l = usize::from(plan.classes[w]);
+    let made = join_pair(adjacency, degrees, low, plan, pair, k, l);
     let totals = record_join(output, done.totals, v, w, made);
-    update(
-        adjacency, cells, starts, classes, have, full, pairs, sums, n, v, k, l, made,
-    );
+    tracking.update(adjacency, plan, v, k, l, made);
     Shuffle { totals, x: stepped }
 }

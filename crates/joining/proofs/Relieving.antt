@@ -24,18 +24,17 @@ use Rattle.switching.specs.Inner.Work.{with_edge, Linkable, Placed}
 use Rattle.switching.specs.declared.End.{End}
 use Rattle.switching.proofs.Degrees.{few_edges, with-edge}
 use Rattle.joining.specs.Inner.Work.{relief_of, both_reliefs, cut_off, freed}
-use Rattle.joining.specs.declared.Relief.{Relief}
-use Rattle.joining.specs.declared.Relief.TheVariants.{Room, Switched}
+use Rattle.std.specs.Prelude.{Option, Some, None}
 
 -- x and y: what the reliefs of v and w took. Together they are the join's switches, and x tells what was cut off from v.
-module _ {n : ℕ} {cls : ℕ → ℕ} {g : List ℕ} {v w : ℕ} (j : Joinable n cls g v w) {x : Relief} (ex : x ≡ relief_of n cls g v w) where
-  pub reliefs_switches : {y : Relief} → y ≡ relief_of n cls (relieve_bytes n cls g v w) w v → both_reliefs x y ≡ join_switches n cls g v w
+module _ {n : ℕ} {cls : ℕ → ℕ} {g : List ℕ} {v w : ℕ} (j : Joinable n cls g v w) {x : Option Switch} (ex : x ≡ relief_of n cls g v w) where
+  pub reliefs_switches : {y : Option Switch} → y ≡ relief_of n cls (relieve_bytes n cls g v w) w v → both_reliefs x y ≡ join_switches n cls g v w
   reliefs_switches ey =
       rw (ex, ey)
       (go (unsaturated n cls class_degree (edge g) v) (unsaturated n cls class_degree (edge (relieve_bytes n cls g v w)) w)
       (switch_at n cls g v w) (switch_at n cls (relieve_bytes n cls g v w) w v))
     where
-      go : (p q : Bool) (x y : Switch) → both_reliefs (cond p Room (Switched x)) (cond q Room (Switched y)) ≡ in_order p q x y
+      go : (p q : Bool) (x y : Switch) → both_reliefs (cond p None (Some x)) (cond q None (Some y)) ≡ in_order p q x y
       go true true x y = refl
       go true false x y = refl
       go false true x y = refl
@@ -44,7 +43,7 @@ module _ {n : ℕ} {cls : ℕ → ℕ} {g : List ℕ} {v w : ℕ} (j : Joinable 
   pub relief_freed : cut_off n x ≡ freed n cls g v w
   relief_freed = rw ex (go (unsaturated n cls class_degree (edge g) v))
     where
-      go : (p : Bool) → cut_off n (cond p Room (Switched (switch_at n cls g v w))) ≡ cond p n (transfer_at n cls g v w)
+      go : (p : Bool) → cut_off n (cond p None (Some (switch_at n cls g v w))) ≡ cond p n (transfer_at n cls g v w)
       go true = refl
       go false = refl
 

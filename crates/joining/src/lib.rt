@@ -16,18 +16,11 @@ use layout::MAX_VERTICES;
 use switching::{End, link, neighbor_switch};
 use table::class::class_degree;
 
-// What making room at an end took: nothing, or a switch.
-#[derive(Clone, Copy)]
-pub enum Relief {
-    Room,
-    Switched(Switch),
-}
-
-// What making room took at both ends of a join.
+// What making room took at both ends of a join: a switch, or nothing.
 #[derive(Clone, Copy)]
 pub struct Reliefs {
-    pub v: Relief,
-    pub w: Relief,
+    pub v: Option<Switch>,
+    pub w: Option<Switch>,
 }
 
 // Makes room at a: a neighbour switch if it is saturated.
@@ -38,7 +31,7 @@ fn relieve(
     n: usize,
     a: End,
     other: usize,
-) -> Relief
+) -> Option<Switch>
     requires { Joinable n (class_from starts.now) adjacency.old a.at other × Placed n starts.now adjacency.old a other × (degrees.old ≡ degrees_of n adjacency.old) }
     ensures value { result ≡ relief_of n (class_from starts.now) adjacency.old a.at other }
     ensures adjacency_after { adjacency.new ≡ relieve_bytes n (class_from starts.now) adjacency.old a.at other }
@@ -46,38 +39,28 @@ fn relieve(
 {
     let v = a.at;
     if degrees[v] < class_degree(a.class) {
-        return Relief::Room;
+        return None;
     }
-    Relief::Switched(neighbor_switch(adjacency, degrees, starts, n, a, other))
+    Some(neighbor_switch(adjacency, degrees, starts, n, a, other))
 }
 
 // The switches of both ends, in the order made.
 pub fn both_reliefs(made: Reliefs) -> Switches
     ensures { result ≡ both_reliefs made.v made.w }
 {
-    let x = made.v;
-    let y = made.w;
-    match x {
-        Relief::Room => match y {
-            Relief::Room => Switches::None,
-            Relief::Switched(t) => Switches::One(t),
-        },
-        Relief::Switched(s) => match y {
-            Relief::Room => Switches::One(s),
-            Relief::Switched(t) => Switches::Two(s, t),
-        },
+    match (made.v, made.w) {
+        (None, None) => Switches::None,
+        (None, Some(y)) => Switches::One(y),
+        (Some(x), None) => Switches::One(x),
+        (Some(x), Some(y)) => Switches::Two(x, y),
     }
 }
 
-// The vertex that the switch of v cut off from v; n where there was none.
+// The vertex that the switch of v cut off from v. Where there was none it is n, not None: callers take the lower of it and a column.
 pub fn cut_off(n: usize, made: Reliefs) -> usize
     ensures { result ≡ cut_off n made.v }
 {
-    let x = made.v;
-    match x {
-        Relief::Room => n,
-        Relief::Switched(s) => s.t,
-    }
+    made.v.map_or(n, |s| s.t)
 }
 
 // Joins v and w: room at v, then at w, then the edge. Callers make of the reliefs what they need, so that this stays small enough to be

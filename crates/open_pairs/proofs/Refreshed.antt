@@ -37,6 +37,11 @@ module _ (n : ℕ) (classes g full : List ℕ) where
   pub range_length : (from to : ℕ) (pairs : List ℕ) → length (refresh_range n classes g full from to pairs) ≡ length pairs
   range_length from to pairs = rows-length from (to - from) pairs
 
+  pub switches_length : (s : Switches) (pairs : List ℕ) → length (refresh_switches n classes g full s pairs) ≡ length pairs
+  switches_length None pairs = refl
+  switches_length (One x) pairs = switch-length x pairs
+  switches_length (Two x y) pairs = switch-length y (refresh_switch n classes g full x pairs) ∙ switch-length x pairs
+
   module _ (z : ℕ) where
     -- a row that is not counted anew
     pub row_else : (v : ℕ) (pairs : List ℕ) → z ≢ v → get_or (refresh_row n classes g full v pairs) z 0 ≡ get_or pairs z 0

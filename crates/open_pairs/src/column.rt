@@ -1,12 +1,11 @@
 // The open pairs of one row: how many there are, and which one stands at a position.
-ghost use Rattle.std.specs.Prelude.{◌≡◌, true, ◌&&◌, ℕ, ◌+◌, ◌≤◌, ◌<◌, max, eqb, length, get_or};
+ghost use Rattle.std.specs.Prelude.{◌≡◌, true, ◌&&◌, ℕ, ◌+◌, ◌≤◌, ◌<◌, eqb, length, get_or};
 ghost use Rattle.finite.specs.Range.{bit, sum_to};
 ghost use Rattle.graph.specs.Tests.{most_classes};
 ghost use Rattle.adjacency.specs.Adjacency.{side};
 ghost use Rattle.open_pairs.specs.Inner.Rows.{is_free, free_to, Scannable};
 
 use adjacency::SIDE;
-use slices::wide;
 
 // How many columns are counted at once.
 const LANES: usize = 16;
@@ -18,25 +17,16 @@ pub struct Column {
     pub rest: usize,
 }
 
-fn greater(a: u8, b: u8) -> u8
-    ensures { result ≡ max a b }
-{
-    if a < b {
-        return b;
-    }
-    a
-}
-
 // How many places are taken: 1 in one of the two. The sum fits in a byte: this is a vector loop of 16 at a time.
 fn taken(a: &[u8], b: &[u8]) -> usize
     requires { (length a.now ≡ length b.now) × (length a.now ≤ side) × ((i : ℕ) → i < length a.now → (get_or a.now i 0 ≤ 1) × (get_or b.now i 0 ≤ 1)) }
     ensures { result + sum_to (length a.now) (λ i. bit (eqb (get_or a.now i 0) 0 && eqb (get_or b.now i 0) 0)) ≡ length a.now }
 {
     let mut sum: u8 = 0;
-    for i in 0..a.len() {
-        sum += greater(a[i], b[i]);
+    for (&x, &y) in a.iter().zip(b) {
+        sum += x.max(y);
     }
-    wide(sum)
+    usize::from(sum)
 }
 
 // How many of the columns from, .., to - 1 are free in row v, of class k.
@@ -72,7 +62,8 @@ fn is_free(adjacency: &[u8], full: &[u8], k: usize, v: usize, w: usize) -> bool
     (adjacency[v * SIDE + w] == 0) & (full[k * SIDE + w] == 0)
 }
 
-// A column not behind the one at the position, and how many free ones there are to pass from it on.
+// A column not behind the one at the position, and how many free ones there are to pass from it on. No `for` over blocks: w begins behind v, and
+// would have to be told from the block again.
 fn skip_columns(
     adjacency: &[u8],
     full: &[u8],
@@ -110,16 +101,14 @@ pub fn column_at(
     ensures { (v < result) × (result < n) × (is_free adjacency.now full.now k v result ≡ true) × (free_to adjacency.now full.now k v result ≡ position) }
 {
     let from = skip_columns(adjacency, full, n, k, v, position);
-    let mut w = from.w;
     let mut rest = from.rest;
-    while w < n {
+    for w in from.w..n {
         if is_free(adjacency, full, k, v, w) {
             if rest == 0 {
                 return w;
             }
             rest -= 1;
         }
-        w += 1;
     }
-    w
+    n
 }

@@ -3,32 +3,29 @@ ghost use Rattle.std.specs.Prelude.{◌≡◌, ◌≤◌, ◌<◌, length};
 ghost use Rattle.answer.specs.Inner.Moved.{SwitchBelow};
 ghost use Rattle.graph.specs.Tests.{most_classes};
 ghost use Rattle.adjacency.specs.Adjacency.{side};
-ghost use Rattle.open_pairs.specs.Inner.Rows.{flags_size, Scannable, Summed};
+ghost use Rattle.open_pairs.specs.Inner.Rows.{flags_size, Scannable};
 ghost use Rattle.open_pairs.specs.Inner.Refresh.{refresh_row, refresh_range, refresh_switch, refresh_switches, mark_full, Classed, Within};
 
 use crate::column::row_open;
-use crate::row::{SUMS, set_row};
+use crate::row::RowCounts;
 use adjacency::SIDE;
 use answer::switches::{Switch, Switches};
 use layout::MAX_VERTICES;
-use slices::{least, wide};
 
 // Row v counted anew.
 pub fn refresh_row(
     adjacency: &[u8],
     full: &[u8],
     classes: &[u8; MAX_VERTICES],
-    pairs: &mut [usize; MAX_VERTICES],
-    sums: &mut [usize; SUMS],
+    counts: &mut RowCounts,
     n: usize,
     v: usize,
 )
-    requires { Scannable n adjacency.now full.now × Classed n classes.now × Summed pairs.old sums.old × (v < n) }
-    ensures pairs_after { pairs.new ≡ refresh_row n classes.now adjacency.now full.now v pairs.old }
-    ensures summed { Summed pairs.new sums.new }
+    requires { Scannable n adjacency.now full.now × Classed n classes.now × (v < n) }
+    ensures { counts.new ≡ refresh_row n classes.now adjacency.now full.now v counts.old }
 {
-    let m = row_open(adjacency, full, n, wide(classes[v]), v);
-    set_row(pairs, sums, v, m);
+    let m = row_open(adjacency, full, n, usize::from(classes[v]), v);
+    counts.set_row(v, m);
 }
 
 // The rows from, .., to - 1.
@@ -36,18 +33,16 @@ pub fn refresh_range(
     adjacency: &[u8],
     full: &[u8],
     classes: &[u8; MAX_VERTICES],
-    pairs: &mut [usize; MAX_VERTICES],
-    sums: &mut [usize; SUMS],
+    counts: &mut RowCounts,
     n: usize,
     from: usize,
     to: usize,
 )
-    requires { Scannable n adjacency.now full.now × Classed n classes.now × Summed pairs.old sums.old × (from ≤ to) × (to ≤ n) }
-    ensures pairs_after { pairs.new ≡ refresh_range n classes.now adjacency.now full.now from to pairs.old }
-    ensures summed { Summed pairs.new sums.new }
+    requires { Scannable n adjacency.now full.now × Classed n classes.now × (from ≤ to) × (to ≤ n) }
+    ensures { counts.new ≡ refresh_range n classes.now adjacency.now full.now from to counts.old }
 {
     for v in from..to {
-        refresh_row(adjacency, full, classes, pairs, sums, n, v);
+        refresh_row(adjacency, full, classes, counts, n, v);
     }
 }
 
@@ -56,17 +51,15 @@ fn refresh_switch(
     adjacency: &[u8],
     full: &[u8],
     classes: &[u8; MAX_VERTICES],
-    pairs: &mut [usize; MAX_VERTICES],
-    sums: &mut [usize; SUMS],
+    counts: &mut RowCounts,
     n: usize,
     s: Switch,
 )
-    requires { Scannable n adjacency.now full.now × Classed n classes.now × Summed pairs.old sums.old × SwitchBelow n s }
-    ensures pairs_after { pairs.new ≡ refresh_switch n classes.now adjacency.now full.now s pairs.old }
-    ensures summed { Summed pairs.new sums.new }
+    requires { Scannable n adjacency.now full.now × Classed n classes.now × SwitchBelow n s }
+    ensures { counts.new ≡ refresh_switch n classes.now adjacency.now full.now s counts.old }
 {
-    refresh_row(adjacency, full, classes, pairs, sums, n, least(s.a, s.t));
-    refresh_row(adjacency, full, classes, pairs, sums, n, least(s.b, s.t));
+    refresh_row(adjacency, full, classes, counts, n, s.a.min(s.t));
+    refresh_row(adjacency, full, classes, counts, n, s.b.min(s.t));
 }
 
 // The rows of the edges that the switches of a join moved.
@@ -74,21 +67,19 @@ pub fn refresh_switches(
     adjacency: &[u8],
     full: &[u8],
     classes: &[u8; MAX_VERTICES],
-    pairs: &mut [usize; MAX_VERTICES],
-    sums: &mut [usize; SUMS],
+    counts: &mut RowCounts,
     n: usize,
     s: Switches,
 )
-    requires { Scannable n adjacency.now full.now × Classed n classes.now × Summed pairs.old sums.old × Within n s }
-    ensures pairs_after { pairs.new ≡ refresh_switches n classes.now adjacency.now full.now s pairs.old }
-    ensures summed { Summed pairs.new sums.new }
+    requires { Scannable n adjacency.now full.now × Classed n classes.now × Within n s }
+    ensures { counts.new ≡ refresh_switches n classes.now adjacency.now full.now s counts.old }
 {
     match s {
         Switches::None => {}
-        Switches::One(x) => refresh_switch(adjacency, full, classes, pairs, sums, n, x),
+        Switches::One(x) => refresh_switch(adjacency, full, classes, counts, n, x),
         Switches::Two(x, y) => {
-            refresh_switch(adjacency, full, classes, pairs, sums, n, x);
-            refresh_switch(adjacency, full, classes, pairs, sums, n, y);
+            refresh_switch(adjacency, full, classes, counts, n, x);
+            refresh_switch(adjacency, full, classes, counts, n, y);
         }
     }
 }
@@ -98,7 +89,5 @@ pub fn mark_full(full: &mut [u8], k: usize, from: usize, to: usize)
     requires { (length full.old ≡ flags_size) × (k < most_classes) × (from ≤ to) × (to ≤ side) }
     ensures { full.new ≡ mark_full k from to full.old }
 {
-    for w in from..to {
-        full[k * SIDE + w] = 1;
-    }
+    full[k * SIDE + from..k * SIDE + to].fill(1);
 }

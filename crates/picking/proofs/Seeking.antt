@@ -22,7 +22,7 @@ short_not_full h t l = go (ℕ_discrete h t)
     go (yes e) = rw (eq-eqb h t e, le-ltb h t (omega arith))
     go (no d) = rw (ne_eqb h t d, lt-ltb h t (omega arith))
 
-module _ {n : ℕ} {cells starts classes g have full pairs sums : List ℕ} (t : Tracked n cells starts classes g have full pairs sums)
+module _ {n : ℕ} {cells starts classes g have full pairs : List ℕ} (t : Tracked n cells starts classes g have full pairs)
     (f : Filling n (class_from starts) (matrix_of cells) g) where
   -- above v, a column is free where the pair is open
   free_open : (v w : ℕ) → v < w → w < n → is_free g full (class_from starts v) v w ≡ is_open n (class_from starts) (matrix_of cells) g v w

@@ -8,13 +8,9 @@ ghost use Rattle.classes.specs.Inner.Block.{class_from};
 ghost use Rattle.completion.specs.Inner.Cellwise.{Filling};
 ghost use Rattle.tracking.specs.Inner.Track.{Tracked};
 
-use classes::STARTS;
-use layout::MAX_VERTICES;
 use open_pairs::column::column_at;
-use open_pairs::row::{SUMS, row_at, total};
 use progress::Pair;
-use slices::wide;
-use table::cells::{CELLS, wide32};
+use tracking::{Plan, Tracking};
 
 // The step of x.
 const MULTIPLIER: u64 = 1664525;
@@ -41,25 +37,16 @@ pub fn next_x(x: u32) -> u32
 const LOW_PART: usize = 65536;
 
 // The pair, the lower vertex first.
-pub fn pick(
-    adjacency: &[u8],
-    cells: &[u32; CELLS],
-    starts: &[usize; STARTS],
-    classes: &[u8; MAX_VERTICES],
-    have: &[u32; CELLS],
-    full: &[u8],
-    pairs: &[usize; MAX_VERTICES],
-    sums: &[usize; SUMS],
-    n: usize,
-    x: u32,
-) -> Pair
-    requires { Tracked n cells.now starts.now classes.now adjacency.now have.now full.now pairs.now sums.now × Filling n (class_from starts.now) (matrix_of cells.now) adjacency.now × (0 < open_count n (class_from starts.now) (matrix_of cells.now) adjacency.now) }
-    ensures v_value { result.v ≡ pair_v n (class_from starts.now) (matrix_of cells.now) adjacency.now (position n (class_from starts.now) (matrix_of cells.now) adjacency.now x) }
-    ensures w_value { result.w ≡ pair_w n (class_from starts.now) (matrix_of cells.now) adjacency.now (position n (class_from starts.now) (matrix_of cells.now) adjacency.now x) result.v }
+pub fn pick(adjacency: &[u8], plan: &Plan<'_>, tracking: &Tracking, x: u32) -> Pair
+    requires { Tracked plan.now.n plan.now.cells.now plan.now.starts.now plan.now.classes.now adjacency.now tracking.now.have tracking.now.full tracking.now.counts × Filling plan.now.n (class_from plan.now.starts.now) (matrix_of plan.now.cells.now) adjacency.now × (0 < open_count plan.now.n (class_from plan.now.starts.now) (matrix_of plan.now.cells.now) adjacency.now) }
+    ensures v_value { result.v ≡ pair_v plan.now.n (class_from plan.now.starts.now) (matrix_of plan.now.cells.now) adjacency.now (position plan.now.n (class_from plan.now.starts.now) (matrix_of plan.now.cells.now) adjacency.now x) }
+    ensures w_value { result.w ≡ pair_w plan.now.n (class_from plan.now.starts.now) (matrix_of plan.now.cells.now) adjacency.now (position plan.now.n (class_from plan.now.starts.now) (matrix_of plan.now.cells.now) adjacency.now x) result.v }
 {
-    let m = total(pairs, sums);
-    let place = row_at(pairs, sums, wide32(x) / LOW_PART % m);
+    let counts = &tracking.counts;
+    let m = counts.total();
+    let place = counts.row_at(x as usize / LOW_PART % m);
     let v = place.at;
-    let w = column_at(adjacency, full, n, wide(classes[v]), v, place.rest);
+    let k = usize::from(plan.classes[v]);
+    let w = column_at(adjacency, &tracking.full, plan.n, k, v, place.rest);
     Pair { v, w }
 }

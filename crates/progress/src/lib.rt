@@ -13,6 +13,7 @@ ghost use Rattle.progress.specs.Inner.Work.{OpenArrays, Started, WroteRecords, R
 
 use adjacency::edge_total;
 use answer::switches::{Switches, switch_count};
+use finite::lowest_passing;
 use join_records::{JOIN_RECORD_BYTES, put_record};
 use layout::{MAX_VERTICES, edges_wanted, vertex_count};
 use swap_log::empty_log;
@@ -54,19 +55,12 @@ pub fn begin(
     Start { n, missing }
 }
 
-// The lowest vertex of from, .., to - 1 with fewer than k edges; to where there is none.
+// The lowest vertex of from, .., to - 1 with fewer than k edges; to where there is none (from, where to is below it).
 pub fn advance(degrees: &[usize; MAX_VERTICES], from: usize, to: usize, k: usize) -> usize
     requires { to ≤ side }
     ensures { result ≡ lowest from to (λ i. ltb (get_or degrees.now i 0) k) }
 {
-    let mut i = from;
-    while i < to {
-        if degrees[i] < k {
-            return i;
-        }
-        i += 1;
-    }
-    i
+    lowest_passing(from, to, |i| degrees[i] < k)
 }
 
 // The record of a join written behind those of the joins before it, and one join more.

@@ -16,6 +16,7 @@ ghost use Rattle.graph.specs.Tests.{most_classes, class_degree};
 use adjacency::{SIDE, set_edge};
 use answer::switches::Switch;
 use classes::STARTS;
+use finite::lowest_passing;
 use layout::MAX_VERTICES;
 use table::class::class_degree;
 
@@ -70,14 +71,8 @@ fn choose_substitute(
 {
     let class = a.class;
     let to = starts[class + 1];
-    let mut b = a.low;
-    while b < to {
-        if can_stand_in(degrees, class, other, b) {
-            return b;
-        }
-        b += 1;
-    }
-    other
+    let b = lowest_passing(a.low, to, |b| can_stand_in(degrees, class, other, b));
+    if b < to { b } else { other }
 }
 
 fn can_transfer(adjacency: &[u8], a: usize, b: usize, t: usize) -> bool
@@ -95,8 +90,8 @@ fn none_transfers(adjacency: &[u8], a: usize, b: usize, t: usize) -> bool
     let x = a * SIDE + t;
     let y = b * SIDE + t;
     let mut none = true;
-    for i in 0..LANES {
-        none = none & (adjacency[x + i] <= adjacency[y + i]);
+    for (p, q) in adjacency[x..x + LANES].iter().zip(&adjacency[y..y + LANES]) {
+        none = none & (*p <= *q);
     }
     none
 }
@@ -106,14 +101,14 @@ fn skip_transfers(adjacency: &[u8], n: usize, a: usize, b: usize) -> usize
     requires { (length adjacency.now ≡ adjacency_size) × (n ≤ side) × (a < side) × (b < side) }
     ensures { (result ≤ n) × ((i : ℕ) → i < result → can_transfer (edge adjacency.now) a b i ≡ false) }
 {
-    let mut t = 0;
-    while t + LANES <= n {
+    let blocks = n / LANES;
+    for block in 0..blocks {
+        let t = LANES * block;
         if !none_transfers(adjacency, a, b, t) {
             return t;
         }
-        t += LANES;
     }
-    t
+    LANES * blocks
 }
 
 // Document 01's t: the lowest vertex, not b, linked to a and not to b.
@@ -121,14 +116,8 @@ fn choose_transfer(adjacency: &[u8], n: usize, a: usize, b: usize) -> usize
     requires { (length adjacency.now ≡ adjacency_size) × (n ≤ side) × (a < side) × (b < side) }
     ensures { result ≡ transfer n (edge adjacency.now) a b }
 {
-    let mut t = skip_transfers(adjacency, n, a, b);
-    while t < n {
-        if can_transfer(adjacency, a, b, t) {
-            return t;
-        }
-        t += 1;
-    }
-    t
+    let from = skip_transfers(adjacency, n, a, b);
+    lowest_passing(from, n, |t| can_transfer(adjacency, a, b, t))
 }
 
 // The edge v – w removed.

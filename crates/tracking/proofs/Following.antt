@@ -27,10 +27,10 @@ use Rattle.classes.proofs.Blocks.{start_most, class_inside, class_only, class_ri
 use Rattle.join_bytes.specs.Join.{join_bytes, join_switches}
 use Rattle.join_bytes.specs.Inner.Joinable.{Joinable}
 use Rattle.join_bytes.proofs.Untouched.{switches_below, join_apart}
-use Rattle.open_pairs.specs.Inner.Rows.{is_free, free_to, Scannable, Summed}
+use Rattle.open_pairs.specs.Inner.Rows.{is_free, free_to, Scannable}
 use Rattle.open_pairs.specs.Inner.Refresh.{refresh_row, refresh_range, mark_full}
 use Rattle.open_pairs.proofs.Marked.{marked_length, marked_inside, marked_outside, marked_binary}
-use Rattle.open_pairs.proofs.Refreshed.{Right, row_else, range_else, switches_else, range_length, row_right, range_right, switches_right}
+use Rattle.open_pairs.proofs.Refreshed.{Right, row_else, range_else, switches_else, range_length, switches_length, row_right, range_right, switches_right}
 use Rattle.completion.specs.Inner.Cellwise.{Filling}
 use Rattle.completion.proofs.Chosen.{Stepped, opened}
 use Rattle.tracking.specs.Inner.Track.{cell_place, cell_has, Counted, Tracked, has_now, have_after, is_full_now, flags_after, pairs_after}
@@ -52,7 +52,7 @@ behind_switch n z h None e = omega arith
 behind_switch n z h (One x) e = behind_one n z h x e
 behind_switch n z h (Two x y) e = (behind_one n z h x e.0, behind_one n z h y e.1)
 
-module _ {n : ℕ} {cells starts classes g have full pairs sums : List ℕ} (t : Tracked n cells starts classes g have full pairs sums)
+module _ {n : ℕ} {cells starts classes g have full pairs : List ℕ} (t : Tracked n cells starts classes g have full pairs)
     (f : Filling n (class_from starts) (matrix_of cells) g) (v w : ℕ) (vw : v < w) (pair : Open n (class_from starts) (matrix_of cells) (edge g) v w) where
   abbrev cls : ℕ → ℕ
   cls = class_from starts
@@ -233,7 +233,7 @@ module _ {n : ℕ} {cells starts classes g have full pairs sums : List ℕ} (t :
   high-most = start_most t.arranged.numbered (k + 1) (omega (arith, row_class))
 
   in_pairs : (z : ℕ) → z < n → z < length pairs
-  in_pairs z zn = omega (arith, t.summed.sized, f.few)
+  in_pairs z zn = omega (arith, t.sized, f.few)
 
   rows_after : (b : Bool) (z : ℕ) → z < n
       → Right n classes g' (cond b (mark_full k from to full) full) z
@@ -262,17 +262,26 @@ module _ {n : ℕ} {cells starts classes g have full pairs sums : List ℕ} (t :
       ∙ row_else n classes g' full z v pairs (λ e. omega (arith, pair.first))
       ∙ t.behind z h
 
+  sized-after : (b : Bool) → length (pairs_after n starts classes g' (cond b (mark_full k from to full) full) v k b moved pairs) ≡ side
+  sized-after true =
+      switches_length n classes g' (mark_full k from to full) moved (refresh_range n classes g' (mark_full k from to full) low high pairs)
+      ∙ range_length n classes g' (mark_full k from to full) low high pairs
+      ∙ t.sized
+  sized-after false =
+      switches_length n classes g' full moved (refresh_row n classes g' full v pairs)
+      ∙ length-set pairs v (free_to g' full (get_or classes v 0) v n)
+      ∙ t.sized
+
   -- everything is counted after the join
-  pub tracked_after : {pairs' sums' : List ℕ}
+  pub tracked_after : {pairs' : List ℕ}
       → pairs' ≡ pairs_after n starts classes g' (flags_after cells starts k l have full) v k (is_full_now cells k l have) moved pairs
-      → Summed pairs' sums'
-      → Tracked n cells starts classes g' (have_after k l have) (flags_after cells starts k l have full) pairs' sums'
-  tracked_after e summed =
+      → Tracked n cells starts classes g' (have_after k l have) (flags_after cells starts k l have full) pairs'
+  tracked_after e =
       record {
         arranged = t.arranged;
         classed = t.classed;
         counted = counted-after;
-        summed = summed;
+        sized = rw e (sized-after (is_full_now cells k l have));
         rows = λ z zn. rw e (rows_after (is_full_now cells k l have) z zn);
         behind = λ z h. rw e (behind-after (is_full_now cells k l have) z h);
       }

@@ -42,7 +42,7 @@ returns c =
     record {
       totals_after = rw sum (
         step_ran c.requires.0 _ _ e.0 e.1 made _ _ _ refl refl c.record_join-sum.ensures.output_after joined,
-        step_resumes c.requires.0 _ _ e.0 e.1 _ _ ex ey _ _ _ joined freed c.least-next.ensures,
+        step_resumes c.requires.0 _ _ e.0 e.1 _ _ ex ey _ _ _ joined freed c.min-next.ensures,
       );
       wrote_records = c.record_join-sum.ensures.value.1;
       degrees_after = rw joined c.join-done.ensures.degrees_after;

@@ -27,8 +27,8 @@ abbrev pub shuffled_at : List ℕ → List ℕ → Shuffle → Shuffled
 shuffled_at g out d = record { ran = ran g out d.totals; x = d.x }
 
 -- what holds before each join and after it; the output has `room` bytes
-pub record Shuffling (n : ℕ) (cells starts classes g have full pairs sums low degrees : List ℕ) (room : ℕ) (s : Ran) : Type 0 where
-  pub tracked : Tracked n cells starts classes g have full pairs sums
+pub record Shuffling (n : ℕ) (cells starts classes g have full pairs low degrees : List ℕ) (room : ℕ) (s : Ran) : Type 0 where
+  pub tracked : Tracked n cells starts classes g have full pairs
   pub lows : Lows n starts g low
   pub is_valid : ValidRun n (class_from starts) (matrix_of cells) room s
   pub degrees_right : degrees ≡ degrees_of n g

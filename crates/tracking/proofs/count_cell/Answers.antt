@@ -31,7 +31,7 @@ pub returns-then-sum-want : goal.returns-then-sum-want
 returns-then-sum-want c =
     let p = c.requires in
     let u = c.upper_cell-want.ensures in
-    let e : c.if-want-gt0.sum ≡ cell_has c.args.n c.args.starts.now c.args.adjacency.now c.args.k c.args.l =
+    let e : c.if-want-gt0.sum ≡ cell_has c.args.plan.now.n c.args.plan.now.starts.now c.args.adjacency.now c.args.k c.args.l =
     elim c.if-want-gt0.branch [
       | then-want-gt0 w ↦ w.sum-is ∙ w.block_sum-sum.ensures ∙ cell_sum p.0 c.args.k c.args.l p.2 p.3
       | else-want-gt0 w ↦ omega (arith, w.sum-is, w.if-want-gt0.false, u, cell-most p.0 c.args.k c.args.l p.2 p.3)
@@ -43,7 +43,7 @@ pub returns-else-sum-want : goal.returns-else-sum-want
 returns-else-sum-want c =
     let p = c.requires in
     let u = c.upper_cell-want.ensures in
-    let e : c.if-want-gt0.sum ≡ cell_has c.args.n c.args.starts.now c.args.adjacency.now c.args.k c.args.l =
+    let e : c.if-want-gt0.sum ≡ cell_has c.args.plan.now.n c.args.plan.now.starts.now c.args.adjacency.now c.args.k c.args.l =
     elim c.if-want-gt0.branch [
       | then-want-gt0 w ↦ w.sum-is ∙ w.block_sum-sum.ensures ∙ cell_sum p.0 c.args.k c.args.l p.2 p.3
       | else-want-gt0 w ↦ omega (arith, w.sum-is, w.if-want-gt0.false, u, cell-most p.0 c.args.k c.args.l p.2 p.3)

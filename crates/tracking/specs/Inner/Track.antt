@@ -8,7 +8,7 @@ use Rattle.graph.specs.Tests.{most_classes}
 use Rattle.table.specs.Inner.Cells.{cells_size, matrix_of}
 use Rattle.adjacency.specs.Adjacency.{adjacency_size, side, edge}
 use Rattle.classes.specs.Inner.Block.{class_from}
-use Rattle.open_pairs.specs.Inner.Rows.{free_to, Scannable, Summed}
+use Rattle.open_pairs.specs.Inner.Rows.{free_to, Scannable}
 use Rattle.open_pairs.specs.Inner.Refresh.{refresh_row, refresh_range, refresh_switches, mark_full}
 use Rattle.progress.specs.Inner.Work.{Arranged}
 
@@ -44,11 +44,11 @@ abbrev pub RowRight : ℕ → List ℕ → List ℕ → List ℕ → List ℕ �
 RowRight n classes g full pairs v = get_or pairs v 0 ≡ free_to g full (get_or classes v 0) v n
 
 -- everything is counted
-pub record Tracked (n : ℕ) (cells starts classes g have full pairs sums : List ℕ) : Type 0 where
+pub record Tracked (n : ℕ) (cells starts classes g have full pairs : List ℕ) : Type 0 where
   pub arranged : Arranged n starts
   pub classed : ClassArray n starts classes
   pub counted : Counted cells_size n cells starts g have full
-  pub summed : Summed pairs sums
+  pub sized : length pairs ≡ side
   pub rows : (v : ℕ) → v < n → RowRight n classes g full pairs v
   pub behind : (v : ℕ) → n ≤ v → get_or pairs v 0 ≡ 0
 

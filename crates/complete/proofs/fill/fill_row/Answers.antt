@@ -1,6 +1,6 @@
--- `complete::fill::fill_row` meets its contract: after i turns the first i cells of the row are filled.
-use mathlib.Core.Path.{sym}
-use Prim.Native.Nat.{◌+◌}
+-- `complete::fill::fill_row` meets its contract: before cell (k, l) those before it in the row are filled.
+use mathlib.Core.Path.{◌≡◌, sym}
+use Prim.Native.Nat.{◌+◌, ◌-◌}
 use native.Mathlib.Omega.{arith}
 use Rattle.finite.proofs.Fold.{fold_to-none, fold_to-after}
 use Rattle.table.specs.Inner.Cells.{matrix_of}
@@ -18,23 +18,28 @@ returns-then-starts-k c =
       degrees_after = c.requires.0.degrees_right;
     }
 
-pub loop-i-init : goal.loop-i-init
-loop-i-init c = (omega (arith, c.requires.1), sym (fold_to-none _ _), c.requires.0.degrees_right, wrote_none _ _)
+pub loop-l-init : goal.loop-l-init
+loop-l-init c =
+    let e : c.args.k - c.args.k ≡ 0 = omega arith in
+    (rw e (sym (fold_to-none _ _)), c.requires.0.degrees_right, wrote_none _ _)
 
 pub fill_cell-sum-requires : goal.fill_cell-sum-requires
 fill_cell-sum-requires c =
-    let a = c.args in (
-      working c.requires.0 _ (cells-valid c.requires.0 c.loop-i.i _ a.k c.loop-i.invariant.0 c.loop-i.invariant.1) _ c.loop-i.invariant.2 c.loop-i.invariant.3.sized,
+    let k = c.args.k in (
+      working c.requires.0 _ (cells-valid c.requires.0 (c.loop-l.l - k) _ k (omega arith) c.loop-l.invariant.0) _ c.loop-l.invariant.1 c.loop-l.invariant.2.sized,
       c.requires.1,
-      omega (arith, c.loop-i-test.true),
+      c.loop-l-test.true,
     )
 
-pub loop-i-preserved : goal.loop-i-preserved
-loop-i-preserved c =
-    let a = c.args in (
-      omega (arith, c.loop-i-test.true),
-      fold_to-after (λ i. fill_cell a.n (class_from a.starts.now) (matrix_of a.cells.now) a.k (a.k + i))
-          _ c.loop-i.i _ _ c.loop-i.invariant.1 c.fill_cell-sum.ensures.result_after,
+pub loop-l-preserved : goal.loop-l-preserved
+loop-l-preserved c =
+    let a = c.args in
+    let i = c.loop-l.l - a.k in
+    let e : c.loop-l.l + 1 - a.k ≡ i + 1 = omega arith in
+    let f : a.k + i ≡ c.loop-l.l = omega arith in (
+      rw e
+          (fold_to-after (λ i. fill_cell a.n (class_from a.starts.now) (matrix_of a.cells.now) a.k (a.k + i)) _ i _ _ c.loop-l.invariant.0
+          (rw f c.fill_cell-sum.ensures.result_after)),
       c.fill_cell-sum.ensures.degrees_after,
-      wrote_then c.loop-i.invariant.3 c.fill_cell-sum.ensures.wrote_records,
+      wrote_then c.loop-l.invariant.2 c.fill_cell-sum.ensures.wrote_records,
     )

@@ -1,31 +1,27 @@
 -- `complete_shuffled::fill::shuffle_cells` meets its contract: after i turns i joins are made, and what is left of the run goes on from there.
 use mathlib.Core.Path.{refl, ap, ◌∙◌}
-use Prim.Native.Nat.{◌-◌}
 use native.Mathlib.Omega.{arith}
 use Rattle.graph.specs.Graph.{edges}
 use Rattle.table.specs.Inner.Cells.{matrix_of}
 use Rattle.adjacency.specs.Adjacency.{edge}
 use Rattle.classes.specs.Inner.Block.{class_from}
-use Rattle.progress.specs.Inner.Work.{ran}
 use Rattle.progress.proofs.Output.{wrote_none, wrote_then}
 use Rattle.shuffled_completion.specs.Shuffle.{Shuffled}
 use Rattle.complete_shuffled.specs.Inner.Work.{shuffled_at}
-use Rattle.complete_shuffled.proofs.Beginning.{begin_summed, begin_classed, begin_shuffling}
+use Rattle.complete_shuffled.proofs.Beginning.{begin_countable, begin_classed, begin_shuffling}
 use Rattle.complete_shuffled.proofs.Counting.{next_more, still_short, not_short, run-next, run-stop}
 use Rattle.complete_shuffled.proofs.fill.shuffle_cells.Goals as goal
 
-pub refresh_range-requires : goal.refresh_range-requires
-refresh_range-requires c = (
-  c.count_cells.ensures.scannable,
+pub new-tracking-requires : goal.new-tracking-requires
+new-tracking-requires c = (
+  begin_countable c.args.classes.now c.requires.0 c.requires.1,
+  c.requires.1,
   begin_classed c.args.classes.now c.requires.0 c.requires.1,
-  begin_summed,
-  omega arith,
-  omega arith,
 )
 
 pub loop-init : goal.loop-init
 loop-init c =
-    let start = begin_shuffling c.args.classes.now c.requires.0 c.requires.1 c.count_cells.ensures c.refresh_range.ensures.pairs_after c.refresh_range.ensures.summed in
+    let start = begin_shuffling c.args.classes.now c.requires.0 c.requires.1 c.new-tracking.ensures in
     (omega arith, start, refl, omega arith, wrote_none _ _)
 
 pub shuffle_step-done-requires : goal.shuffle_step-done-requires

@@ -14,11 +14,8 @@ use Rattle.complete_shuffled.proofs.fill.shuffle_cells.Given as goal
 
 abbrev pub invariant-loop : goal.invariant-loop
 invariant-loop l = (l.counter ≤ l.m)
-    × Shuffling l.n l.cells l.starts l.classes l.adjacency l.have l.full l.pairs l.sums l.low l.degrees (length l.output) (ran l.adjacency l.output l.done.totals)
+    × Shuffling l.n l.cells l.starts l.classes l.adjacency l.tracking.have l.tracking.full l.tracking.counts l.low l.degrees (length l.output) (ran l.adjacency l.output l.done.totals)
     × (run_shuffled (most_edges - l.counter) l.n (class_from l.starts) (matrix_of l.cells) (shuffled_at l.adjacency l.output l.done)
     ≡ run_shuffled most_edges l.n (class_from l.starts) (matrix_of l.cells) (begins l.initial.adjacency l.x))
     × (edges l.n (edge l.adjacency) ≡ edges l.n (edge l.initial.adjacency) + l.counter)
     × WroteRecords 0 l.done.totals.joins l.initial.output l.output
-
-abbrev pub decreases-loop : goal.decreases-loop
-decreases-loop l = l.m - l.counter

@@ -9,7 +9,6 @@ loop-w-preserved c =
     let x = c.args in
     let next = free_next x.adjacency.now x.full.now x.k x.v c.loop-w.w c.loop-w.invariant.0 c.is_free.result c.is_free.ensures in (
       omega arith,
-      omega arith,
       elim c.if-is_free.branch [
         | then-is_free+else-rest-eq0 b ↦ omega (arith, rw b.if-is_free.true at next)
         | else-is_free b ↦ omega (arith, rw b.if-is_free.false at next)

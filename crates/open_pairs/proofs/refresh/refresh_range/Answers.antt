@@ -8,7 +8,7 @@ use Rattle.open_pairs.proofs.refresh.refresh_range.Goals as goal
 pub loop-v-init : goal.loop-v-init
 loop-v-init c =
     let e : c.args.from - c.args.from ≡ 0 = omega arith in
-    (omega arith, c.requires.3, c.requires.2, rw (e, fold_to-none))
+    rw (e, fold_to-none)
 
 pub loop-v-preserved : goal.loop-v-preserved
 loop-v-preserved c =
@@ -16,4 +16,4 @@ loop-v-preserved c =
     let v = c.loop-v.v in
     let e : v + 1 - from ≡ v - from + 1 = omega arith in
     let f : from + (v - from) ≡ v = omega arith in
-    (omega arith, omega arith, c.refresh_row.ensures.summed, rw (e, fold_to-more, f, ← c.loop-v.invariant.3) c.refresh_row.ensures.pairs_after)
+    rw (e, fold_to-more, f, ← c.loop-v.invariant) c.refresh_row.ensures

@@ -1,12 +1,7 @@
 -- `open_pairs::refresh::refresh_range` meets its contract: before row v, the rows passed are counted anew.
 use mathlib.Core.Path.{◌≡◌}
-use Prim.Native.Nat.{◌-◌, ◌≤◌}
-use Rattle.open_pairs.specs.Inner.Rows.{Summed}
 use Rattle.open_pairs.specs.Inner.Refresh.{refresh_range}
 use Rattle.open_pairs.proofs.refresh.refresh_range.Given as goal
 
 abbrev pub invariant-loop-v : goal.invariant-loop-v
-invariant-loop-v l = (l.from ≤ l.v) × (l.v ≤ l.to) × Summed l.pairs l.sums × (l.pairs ≡ refresh_range l.n l.classes l.adjacency l.full l.from l.v l.initial.pairs)
-
-abbrev pub decreases-loop-v : goal.decreases-loop-v
-decreases-loop-v l = l.to - l.v
+invariant-loop-v l = l.counts ≡ refresh_range l.n l.classes l.adjacency l.full l.from l.v l.initial.counts
