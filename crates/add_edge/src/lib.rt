@@ -22,13 +22,12 @@ use adjacency::edge_at;
 use answer::{AddAnswer, Cause, Refusal, refuse};
 use classes::{STARTS, block_sum, class_at, starts};
 use joining::{both_reliefs, join};
-use layout::{MAX_VERTICES, vertex_count};
+use layout::vertex_count;
 use loan::{loan_check, open_loan};
-use state::pair_check;
+use state::{Counted, pair_check};
 use swap_log::empty_log;
 use switching::End;
 use table::cells::{CELLS, cell};
-use table::class::MAX_CLASSES;
 
 // Cell (k, l) of the edges so far is below the table.
 fn is_short(
@@ -73,24 +72,22 @@ fn end_at(starts: &[usize; STARTS], v: usize) -> End
 // On two unlinked vertices, among n: the check 16, then the switches and the edge.
 fn add_unlinked(
     adjacency: &mut [u8],
-    degrees: &mut [usize; MAX_VERTICES],
-    cells: &[u32; CELLS],
-    counts: &[usize; MAX_CLASSES],
+    counted: &mut Counted,
     n: usize,
     v: usize,
     w: usize,
 ) -> AddAnswer
-    requires { Unlinked (table_in cells.now (count_in counts.now 0)) adjacency.old degrees.old v w × AtMost cell_sum_most cells.now × Counts cells.now counts.now × (n ≡ vertices (table_in cells.now (count_in counts.now 0))) }
-    ensures value { result ≡ add_unlinked (table_in cells.now (count_in counts.now 0)) adjacency.old v w }
-    ensures adjacency_after { adjacency.new ≡ (let t = table_in cells.now (count_in counts.now 0) in added_adjacency (add_unlinked t adjacency.old v w) t adjacency.old v w) }
+    requires { Unlinked (table_in counted.old.cells (count_in counted.old.counts 0)) adjacency.old counted.old.degrees v w × AtMost cell_sum_most counted.old.cells × Counts counted.old.cells counted.old.counts × (n ≡ vertices (table_in counted.old.cells (count_in counted.old.counts 0))) }
+    ensures value { result ≡ add_unlinked (table_in counted.old.cells (count_in counted.old.counts 0)) adjacency.old v w }
+    ensures adjacency_after { adjacency.new ≡ (let t = table_in counted.old.cells (count_in counted.old.counts 0) in added_adjacency (add_unlinked t adjacency.old v w) t adjacency.old v w) }
 {
-    let s = starts(counts);
+    let s = starts(&counted.counts);
     let x = end_at(&s, v);
     let y = end_at(&s, w);
-    if !is_short(adjacency, cells, &s, x.class, y.class) {
+    if !is_short(adjacency, &counted.cells, &s, x.class, y.class) {
         return AddAnswer::Refused(full_cell(x.class, y.class));
     }
-    let made = join(adjacency, degrees, &s, n, x, y);
+    let made = join(adjacency, &mut counted.degrees, &s, n, x, y);
     AddAnswer::Added(both_reliefs(made))
 }
 
@@ -98,24 +95,22 @@ fn add_unlinked(
 fn add_laid(
     journal: &[u8],
     adjacency: &mut [u8],
-    cells: &[u32; CELLS],
-    counts: &[usize; MAX_CLASSES],
-    degrees: &mut [usize; MAX_VERTICES],
+    counted: &mut Counted,
     v: usize,
     w: usize,
 ) -> AddAnswer
-    requires { (phase_verdict phase_laid (state_of journal.now adjacency.old) ≡ Go) × Opened (state_of journal.now adjacency.old) cells.now counts.now degrees.old }
+    requires { (phase_verdict phase_laid (state_of journal.now adjacency.old) ≡ Go) × Opened (state_of journal.now adjacency.old) counted.old.cells counted.old.counts counted.old.degrees }
     ensures value { result ≡ add_laid (state_of journal.now adjacency.old) v w }
     ensures adjacency_after { adjacency.new ≡ added_adjacency (add_laid (state_of journal.now adjacency.old) v w) (table_of journal.now) adjacency.old v w }
 {
-    let n = vertex_count(cells, counts);
+    let n = vertex_count(&counted.cells, &counted.counts);
     if let Err(r) = pair_check(n, v, w) {
         return AddAnswer::Refused(r);
     }
     if edge_at(adjacency, v, w) != 0 {
         return AddAnswer::Refused(refuse(Cause::EdgePresent, 0, 0));
     }
-    add_unlinked(adjacency, degrees, cells, counts, n, v, w)
+    add_unlinked(adjacency, counted, n, v, w)
 }
 
 // Behind the front: the laid matrix and its log, then the pair. A join empties the log.
@@ -131,20 +126,10 @@ fn add_checked(
     ensures adjacency_after { adjacency.new ≡ (add_after (loan_of journal.now adjacency.old log.old) v w).state.adjacency }
     ensures log_after { log.new ≡ (add_after (loan_of journal.now adjacency.old log.old) v w).log }
 {
-    let mut cells = [0u32; CELLS];
-    let mut counts = [0usize; MAX_CLASSES];
-    let mut degrees = [0usize; MAX_VERTICES];
-    if !open_loan(
-        journal,
-        adjacency,
-        log,
-        &mut cells,
-        &mut counts,
-        &mut degrees,
-    ) {
+    let Some(mut counted) = open_loan(journal, adjacency, log) else {
         return AddAnswer::Refused(refuse(Cause::InvalidState, 0, 0));
-    }
-    let answer = add_laid(journal, adjacency, &cells, &counts, &mut degrees, v, w);
+    };
+    let answer = add_laid(journal, adjacency, &mut counted, v, w);
     if let AddAnswer::Added(_) = answer {
         empty_log(log);
     }

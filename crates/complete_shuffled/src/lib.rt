@@ -20,39 +20,35 @@ mod step;
 use crate::fill::shuffle_cells;
 use answer::{Cause, ShuffleAnswer, refuse};
 use join_records::JOIN_RECORD_BYTES;
-use layout::MAX_VERTICES;
 use loan::{loan_check, open_loan};
 use progress::{begin, log_after};
-use table::cells::CELLS;
-use table::class::MAX_CLASSES;
+use state::Counted;
 
 // On a valid laid state: the check 18, then the joins that are missing.
 fn shuffle_laid(
     journal: &[u8],
     adjacency: &mut [u8],
-    cells: &[u32; CELLS],
-    counts: &[usize; MAX_CLASSES],
-    degrees: &mut [usize; MAX_VERTICES],
+    counted: &mut Counted,
     x: u32,
     output: &mut [u8],
 ) -> ShuffleAnswer
-    requires { (phase_verdict phase_laid (state_of journal.now adjacency.old) ≡ Go) × Opened (state_of journal.now adjacency.old) cells.now counts.now degrees.old }
+    requires { (phase_verdict phase_laid (state_of journal.now adjacency.old) ≡ Go) × Opened (state_of journal.now adjacency.old) counted.old.cells counted.old.counts counted.old.degrees }
     ensures value { result ≡ (let s = state_of journal.now adjacency.old in with_x (shuffled s x).x (ran_laid (shuffled s x).ran s (length output.old))) }
     ensures adjacency_after { adjacency.new ≡ (let s = state_of journal.now adjacency.old in adjacency_ran (ran_laid (shuffled s x).ran s (length output.old)) (shuffled s x).ran adjacency.old) }
     ensures output_after { output.new ≡ (let s = state_of journal.now adjacency.old in output_ran (ran_laid (shuffled s x).ran s (length output.old)) (shuffled s x).ran output.old) }
 {
-    let begun = begin(cells, counts, degrees);
+    let begun = begin(&counted.cells, &counted.counts, &counted.degrees);
     let missing = begun.missing;
     if output.len() < JOIN_RECORD_BYTES * missing {
         return ShuffleAnswer::Refused(refuse(Cause::OutputTooShort, 0, 0));
     }
-    let starts = classes::starts(counts);
-    let vertex_classes = layout::classes(cells, counts);
+    let starts = classes::starts(&counted.counts);
+    let vertex_classes = layout::classes(&counted.cells, &counted.counts);
     let done = shuffle_cells(
         adjacency,
         output,
-        degrees,
-        cells,
+        &mut counted.degrees,
+        &counted.cells,
         &starts,
         &vertex_classes,
         begun.n,
@@ -82,20 +78,10 @@ fn shuffle_checked(
     ensures log_after { log.new ≡ (shuffle_after (loan_of journal.now adjacency.old log.old) x (length output.old)).log }
     ensures output_after { output.new ≡ shuffle_output (loan_of journal.now adjacency.old log.old) x output.old }
 {
-    let mut cells = [0u32; CELLS];
-    let mut counts = [0usize; MAX_CLASSES];
-    let mut degrees = [0usize; MAX_VERTICES];
-    if !open_loan(
-        journal,
-        adjacency,
-        log,
-        &mut cells,
-        &mut counts,
-        &mut degrees,
-    ) {
+    let Some(mut counted) = open_loan(journal, adjacency, log) else {
         return ShuffleAnswer::Refused(refuse(Cause::InvalidState, 0, 0));
-    }
-    let answer = shuffle_laid(journal, adjacency, &cells, &counts, &mut degrees, x, output);
+    };
+    let answer = shuffle_laid(journal, adjacency, &mut counted, x, output);
     if let ShuffleAnswer::Completed(joins, _, _, _) = answer {
         log_after(log, joins);
     }

@@ -5,7 +5,6 @@ use mathlib.Core.Bool.{Bool, true, false, ◌&&◌, cond}
 use Prim.Native.Nat.{◌≤◌}
 use native.Mathlib.Omega.{arith}
 use lib.Dec.{eqb, leb}
-use lib.ListN.{replicate}
 use borrow.Author.Tests.{eqb-true, eqb-false, eq-eqb, ne_eqb, leb-true}
 use Rattle.std.specs.Prelude.{Ok, Err}
 use Rattle.finite.proofs.All.{and_left}
@@ -13,11 +12,8 @@ use Rattle.answer.specs.Refusals.{Verdict, Go, Stop, refuse, stopped, unless, un
 use Rattle.answer.specs.declared.Cause.TheVariants.{WrongLength, InvalidState}
 use Rattle.answer.specs.declared.Refusal.{Refusal}
 use Rattle.answer.proofs.Checks.{unless_go, unless_stopped_go}
-use Rattle.graph.specs.Tests.{most_classes}
 use Rattle.slices.specs.Slices.{all_zero}
 use Rattle.table.specs.Block.{most_blocks}
-use Rattle.table.specs.Inner.Cells.{cells_size}
-use Rattle.layout.specs.Layout.{most_vertices}
 use Rattle.journal.specs.Journal.{phase_taking, phase_laid, phase, blocks, journal_ok, table_of}
 use Rattle.state.specs.State.{State}
 use Rattle.state.specs.Valid.{lengths_ok, laid_ok}
@@ -59,16 +55,13 @@ module _ (s : State) where
       (l.0, and_left (journal_ok s.journal) (cond empty (all_zero s.adjacency) true) v.0)
 
   -- what the front has seen is what a laid matrix is looked at with
-  pub openable : front_verdict s ≡ Go → Openable s (replicate cells_size 0) (replicate most_classes 0) (replicate most_vertices 0)
+  pub openable : front_verdict s ≡ Go → Openable s
   openable e =
       let f = front-passed e in
       record {
         journal_length = lengths_journal s f.0;
         adjacency_length = lengths_adjacency s f.0;
         journal-ok = f.1;
-        no_cells = refl;
-        no_counts = refl;
-        no_degrees = refl;
       }
 
   -- a journal that passes is taking or laid
@@ -96,7 +89,7 @@ module _ (s : State) where
       let f = unless_stopped_go (front_verdict s) _ e in
       (f.0, eqb-true (phase s.journal) phase_laid (unless_go (eqb (phase s.journal) phase_laid) _ _ f.1).0)
 
-  pub laid-openable : laid_front s ≡ Go → Openable s (replicate cells_size 0) (replicate most_classes 0) (replicate most_vertices 0)
+  pub laid-openable : laid_front s ≡ Go → Openable s
   laid-openable e = openable (laid_front-passed e).0
 
   pub laid_front-stop : (r : Refusal) → laid_front s ≡ Stop r → phase_verdict phase_laid s ≡ Stop r
