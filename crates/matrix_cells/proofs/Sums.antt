@@ -4,13 +4,16 @@ use mathlib.Core.Path.{◌≡◌, refl, sym, ap, ap₂, ◌∙◌}
 use mathlib.Core.Bool.{true, ◌||◌, or-true}
 use mathlib.Core.List.{List}
 use mathlib.Core.Logic.{◌≢◌}
-use Prim.Native.Nat.{ℕ, ◌+◌, ◌*◌, ◌≤◌, ◌<◌}
-use native.Mathlib.Nat.{add-zero, add_assoc, zero-mul, one-mul, mul-zero, mul_assoc}
-use native.Mathlib.Decide.{ℕ_discrete}
+use Prim.Native.Nat.{ℕ, ◌+◌, ◌-◌, ◌*◌, ◌≤◌, ◌<◌}
+use native.Mathlib.Nat.{add-zero, zero-mul, one-mul, mul-zero, mul_assoc}
+use native.Mathlib.Decide.{ℕ_discrete, dec_lt}
 use native.Mathlib.Omega.{arith}
-use lib.ListN.{length, get_or, set, length-set}
-use lib.Seq.{get_or-set_same, get_or-set_other}
+use lib.ListN.{length, take, drop, get_or, set}
+use lib.Seq.{get_or-take, get_or-drop, get_or-set_same, get_or-set_other}
 use lib.Dec.{leb, ltb, leb-zero}
+use borrow.Rule.Slice.PartMut.{put_mid}
+use Rattle.std.proofs.Common.{rules}
+use Rattle.std.proofs.lemmas.List.{places}
 use Rattle.finite.specs.Range.{δ, sum_to, all_to}
 use Rattle.finite.proofs.All.{all_to-cong, all_to-holds}
 use Rattle.finite.proofs.Delta.{δ-same, δ-other, δ-times_le}
@@ -32,24 +35,42 @@ more_at s p x h q = go (ℕ_discrete p q)
 pub more_at_most : (s : List ℕ) (p x m : ℕ) → p < length s → ((q : ℕ) → get_or s q 0 ≤ m) → (q : ℕ) → get_or (set s p (get_or s p 0 + x)) q 0 ≤ m + x
 more_at_most s p x m h f q = omega (arith, more_at s p x h q, f q, δ-times_le p q x)
 
-module _ (at x : ℕ → ℕ) (s : List ℕ) where
-  pub added_none : Added 0 at x s s
-  added_none = record { long = refl; sums = λ p. rw sum_to-none (sym (add-zero (get_or s p 0))) }
+-- an element of a part of a list
+pub part_at : (s : List ℕ) (at k i : ℕ) → i < k → get_or (take k (drop at s)) i 0 ≡ get_or s (at + i) 0
+part_at s at k i h = get_or-take k (drop at s) i 0 h ∙ get_or-drop at s i 0
 
-  pub added_more : (n : ℕ) (t : List ℕ) → at n < length s → Added n at x s t → Added (n + 1) at x s (set t (at n) (get_or t (at n) 0 + x n))
-  added_more n t h a = record { long = simp length-set a.long; sums = sums }
+-- numbers added to a part of a list, n places from `at` on, where t is the part afterwards
+module _ (s t : List ℕ) (at k n : ℕ) (x : ℕ → ℕ) (whole : k ≡ n) (room : at + n ≤ length s) (long : length t ≡ n) where
+  part_before : (p : ℕ) → p < at → get_or (put_mid at k s t) p 0 ≡ get_or s p 0
+  part_before p h = search (rules, places)
+
+  part_in : (i : ℕ) → i < n → get_or (put_mid at k s t) (at + i) 0 ≡ get_or t i 0
+  part_in i h = search (rules, places)
+
+  part_behind : (p : ℕ) → at + n ≤ p → get_or (put_mid at k s t) p 0 ≡ get_or s p 0
+  part_behind p h = search (rules, places)
+
+  none_at : (p : ℕ) → ((i : ℕ) → i < n → at + i ≢ p) → sum_to n (λ i. δ (at + i) p * x i) ≡ 0
+  none_at p h = sum_to-zero n (λ i. δ (at + i) p * x i) (λ i l. rw (δ-other (at + i) p (h i l)) (zero-mul (x i)))
+
+  one_at : (j : ℕ) → j < n → sum_to n (λ i. δ (at + i) (at + j) * x i) ≡ x j
+  one_at j l =
+      sum_to-cong n (λ i. δ (at + i) (at + j) * x i) (λ i. δ i j * x i) (λ i m. ap (λ (d : ℕ). d * x i) (same i (ℕ_discrete i j)))
+      ∙ sum_to-at n j x l
     where
-      sums : (p : ℕ) → get_or (set t (at n) (get_or t (at n) 0 + x n)) p 0 ≡ get_or s p 0 + sum_to (n + 1) (λ i. δ (at i) p * x i)
-      sums p =
-          rw (sum_to-more, more_at t (at n) (x n) (rw a.long h) p, a.sums p)
-          (add_assoc (get_or s p 0) (sum_to n (λ i. δ (at i) p * x i)) (δ (at n) p * x n))
+      same : (i : ℕ) → Dec (i ≡ j) → δ (at + i) (at + j) ≡ δ i j
+      same i (yes e) = rw (δ-same (at + i) (at + j) (omega arith), δ-same i j e)
+      same i (no d) = rw (δ-other (at + i) (at + j) (λ e. d (omega arith)), δ-other i j d)
 
-  -- a place that none of them is at is left as it was
-  pub added-elsewhere : (n : ℕ) (t : List ℕ) → Added n at x s t → (p : ℕ) → ((i : ℕ) → i < n → at i ≢ p) → get_or t p 0 ≡ get_or s p 0
-  added-elsewhere n t a p h =
-      a.sums p
-      ∙ ap (λ (c : ℕ). get_or s p 0 + c) (sum_to-zero n (λ i. δ (at i) p * x i) (λ i l. rw (δ-other (at i) p (h i l)) (zero-mul (x i))))
-      ∙ add-zero (get_or s p 0)
+  pub added_part : ((i : ℕ) → i < n → get_or t i 0 ≡ get_or s (at + i) 0 + x i) → Added n (λ i. at + i) x s (put_mid at k s t)
+  added_part h = record { long = search (rules, places); sums = λ p. sums p (dec_lt p at) (dec_lt p (at + n)) }
+    where
+      sums : (p : ℕ) → Dec (p < at) → Dec (p < at + n) → get_or (put_mid at k s t) p 0 ≡ get_or s p 0 + sum_to n (λ i. δ (at + i) p * x i)
+      sums p (yes l) d = rw (none_at p (λ i m e. omega arith), add-zero) (part_before p l)
+      sums p (no a) (yes l) =
+          let e : p ≡ at + (p - at) = omega arith in
+          rw (e) (part_in (p - at) (omega arith) ∙ h (p - at) (omega arith) ∙ ap (λ (y : ℕ). get_or s (at + (p - at)) 0 + y) (sym (one_at (p - at) (omega arith))))
+      sums p (no a) (no b) = rw (none_at p (λ i m e. omega arith), add-zero) (part_behind p (omega arith))
 
 -- the place of row a and column i of a matrix with 200 columns
 δ-place : (a i k w : ℕ) → i < side → w < side → δ (a * side + i) (k * side + w) ≡ δ a k * δ i w

@@ -18,13 +18,14 @@ use table::class::MAX_CLASSES;
 // One sum for each class and each vertex.
 const SUMS: usize = MAX_CLASSES * SIDE;
 
-// Adds n bytes of the matrix, from a place on, to as many sums. Where they fit in bytes this is a vector loop.
-fn add_row(sums: &mut [u8; SUMS], at: usize, adjacency: &[u8], from: usize, n: usize)
-    requires { (length sums.old ≡ sums_size) × (at + n ≤ sums_size) × (from + n ≤ length adjacency.now) × (length adjacency.now ≡ adjacency_size) × ((i : ℕ) → i < n → get_or sums.old (at + i) 0 + get_or adjacency.now (from + i) 0 < 256) }
-    ensures { Added n (λ i. at + i) (λ i. get_or adjacency.now (from + i) 0) sums.old sums.new }
+// Adds the bytes of a row to as many sums. Where they fit in bytes this is a vector loop.
+fn add_row(sums: &mut [u8], row: &[u8])
+    requires { (length sums.old ≡ length row.now) × ((i : ℕ) → i < length row.now → get_or sums.old i 0 + get_or row.now i 0 < 256) }
+    ensures len { length sums.new ≡ length sums.old }
+    ensures sums { (i : ℕ) → i < length row.now → get_or sums.new i 0 ≡ get_or sums.old i 0 + get_or row.now i 0 }
 {
-    for i in 0..n {
-        sums[at + i] = sums[at + i] + adjacency[from + i];
+    for (i, sum) in sums.iter_mut().enumerate() {
+        *sum += row[i];
     }
 }
 
@@ -34,7 +35,9 @@ fn sum_classes(adjacency: &[u8], n: usize, classes: &[u8; MAX_VERTICES], sums: &
     ensures { (k w : ℕ) → w < n → get_or sums.new (k * side + w) 0 ≡ class_edges n (class_in classes.now) (edge adjacency.now) k w }
 {
     for v in 0..n {
-        add_row(sums, usize::from(classes[v]) * SIDE, adjacency, v * SIDE, n);
+        let at = usize::from(classes[v]) * SIDE;
+        let from = v * SIDE;
+        add_row(&mut sums[at..at + n], &adjacency[from..from + n]);
     }
 }
 

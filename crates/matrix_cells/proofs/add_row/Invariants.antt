@@ -1,8 +1,10 @@
--- `matrix_cells::add_row` meets its contract: after i turns the first i bytes are added.
-use Prim.Native.Nat.{◌≤◌, ◌+◌}
-use lib.ListN.{get_or}
-use Rattle.matrix_cells.specs.Inner.Sums.{Added}
+-- `matrix_cells::add_row` meets its contract: after i turns the first i bytes are added, and the other sums are as they were.
+use mathlib.Core.Path.{◌≡◌}
+use Prim.Native.Nat.{ℕ, ◌≤◌, ◌<◌, ◌+◌}
+use lib.ListN.{length, get_or}
 use Rattle.matrix_cells.proofs.add_row.Given as goal
 
 abbrev pub invariant-loop-i : goal.invariant-loop-i
-invariant-loop-i l = (l.i ≤ l.n) × Added l.i (λ i. l.at + i) (λ i. get_or l.adjacency (l.from + i) 0) l.initial.sums l.sums
+invariant-loop-i l = (l.i ≤ length l.initial.sums) × (length l.sums ≡ length l.initial.sums)
+    × ((j : ℕ) → j < l.i → get_or l.sums j 0 ≡ get_or l.initial.sums j 0 + get_or l.row j 0)
+    × ((j : ℕ) → l.i ≤ j → get_or l.sums j 0 ≡ get_or l.initial.sums j 0)
