@@ -11,7 +11,7 @@ ghost use Rattle.figures.specs.Figures.{figures_answer, figures_of};
 
 use adjacency::edge_total;
 use answer::{Cause, Figures, FiguresAnswer, refuse};
-use journal::{PHASE_LAID, PHASE_TAKING, block_count, phase_of};
+use journal::{Phase, block_count, is_in};
 use layout::{edges_wanted, vertex_count};
 use state::{Counted, front_check, open};
 
@@ -25,7 +25,7 @@ fn figures_laid(journal: &[u8], adjacency: &[u8], counted: &Counted) -> Figures
     let wanted = edges_wanted(&counted.counts);
     let laid = edge_total(&counted.degrees, vertices);
     Figures {
-        phase: PHASE_LAID,
+        phase: usize::from(Phase::Laid.byte()),
         blocks,
         vertices,
         wanted,
@@ -50,9 +50,9 @@ pub fn figures(journal: &[u8], adjacency: &[u8]) -> FiguresAnswer
     if let Err(r) = front_check(journal, adjacency) {
         return FiguresAnswer::Refused(r);
     }
-    if phase_of(journal) == PHASE_TAKING {
+    if is_in(journal, Phase::Taking) {
         return FiguresAnswer::Reported(Figures {
-            phase: PHASE_TAKING,
+            phase: usize::from(Phase::Taking.byte()),
             blocks: block_count(journal),
             vertices: 0,
             wanted: 0,

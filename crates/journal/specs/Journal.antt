@@ -1,6 +1,8 @@
 -- The journal (document 01: the book): its layout in bytes, when it is as it should be, the sum of its blocks, and storing one more.
 -- Assumes nothing.
 use Rattle.std.specs.Prelude.{Bool, ◌&&◌, cond, List, ◌∷◌, ℕ, ◌+◌, ◌-◌, ◌*◌, eqb, ltb, leb, length, get_or, set, take, drop}
+use Rattle.journal.specs.declared.Phase.{Phase}
+use Rattle.journal.specs.declared.Phase.TheVariants.{Taking, Laid}
 use Rattle.std.proofs.lemmas.List.Edits.{sets}
 use Rattle.finite.specs.Range.{sum_to, all_to}
 use Rattle.graph.specs.Graph.{DegreeTable}
@@ -20,6 +22,11 @@ phase_taking = 0
 
 abbrev pub phase_laid : ℕ
 phase_laid = 1
+
+-- the byte of a phase
+abbrev pub phase_byte : Phase → ℕ
+phase_byte Taking = phase_taking
+phase_byte Laid = phase_laid
 
 -- byte 0: the phase; byte 1: the blocks in it
 abbrev pub phase : List ℕ → ℕ

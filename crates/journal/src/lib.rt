@@ -1,32 +1,47 @@
 // The journal in lent bytes (document 01: the book): its check, the sum of its blocks, storing one more.
 #![tactic(auto)]
 
-ghost use Rattle.std.specs.Prelude.{◌≡◌, true, ◌&&◌, eqb, ◌+◌, ◌*◌, ◌≤◌, ◌<◌, length, replicate};
+ghost use Rattle.std.specs.Prelude.{◌≡◌, true, ◌&&◌, eqb, leb, ◌+◌, ◌*◌, ◌≤◌, ◌<◌, length, replicate};
 ghost use Rattle.finite.specs.Range.{all_to};
 ghost use Rattle.slices.specs.Slices.{all_zero, further};
 ghost use Rattle.table.specs.Block.{most_blocks, block_most, block_length, records, first_bad};
 ghost use Rattle.table.specs.Inner.Cells.{cells_size, matrix_of, AtMost, cell_sum_most};
-ghost use Rattle.journal.specs.Journal.{journal_size, phase, blocks, slot_at, slot_length, block_from, block_at, slot_rest, slot_ok, journal_ok, jdm_of, isolated_of, same_block, stored, laid};
+ghost use Rattle.journal.specs.Journal.{journal_size, phase, phase_laid, phase_byte, blocks, slot_at, slot_length, block_from, block_at, slot_rest, slot_ok, journal_ok, jdm_of, isolated_of, same_block, stored, laid};
 
 use slices::{all_zero, same_bytes};
 use table::cells::CELLS;
 use table::record::{MAX_BLOCK_BYTES, MAX_BLOCKS, block_length, first_bad};
 
 // The two phases: blocks are taken, and the vertices are laid out.
-pub const PHASE_TAKING: usize = 0;
+#[derive(Clone, Copy, PartialEq, Eq)]
+pub enum Phase {
+    Taking,
+    Laid,
+}
 
-pub const PHASE_LAID: usize = 1;
+impl Phase {
+    // The byte of the journal that says so.
+    pub fn byte(self) -> u8
+        ensures { result ≡ phase_byte self }
+    {
+        match self {
+            Phase::Taking => 0,
+            Phase::Laid => 1,
+        }
+    }
+}
 
 // A length byte, and the block.
 pub const SLOT_BYTES: usize = 1 + MAX_BLOCK_BYTES;
 
 pub const JOURNAL_BYTES: usize = 2 + SLOT_BYTES * MAX_BLOCKS;
 
-pub fn phase_of(journal: &[u8]) -> usize
+// The journal is in this phase.
+pub fn is_in(journal: &[u8], expected: Phase) -> bool
     requires { length journal.now ≡ journal_size }
-    ensures { (result ≡ phase journal.now) × (result < 256) }
+    ensures { result ≡ eqb (phase journal.now) (phase_byte expected) }
 {
-    usize::from(journal[0])
+    journal[0] == expected.byte()
 }
 
 pub fn block_count(journal: &[u8]) -> usize
@@ -119,12 +134,19 @@ fn slots_ok(journal: &[u8]) -> bool
     true
 }
 
+// A byte that says a phase.
+fn is_phase(b: u8) -> bool
+    ensures { result ≡ leb b phase_laid }
+{
+    b <= Phase::Laid.byte()
+}
+
 // The journal is as document 01 lays it down.
 pub fn journal_ok(journal: &[u8]) -> bool
     requires { length journal.now ≡ journal_size }
     ensures { result ≡ journal_ok journal.now }
 {
-    (phase_of(journal) <= PHASE_LAID) & (block_count(journal) <= MAX_BLOCKS) & slots_ok(journal)
+    is_phase(journal[0]) & (block_count(journal) <= MAX_BLOCKS) & slots_ok(journal)
 }
 
 // The sum of all blocks, in an array of zeros: the joint degree matrix, and beside it the number of isolated vertices.
@@ -163,5 +185,5 @@ pub fn set_laid(journal: &mut [u8])
     requires { length journal.old ≡ journal_size }
     ensures { journal.new ≡ laid journal.old }
 {
-    journal[0] = PHASE_LAID as u8;
+    journal[0] = Phase::Laid.byte();
 }

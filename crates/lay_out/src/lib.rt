@@ -9,7 +9,7 @@ ghost use Rattle.state.specs.State.{state_of};
 ghost use Rattle.lay_out.specs.LayOut.{laid_out, lay_out_answer, lay_out_after};
 
 use answer::LayOutAnswer;
-use journal::PHASE_TAKING;
+use journal::Phase;
 use state::{phase_check, sum_table};
 use table::cells::CELLS;
 use table::class::MAX_CLASSES;
@@ -31,7 +31,7 @@ fn lay_out_table(journal: &[u8]) -> LayOutAnswer
 fn lay_out_check(journal: &[u8], adjacency: &[u8]) -> LayOutAnswer
     ensures { result ≡ lay_out_answer (state_of journal.now adjacency.now) }
 {
-    match phase_check(journal, adjacency, PHASE_TAKING) {
+    match phase_check(journal, adjacency, Phase::Taking) {
         Err(r) => LayOutAnswer::Refused(r),
         Ok(()) => lay_out_table(journal),
     }

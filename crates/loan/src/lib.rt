@@ -11,7 +11,7 @@ ghost use Rattle.loan.specs.Valid.{loan_lengths_ok};
 ghost use Rattle.loan.specs.Inner.Opened.{loan_front, loan_opens};
 
 use answer::{Cause, Refusal, stopped};
-use journal::{PHASE_LAID, PHASE_TAKING, phase_of};
+use journal::{Phase, is_in};
 use layout::vertex_count;
 use slices::all_zero;
 use state::{Counted, front_check, lengths_ok, open};
@@ -32,7 +32,7 @@ pub fn loan_check(journal: &[u8], adjacency: &[u8], log: &[u8]) -> Result<(), Re
         return stopped(Cause::WrongLength);
     }
     front_check(journal, adjacency)?;
-    if phase_of(journal) == PHASE_LAID {
+    if is_in(journal, Phase::Laid) {
         return Ok(());
     }
     if !all_zero(log) {

@@ -6,7 +6,7 @@ ghost use Rattle.std.specs.Prelude.{◌≡◌, true, length, replicate, is_some,
 ghost use Rattle.graph.specs.Tests.{most_classes};
 ghost use Rattle.table.specs.Inner.Cells.{cells_size, AtMost, cell_sum_most};
 ghost use Rattle.layout.specs.Inner.Arrays.{count_in, table_in, Counts};
-ghost use Rattle.journal.specs.Journal.{journal_size, journal_ok, table_of};
+ghost use Rattle.journal.specs.Journal.{journal_size, phase_byte, journal_ok, table_of};
 ghost use Rattle.adjacency.specs.Adjacency.{adjacency_size};
 ghost use Rattle.state.specs.State.{state_of};
 ghost use Rattle.state.specs.Valid.{lengths_ok, laid_ok, valid};
@@ -15,7 +15,7 @@ ghost use Rattle.state.specs.Inner.Opened.{front_verdict, laid_front, Openable, 
 
 use adjacency::ADJACENCY_BYTES;
 use answer::{Cause, Refusal, stopped};
-use journal::{JOURNAL_BYTES, PHASE_LAID, PHASE_TAKING, journal_ok, phase_of, sum_blocks};
+use journal::{JOURNAL_BYTES, Phase, is_in, journal_ok, sum_blocks};
 use layout::{MAX_VERTICES, classes, count_classes, layout_check, vertex_count};
 use matrix_check::adjacency_ok;
 use table::cells::CELLS;
@@ -80,7 +80,7 @@ pub fn front_check(journal: &[u8], adjacency: &[u8]) -> Result<(), Refusal>
     if !journal_ok(journal) {
         return stopped(Cause::InvalidState);
     }
-    if phase_of(journal) != PHASE_TAKING {
+    if !is_in(journal, Phase::Taking) {
         return Ok(());
     }
     if !slices::all_zero(adjacency) {
@@ -94,7 +94,7 @@ pub fn laid_check(journal: &[u8], adjacency: &[u8]) -> Result<(), Refusal>
     ensures { result ≡ laid_front (state_of journal.now adjacency.now) }
 {
     front_check(journal, adjacency)?;
-    if phase_of(journal) != PHASE_LAID {
+    if !is_in(journal, Phase::Laid) {
         return stopped(Cause::WrongPhase);
     }
     Ok(())
@@ -108,7 +108,7 @@ fn is_valid(journal: &[u8], adjacency: &[u8]) -> bool
     if !journal_ok(journal) {
         return false;
     }
-    if phase_of(journal) == PHASE_TAKING {
+    if is_in(journal, Phase::Taking) {
         return slices::all_zero(adjacency);
     }
     open(journal, adjacency).is_some()
@@ -128,11 +128,11 @@ pub fn state_check(journal: &[u8], adjacency: &[u8]) -> Result<(), Refusal>
 }
 
 // And 3, for a call that needs this phase.
-pub fn phase_check(journal: &[u8], adjacency: &[u8], phase: usize) -> Result<(), Refusal>
-    ensures { result ≡ phase_verdict phase (state_of journal.now adjacency.now) }
+pub fn phase_check(journal: &[u8], adjacency: &[u8], phase: Phase) -> Result<(), Refusal>
+    ensures { result ≡ phase_verdict (phase_byte phase) (state_of journal.now adjacency.now) }
 {
     state_check(journal, adjacency)?;
-    if phase_of(journal) != phase {
+    if !is_in(journal, phase) {
         return stopped(Cause::WrongPhase);
     }
     Ok(())

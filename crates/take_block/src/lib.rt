@@ -7,7 +7,7 @@ ghost use Rattle.state.specs.State.{state_of};
 ghost use Rattle.take_block.specs.Take.{take_held, take_new, take_numbered, take_on_valid, take_answer, take_after};
 
 use answer::{Cause, TakeAnswer, refuse};
-use journal::{PHASE_TAKING, block_count, is_block, phase_of};
+use journal::{Phase, block_count, is_block, is_in};
 use state::state_check;
 use table::record::MAX_BLOCKS;
 
@@ -27,7 +27,7 @@ fn take_new(journal: &[u8]) -> TakeAnswer
     requires { length journal.now ≡ journal_size }
     ensures { result ≡ take_new journal.now }
 {
-    if phase_of(journal) != PHASE_TAKING {
+    if !is_in(journal, Phase::Taking) {
         return TakeAnswer::Refused(refuse(Cause::WrongPhase, 0, 0));
     }
     let n = block_count(journal);

@@ -1,6 +1,7 @@
 -- `figures::figures_laid` meets its contract.
-use mathlib.Core.Path.{ap, ◌∙◌}
+use mathlib.Core.Path.{◌≡◌, ap, ◌∙◌}
 use Prim.Native.Nat.{ℕ}
+use Rattle.std.proofs.Common.{rules}
 use Rattle.graph.specs.Graph.{edges, DegreeTable}
 use Rattle.layout.specs.Layout.{wanted}
 use Rattle.journal.specs.Journal.{phase_laid}
@@ -32,8 +33,9 @@ returns c =
     let o = c.requires.1 in
     let n = opened_vertices s o d c.vertex_count-vertices.ensures in
     let e = opened_edges s o d c.vertex_count-vertices.ensures c.edge_total-laid.ensures in
+    let named : c.from.result ≡ phase_laid = search rules in
     λ i. record {
-      phase = phase_laid;
+      phase = named i;
       blocks = c.block_count-blocks.ensures.0 i;
       vertices = n i;
       wanted = (opened_wanted s o d c.edges_wanted-wanted.ensures ∙ ap (λ (u : DegreeTable). wanted u.cells) o.said) i;
