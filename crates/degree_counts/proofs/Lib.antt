@@ -1,2 +1,2 @@
 pub mod Degrees
-pub mod Slices
+pub mod Zeros

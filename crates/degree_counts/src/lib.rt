@@ -1,13 +1,13 @@
 // The degrees of a list of good edges, counted edge by edge; the lowest vertex above 40, and the isolated vertices.
 #![tactic(auto)]
 
-ghost use Rattle.std.specs.Prelude.{◌≡◌, ◌^◌, ◌≤◌, ◌<◌, ltb, position};
-ghost use Rattle.graph.specs.Tests.{most_degree};
+ghost use Rattle.std.specs.Prelude.{◌≡◌, ◌^◌, ◌≤◌, ◌<◌};
 ghost use Rattle.layout.specs.Layout.{most_vertices};
 ghost use Rattle.edge_lists.specs.EdgeList.{listed, first_bad_edge, graph_of};
 ghost use Rattle.degree_counts.specs.Inner.Degrees.{count_edge, degree_in, first_above_in, isolated_in, HasDegrees};
 
 use edge_lists::edge_pairs;
+use finite::lowest_passing;
 use layout::MAX_VERTICES;
 use table::degree::MAX_DEGREE;
 
@@ -32,18 +32,12 @@ pub fn degrees_of(edges: &[u8], total: usize) -> [usize; MAX_VERTICES]
     degrees
 }
 
-fn degree_above(degrees: &[usize]) -> Option<usize>
-    ensures { result ≡ position (λ d. ltb most_degree d) degrees.now }
-{
-    degrees.iter().position(|degree| MAX_DEGREE < *degree)
-}
-
 // The lowest vertex whose degree is over 40, or the total.
 pub fn first_above(degrees: &[usize; MAX_VERTICES], total: usize) -> usize
     requires { total ≤ most_vertices }
     ensures { result ≡ first_above_in degrees.now total }
 {
-    degree_above(&degrees[..total]).unwrap_or(total)
+    lowest_passing(0, total, |v| MAX_DEGREE < degrees[v])
 }
 
 // How many vertices below the total have no edge.

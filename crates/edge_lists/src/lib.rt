@@ -7,6 +7,7 @@ ghost use Rattle.layout.specs.Layout.{most_vertices};
 ghost use Rattle.edge_lists.specs.EdgeList.{listed, end_v, end_w, rises, good_edge, first_bad_edge, list_verdict, edge_bytes, row_bytes};
 
 use answer::{Cause, Verdict, refuse};
+use finite::lowest_passing;
 use layout::MAX_VERTICES;
 
 // The edges of a list, its two ends each.
@@ -47,13 +48,7 @@ fn good_edge(edges: &[u8], total: usize, i: usize) -> bool
 fn first_bad_edge(edges: &[u8], total: usize) -> usize
     ensures { result ≡ first_bad_edge edges.now total }
 {
-    let n = edges.len() / 2;
-    for i in 0..n {
-        if !good_edge(edges, total, i) {
-            return i;
-        }
-    }
-    n
+    lowest_passing(0, edges.len() / 2, |i| !good_edge(edges, total, i))
 }
 
 // The checks 19: the total, the length, the edges.

@@ -4,7 +4,7 @@ use Rattle.std.specs.Prelude.{count_by}
 use lib.Dec.{eqb}
 use Rattle.std.proofs.lemmas.List.{length-take-le}
 use Rattle.std.proofs.lemmas.List.Sums.{count_by-le-length}
-use Rattle.degree_counts.proofs.Slices.{zeros_counted}
+use Rattle.degree_counts.proofs.Zeros.{zeros_counted}
 use Rattle.degree_counts.proofs.isolated_in.Goals as goal
 
 pub returns : goal.returns
