@@ -19,7 +19,7 @@ pub fn edge_pairs(edges: &[u8]) -> &[[u8; 2]]
     pairs
 }
 
-// Edge i is above the edge before it, by v and then w.
+// Edge i is above the edge before it, by v and then w. By its index, since it stands beside the one before it.
 fn rises(edges: &[u8], i: usize) -> bool
     requires { 2 * i + 2 ≤ length edges.now }
     ensures { result ≡ rises edges.now i }

@@ -55,7 +55,7 @@ fn shuffled_by(form: Form, word: &[u8]) -> Option<Request>
     })
 }
 
-// `--graph6`.
+// `--graph6`. A test and not a pattern of byte strings: that leaves a goal to prove for each byte.
 fn one_word(first: &[u8]) -> Option<Request>
     ensures { result ≡ one_word first.now }
 {
