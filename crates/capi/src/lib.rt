@@ -36,7 +36,7 @@ pub extern "C" fn replica_clear(
     ensures adjacency_after { adjacency.new ≡ (clear_after (loan_of journal.old adjacency.old log.old)).state.adjacency }
     ensures log_after { log.new ≡ (clear_after (loan_of journal.old adjacency.old log.old)).log }
 {
-    numbers::of_clear(clear::clear(journal, adjacency, log))
+    ReplicaAnswer::from(clear::clear(journal, adjacency, log))
 }
 
 #[unsafe(no_mangle)]
@@ -49,7 +49,7 @@ pub extern "C" fn replica_take_block(
     ensures value { result ≡ flat (take_numbers (take_answer (state_of journal.old adjacency.now) number block.now)) }
     ensures journal_after { journal.new ≡ (take_after (state_of journal.old adjacency.now) number block.now).journal }
 {
-    numbers::of_take(take_block::take_block(journal, adjacency, number, block))
+    ReplicaAnswer::from(take_block::take_block(journal, adjacency, number, block))
 }
 
 #[unsafe(no_mangle)]
@@ -71,7 +71,7 @@ pub extern "C" fn replica_lay_out(journal: &mut [u8], adjacency: &[u8]) -> Repli
     ensures value { result ≡ flat (lay_out_numbers (lay_out_answer (state_of journal.old adjacency.now))) }
     ensures journal_after { journal.new ≡ (lay_out_after (state_of journal.old adjacency.now)).journal }
 {
-    numbers::of_lay_out(lay_out::lay_out(journal, adjacency))
+    ReplicaAnswer::from(lay_out::lay_out(journal, adjacency))
 }
 
 #[unsafe(no_mangle)]
@@ -86,7 +86,7 @@ pub extern "C" fn replica_add_edge(
     ensures adjacency_after { adjacency.new ≡ (add_after (loan_of journal.now adjacency.old log.old) v w).state.adjacency }
     ensures log_after { log.new ≡ (add_after (loan_of journal.now adjacency.old log.old) v w).log }
 {
-    numbers::of_add(add_edge::add_edge(journal, adjacency, log, v, w))
+    ReplicaJoin::from(add_edge::add_edge(journal, adjacency, log, v, w))
 }
 
 #[unsafe(no_mangle)]
@@ -101,7 +101,7 @@ pub extern "C" fn replica_remove_edge(
     ensures adjacency_after { adjacency.new ≡ (remove_after (loan_of journal.now adjacency.old log.old) v w).state.adjacency }
     ensures log_after { log.new ≡ (remove_after (loan_of journal.now adjacency.old log.old) v w).log }
 {
-    numbers::of_remove(remove_edge::remove_edge(journal, adjacency, log, v, w))
+    ReplicaAnswer::from(remove_edge::remove_edge(journal, adjacency, log, v, w))
 }
 
 #[unsafe(no_mangle)]
@@ -118,7 +118,7 @@ pub extern "C" fn replica_swap_edges(
     ensures adjacency_after { adjacency.new ≡ (swap_after (loan_of journal.now adjacency.old log.old) (swap_of a b c d)).state.adjacency }
     ensures log_after { log.new ≡ (swap_after (loan_of journal.now adjacency.old log.old) (swap_of a b c d)).log }
 {
-    numbers::of_swap(swap_edges::swap_edges(journal, adjacency, log, a, b, c, d))
+    ReplicaAnswer::from(swap_edges::swap_edges(journal, adjacency, log, a, b, c, d))
 }
 
 #[unsafe(no_mangle)]
@@ -131,7 +131,7 @@ pub extern "C" fn replica_undo_swap(
     ensures adjacency_after { adjacency.new ≡ (undo_after (loan_of journal.now adjacency.old log.old)).state.adjacency }
     ensures log_after { log.new ≡ (undo_after (loan_of journal.now adjacency.old log.old)).log }
 {
-    numbers::of_undo(undo_swap::undo_swap(journal, adjacency, log))
+    ReplicaAnswer::from(undo_swap::undo_swap(journal, adjacency, log))
 }
 
 #[unsafe(no_mangle)]
@@ -146,7 +146,7 @@ pub extern "C" fn replica_complete(
     ensures log_after { log.new ≡ (complete_after (loan_of journal.now adjacency.old log.old) (length output.old)).log }
     ensures output_after { output.new ≡ complete_output (loan_of journal.now adjacency.old log.old) output.old }
 {
-    numbers::of_complete(complete::complete(journal, adjacency, log, output))
+    ReplicaAnswer::from(complete::complete(journal, adjacency, log, output))
 }
 
 #[unsafe(no_mangle)]
@@ -162,7 +162,7 @@ pub extern "C" fn replica_complete_shuffled(
     ensures log_after { log.new ≡ (shuffle_after (loan_of journal.now adjacency.old log.old) x (length output.old)).log }
     ensures output_after { output.new ≡ shuffle_output (loan_of journal.now adjacency.old log.old) x output.old }
 {
-    numbers::of_shuffle(complete_shuffled::complete_shuffled(journal, adjacency, log, x, output))
+    ReplicaAnswer::from(complete_shuffled::complete_shuffled(journal, adjacency, log, x, output))
 }
 
 #[unsafe(no_mangle)]
@@ -174,7 +174,7 @@ pub extern "C" fn replica_edge_list(
     ensures value { result ≡ flat (written_numbers (list_answer (state_of journal.now adjacency.now) (length output.old))) }
     ensures output_after { output.new ≡ list_output (state_of journal.now adjacency.now) output.old }
 {
-    numbers::of_written(edge_list::edge_list(journal, adjacency, output))
+    ReplicaAnswer::from(edge_list::edge_list(journal, adjacency, output))
 }
 
 #[unsafe(no_mangle)]
@@ -186,7 +186,7 @@ pub extern "C" fn replica_jdm_of_edges(
     ensures value { result ≡ flat (written_numbers (survey_answer edges.now total (length output.old))) }
     ensures output_after { output.new ≡ survey_output (survey_answer edges.now total (length output.old)) edges.now total output.old }
 {
-    numbers::of_written(jdm_of_edges::jdm_of_edges(edges, total, output))
+    ReplicaAnswer::from(jdm_of_edges::jdm_of_edges(edges, total, output))
 }
 
 #[unsafe(no_mangle)]
@@ -198,7 +198,7 @@ pub extern "C" fn replica_graph6_write(
     ensures value { result ≡ flat (written_numbers (write_answer edges.now total (length output.old))) }
     ensures output_after { output.new ≡ write_output (write_answer edges.now total (length output.old)) edges.now total output.old }
 {
-    numbers::of_written(graph6_write::graph6_write(edges, total, output))
+    ReplicaAnswer::from(graph6_write::graph6_write(edges, total, output))
 }
 
 #[unsafe(no_mangle)]
@@ -206,12 +206,12 @@ pub extern "C" fn replica_graph6_read(text: &[u8], output: &mut [u8]) -> Replica
     ensures value { result ≡ flat (read_numbers (read_answer text.now (length output.old))) }
     ensures output_after { output.new ≡ read_output (read_answer text.now (length output.old)) text.now output.old }
 {
-    numbers::of_read(graph6_read::graph6_read(text, output))
+    ReplicaAnswer::from(graph6_read::graph6_read(text, output))
 }
 
 #[unsafe(no_mangle)]
 pub extern "C" fn replica_figures(journal: &[u8], adjacency: &[u8]) -> ReplicaAnswer
     ensures { result ≡ flat (figures_numbers (figures_answer (state_of journal.now adjacency.now))) }
 {
-    numbers::of_figures(figures::figures(journal, adjacency))
+    ReplicaAnswer::from(figures::figures(journal, adjacency))
 }

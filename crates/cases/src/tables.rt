@@ -1,5 +1,4 @@
 // Tables with what the program prints for them.
-use slices::put;
 use std::io;
 
 fn run(rt: &impl Print, title: &[u8], input: &[u8]) -> io::Result<()> {
@@ -23,21 +22,16 @@ pub fn small(rt: &impl Print) -> io::Result<()> {
     run(rt, b"(3,3)=18\n", &[3u8, 3, 18, 0])
 }
 
-// 17 records (2,2) with no count: a block of 16 and one more.
-fn no_counts(input: &mut [u8]) {
-    for i in 0..17usize {
-        put(input, 4 * i, 2);
-        put(input, 4 * i + 1, 2);
-    }
-}
-
-// Two odd counts in two blocks.
+// Two odd counts in two blocks: the first and the last of 17 records (2,2).
 pub fn sum_over_blocks(rt: &impl Print) -> io::Result<()> {
-    let mut input = [0u8; 68];
-    no_counts(&mut input);
-    put(&mut input, 2, 3);
-    put(&mut input, 66, 5);
-    run(rt, b"(2,2)=3 and 5: even only as a sum\n", &input)
+    let mut records = [[2u8, 2, 0, 0]; 17];
+    records[0][2] = 3;
+    records[16][2] = 5;
+    run(
+        rt,
+        b"(2,2)=3 and 5: even only as a sum\n",
+        records.as_flattened(),
+    )
 }
 
 pub fn inputs(rt: &impl Print) -> io::Result<()> {

@@ -3,3 +3,4 @@ pub mod Pairs
 pub mod Listing
 pub mod Listed
 pub mod Unique
+pub mod Chunks

@@ -1,16 +1,25 @@
 // Edge lists: when one is refused, and the edges of one row written to one.
 #![tactic(auto)]
 
-ghost use Rattle.std.specs.Prelude.{◌≡◌, ◌+◌, ◌*◌, ◌≤◌, ◌<◌, length, get_or};
+ghost use Rattle.std.specs.Prelude.{◌≡◌, ℕ, [], ◌∷◌, ◌+◌, ◌*◌, ◌≤◌, ◌<◌, length, get_or};
 ghost use Rattle.std.proofs.lemmas.List.Edits.{sets};
 ghost use Rattle.layout.specs.Layout.{most_vertices};
-ghost use Rattle.edge_lists.specs.EdgeList.{rises, good_edge, first_bad_edge, list_verdict, edge_bytes, row_bytes};
+ghost use Rattle.edge_lists.specs.EdgeList.{listed, end_v, end_w, rises, good_edge, first_bad_edge, list_verdict, edge_bytes, row_bytes};
 
 use answer::{Cause, Refusal, refuse};
+use finite::lowest_passing;
 use layout::MAX_VERTICES;
-use slices::wide;
 
-// Edge i is above the edge before it, by v and then w.
+// The edges of a list, its two ends each.
+pub fn edge_pairs(edges: &[u8]) -> &[[u8; 2]]
+    ensures count { length result.now ≡ listed edges.now }
+    ensures ends { (i : ℕ) → i < listed edges.now → get_or result.now i [] ≡ end_v edges.now i ∷ end_w edges.now i ∷ [] }
+{
+    let (pairs, _) = edges.as_chunks::<2>();
+    pairs
+}
+
+// Edge i is above the edge before it, by v and then w. By its index, since it stands beside the one before it.
 fn rises(edges: &[u8], i: usize) -> bool
     requires { 2 * i + 2 ≤ length edges.now }
     ensures { result ≡ rises edges.now i }
@@ -32,22 +41,14 @@ fn good_edge(edges: &[u8], total: usize, i: usize) -> bool
 {
     let v = edges[2 * i];
     let w = edges[2 * i + 1];
-    (v < w) & (wide(w) < total) & rises(edges, i)
+    (v < w) & (usize::from(w) < total) & rises(edges, i)
 }
 
 // The first edge that is not good, or the number of edges.
 fn first_bad_edge(edges: &[u8], total: usize) -> usize
     ensures { result ≡ first_bad_edge edges.now total }
 {
-    let n = edges.len() / 2;
-    let mut i = 0;
-    while i < n {
-        if !good_edge(edges, total, i) {
-            return i;
-        }
-        i += 1;
-    }
-    i
+    lowest_passing(0, edges.len() / 2, |i| !good_edge(edges, total, i))
 }
 
 // The checks 19: the total, the length, the edges.
@@ -88,12 +89,9 @@ pub fn put_row(row: &[u8], v: usize, output: &mut [u8], at: usize) -> usize
     ensures value { result ≡ at + length (row_bytes (length row.now) (λ x. get_or row.now x 0) v) }
     ensures output_after { output.new ≡ sets output.old at (row_bytes (length row.now) (λ x. get_or row.now x 0) v) }
 {
-    let n = row.len();
     let mut a = at;
-    let mut w = v + 1;
-    while w < n {
+    for w in v + 1..row.len() {
         a = put_edge(row, v, w, output, a);
-        w += 1;
     }
     a
 }

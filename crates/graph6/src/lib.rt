@@ -1,7 +1,7 @@
 // McKay's graph6: its constants, and how many bits and bytes the upper triangle has (document 02, P5).
 #![tactic(auto)]
 
-ghost use Rattle.std.specs.Prelude.{◌≡◌, ◌≤◌, ◌<◌};
+ghost use Rattle.std.specs.Prelude.{◌≡◌, ◌≤◌};
 ghost use Rattle.layout.specs.Layout.{most_vertices};
 ghost use Rattle.graph6.specs.Format.{column_start, body_length, most_bits, body_most};
 
@@ -22,13 +22,6 @@ pub const MAX_SHORT: usize = 62;
 const MAX_BITS: usize = MAX_VERTICES * (MAX_VERTICES - 1) / 2;
 
 pub const MAX_BODY_BYTES: usize = (MAX_BITS + 5) / 6;
-
-// A column's start as a number.
-pub fn wide16(x: u16) -> usize
-    ensures { (result ≡ x) × (result < 65536) }
-{
-    x as usize
-}
 
 // How many bits the columns of n vertices have.
 pub fn bit_count(n: usize) -> usize

@@ -32,8 +32,8 @@ pub fn unpack(body: &[u8], bits: &mut [u8; MAX_BODY_BITS])
     requires { 6 * length body.now ≤ bits_most }
     ensures { bits.new ≡ sets bits.old 0 (unpacked body.now) }
 {
-    for p in 0..body.len() {
-        put_bits(bits, 6 * p, six_of(body[p]));
+    for (p, &x) in body.iter().enumerate() {
+        put_bits(bits, 6 * p, six_of(x));
     }
 }
 

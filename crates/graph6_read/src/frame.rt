@@ -5,26 +5,19 @@ ghost use Rattle.graph6.specs.Format.{offset, most_byte, is_long, size_length, l
 
 use graph6::{MAX_BYTE, MAX_SHORT, PLUS, body_length};
 use layout::MAX_VERTICES;
-use slices::wide;
 
 // The byte at place i, and 0 behind the end.
 fn byte_at(text: &[u8], i: usize) -> u8
     ensures { result ≡ get_or text.now i 0 }
 {
-    if i < text.len() {
-        return text[i];
-    }
-    0
+    text.get(i).copied().unwrap_or(0)
 }
 
 // The six bits of a byte.
 pub fn six_of(x: u8) -> u8
     ensures { result ≡ x - offset }
 {
-    if x < PLUS {
-        return 0;
-    }
-    x - PLUS
+    x.saturating_sub(PLUS)
 }
 
 // The byte is one of 63, .., m.
@@ -54,9 +47,9 @@ pub fn size_length(text: &[u8]) -> usize
 fn long_size(text: &[u8]) -> usize
     ensures { (result ≡ long_size text.now) × (result < 1048576) }
 {
-    let high = wide(six_of(byte_at(text, 1)));
-    let middle = wide(six_of(byte_at(text, 2)));
-    let low = wide(six_of(byte_at(text, 3)));
+    let high = usize::from(six_of(byte_at(text, 1)));
+    let middle = usize::from(six_of(byte_at(text, 2)));
+    let low = usize::from(six_of(byte_at(text, 3)));
     high * 4096 + middle * 64 + low
 }
 
@@ -67,7 +60,7 @@ pub fn size_of(text: &[u8]) -> usize
     if is_long(text) {
         return long_size(text);
     }
-    wide(six_of(byte_at(text, 0)))
+    usize::from(six_of(byte_at(text, 0)))
 }
 
 // A size above 200, judged on the first two or four bytes.
@@ -87,8 +80,8 @@ fn all_printed(text: &[u8]) -> bool
     ensures { result ≡ all_to (length text.now) (λ i. up_to most_byte (get_or text.now i 0)) }
 {
     let mut ok = true;
-    for i in 0..text.len() {
-        ok = ok & up_to(MAX_BYTE, text[i]);
+    for &x in text {
+        ok &= up_to(MAX_BYTE, x);
     }
     ok
 }

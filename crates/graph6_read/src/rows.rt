@@ -8,7 +8,6 @@ ghost use Rattle.graph6_read.specs.Inner.Bits.{HasRow, rows_of};
 use crate::bits::MAX_BODY_BITS;
 use edge_lists::put_row;
 use graph6::column_starts::COLUMN_STARTS;
-use graph6::wide16;
 use layout::MAX_VERTICES;
 
 // The row of v: its bit in each of the columns behind it.
@@ -17,10 +16,8 @@ fn gather_row(bits: &[u8; MAX_BODY_BITS], n: usize, v: usize, row: &mut [u8; MAX
     ensures { HasRow bits.now n v row.new × (length row.new ≡ most_vertices) }
 {
     let starts = COLUMN_STARTS;
-    let mut w = v + 1;
-    while w < n {
-        row[w] = bits[wide16(starts[w]) + v];
-        w += 1;
+    for w in v + 1..n {
+        row[w] = bits[usize::from(starts[w]) + v];
     }
 }
 

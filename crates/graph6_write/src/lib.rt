@@ -11,10 +11,10 @@ ghost use Rattle.graph6_write.specs.Write.{write_listed, write_answer, write_out
 ghost use Rattle.graph6_write.specs.Inner.Body.{weight_of, add_bit, body_to};
 
 use answer::{Cause, WrittenAnswer, refuse};
-use edge_lists::list_check;
+use edge_lists::{edge_pairs, list_check};
 use graph6::column_starts::COLUMN_STARTS;
-use graph6::{MAX_BODY_BYTES, MAX_BYTE, MAX_SHORT, PLUS, body_length, wide16};
-use slices::{copy_in, wide};
+use graph6::{MAX_BODY_BYTES, MAX_BYTE, MAX_SHORT, PLUS, body_length};
+use slices::copy_in;
 
 // What the bit at each of six places is worth in its byte.
 const WEIGHTS: [u8; 6] = [32, 16, 8, 4, 2, 1];
@@ -57,8 +57,7 @@ fn add_bit(body: &mut [u8; MAX_BODY_BYTES], q: usize)
     requires { (q / 6 < body_most) × (get_or body.old (q / 6) 0 + weight_of (q % 6) < 256) }
     ensures { body.new ≡ add_bit q body.old }
 {
-    let p = q / 6;
-    body[p] = body[p] + WEIGHTS[q % 6];
+    body[q / 6] += WEIGHTS[q % 6];
 }
 
 // The body of a list on a total of vertices, which the contract alone uses: six zeros a byte, to which each edge adds its bit.
@@ -66,13 +65,11 @@ fn body_of(edges: &[u8], total: usize) -> [u8; MAX_BODY_BYTES]
     requires { list_verdict edges.now total ≡ Go }
     ensures { result ≡ body_to edges.now (listed edges.now) }
 {
-    let n = edges.len() / 2;
     let starts = COLUMN_STARTS;
     let mut body = [PLUS; MAX_BODY_BYTES];
-    for i in 0..n {
-        let v = wide(edges[2 * i]);
-        let w = wide(edges[2 * i + 1]);
-        add_bit(&mut body, wide16(starts[w]) + v);
+    for &[v, w] in edge_pairs(edges) {
+        let start = usize::from(starts[usize::from(w)]);
+        add_bit(&mut body, start + usize::from(v));
     }
     body
 }

@@ -27,13 +27,22 @@ abbrev pub IsGo : Verdict → Type 0
 IsGo (Ok _) = Unit {0}
 IsGo (Err r) = ⊥
 
--- what is left of the input, where that is less than a block
-pub rest_block : (input : List ℕ) (i : ℕ) → length input - block_most * i < block_most
-    → take (length input - block_most * i) (drop (block_most * i) input) ≡ block_in input i
-rest_block input i h =
-    let e = length-drop (block_most * i) input in
-    whole_taken (length input - block_most * i) (drop (block_most * i) input) (omega (arith, e))
-    ∙ sym (whole_taken block_most (drop (block_most * i) input) (omega (arith, e)))
+-- no more is taken than there is
+front : (n : ℕ) (xs : List ℕ) → take (min (length xs) n) xs ≡ take n xs
+front n xs = go (dec_lt (length xs) n)
+  where
+    go : Dec (length xs < n) → take (min (length xs) n) xs ≡ take n xs
+    go (yes l) =
+        let m : min (length xs) n ≡ length xs = omega arith in
+        rw m (whole_taken (length xs) xs (omega arith) ∙ sym (whole_taken n xs (omega arith)))
+    go (no l) = let m : min (length xs) n ≡ n = omega arith in rw m
+
+-- a block of what is left of the input, which may be less
+pub rest_block : (input : List ℕ) (i : ℕ) (rest : List ℕ) → rest ≡ take (length input - block_most * i) (drop (block_most * i) input)
+    → take (min (length rest) block_most) rest ≡ block_in input i
+rest_block input i rest e =
+    let whole = whole_taken (length input - block_most * i) (drop (block_most * i) input) (omega (arith, length-drop (block_most * i) input)) in
+    rw (e, whole) (front block_most (drop (block_most * i) input))
 
 -- taking leaves the matrix
 take-matrix : (s : State) (i : ℕ) (b : List ℕ) → take_after s i b ≡ with_journal s (take_after s i b).journal

@@ -8,7 +8,6 @@ ghost use Rattle.take_block.specs.Take.{take_answer, take_after};
 ghost use Rattle.input_blocks.specs.Blocks.{block_in, take_verdict, take_all, input_most};
 
 use answer::{Refusal, TakeAnswer};
-use slices::least;
 use table::record::{MAX_BLOCK_BYTES, MAX_BLOCKS};
 
 // The bytes that can matter: one block more than the journal has room for.
@@ -25,10 +24,7 @@ pub fn is_enough(n: usize) -> bool
 fn blocks_in(len: usize) -> usize
     ensures { result ≡ (len + (block_most - 1)) / block_most }
 {
-    if len % MAX_BLOCK_BYTES == 0 {
-        return len / MAX_BLOCK_BYTES;
-    }
-    len / MAX_BLOCK_BYTES + 1
+    len.div_ceil(MAX_BLOCK_BYTES)
 }
 
 // Block `number` of the input: 64 bytes, or what is left of it.
@@ -36,11 +32,8 @@ fn block_in(input: &[u8], number: usize) -> &[u8]
     requires { block_most * number ≤ length input.now }
     ensures { result.now ≡ block_in input.now number }
 {
-    let at = MAX_BLOCK_BYTES * number;
-    if input.len() - at < MAX_BLOCK_BYTES {
-        return &input[at..];
-    }
-    &input[at..at + MAX_BLOCK_BYTES]
+    let rest = &input[MAX_BLOCK_BYTES * number..];
+    &rest[..rest.len().min(MAX_BLOCK_BYTES)]
 }
 
 // Takes one block; refused or not.
@@ -64,7 +57,7 @@ pub fn take_all(journal: &mut [u8], adjacency: &[u8], input: &[u8]) -> Result<()
     ensures value { result ≡ (take_all (state_of journal.old adjacency.now) input.now).verdict }
     ensures journal_after { journal.new ≡ (take_all (state_of journal.old adjacency.now) input.now).state.journal }
 {
-    let n = least(blocks_in(input.len()), MAX_BLOCKS + 1);
+    let n = blocks_in(input.len()).min(MAX_BLOCKS + 1);
     for number in 0..n {
         take_one(journal, adjacency, number, block_in(input, number))?;
     }

@@ -12,7 +12,7 @@ use borrow.Author.Tests.{leb-true, le-leb, lt-leb, lt-ltb, le-ltb}
 use Rattle.finite.specs.Range.{all_to, fold_to}
 use Rattle.finite.proofs.All.{and_left, and_right, and-false, all_to-fails}
 use Rattle.finite.proofs.Fold.{fold_to-more, fold_to-after}
-use Rattle.options.specs.declared.Number.TheVariants.{Value, NoNumber}
+use Rattle.std.specs.Prelude.{Some, None}
 use Rattle.options.specs.Options.{is_digit, with_digit, value_of, number_end, word_number}
 
 pub digit_range : (b : ℕ) → is_digit b ≡ true → (48 ≤ b) × (b ≤ 57)
@@ -38,17 +38,17 @@ module _ (word : List ℕ) where
       let q : i + suc k ≡ i + k + 1 = omega arith in
       rw q (omega (arith, value_grows i k, fold_to-more (with_digit word) 0 (i + k)))
 
-  pub none_empty : length word ≡ 0 → NoNumber ≡ word_number word
+  pub none_empty : length word ≡ 0 → None ≡ word_number word
   none_empty e = rw (lt-leb 1 (length word) (omega arith))
 
-  pub none_other : (i : ℕ) → i < length word → digit_at i ≡ false → NoNumber ≡ word_number word
+  pub none_other : (i : ℕ) → i < length word → digit_at i ≡ false → None ≡ word_number word
   none_other i l e = rw (all_to-fails digit_at (length word) i l e, and-false (leb 1 (length word)))
 
-  pub none_large : (i : ℕ) → i ≤ length word → number_end ≤ value_to i → NoNumber ≡ word_number word
+  pub none_large : (i : ℕ) → i ≤ length word → number_end ≤ value_to i → None ≡ word_number word
   none_large i l h =
       let q : i + (length word - i) ≡ length word = omega arith in
       let g : value_to i ≤ value_of word = rw q at (value_grows i (length word - i)) in
       rw (le-ltb (value_of word) number_end (omega arith), and-false (leb 1 (length word) && all_to (length word) digit_at))
 
-  pub some : (length word ≡ 0 → ⊥) → all_to (length word) digit_at ≡ true → value_of word < number_end → Value (value_of word) ≡ word_number word
+  pub some : (length word ≡ 0 → ⊥) → all_to (length word) digit_at ≡ true → value_of word < number_end → Some (value_of word) ≡ word_number word
   some filled digits small = rw (le-leb 1 (length word) (omega arith), digits, lt-ltb (value_of word) number_end small)

@@ -1,11 +1,11 @@
 // What the program's arguments ask for.
 #![tactic(auto)]
 
-ghost use Rattle.std.specs.Prelude.{◌≡◌, ◌-◌};
+ghost use Rattle.std.specs.Prelude.{◌≡◌, ◌-◌, map};
 ghost use Rattle.options.specs.Options.{is_digit, word_number, shuffled_by, one_word, two_words, three_words, request_of};
 
 use answer::Choice;
-use slices::{same_bytes, wide};
+use slices::same_bytes;
 
 // How the completed graph is shown: N, its edges and the switches, then a line for each edge; or one line of graph6.
 #[derive(Clone, Copy)]
@@ -16,20 +16,10 @@ pub enum Form {
 
 // What the arguments ask for.
 #[derive(Clone, Copy)]
-pub enum Request {
-    Show(Form, Choice),
-    Usage,
+pub struct Request {
+    pub form: Form,
+    pub choice: Choice,
 }
-
-// What a word says.
-#[derive(Clone, Copy)]
-pub enum Number {
-    Value(u32),
-    NoNumber,
-}
-
-// Numbers are below it.
-const NUMBER_END: usize = 4294967296;
 
 fn is_digit(b: u8) -> bool
     ensures { result ≡ is_digit b }
@@ -38,58 +28,58 @@ fn is_digit(b: u8) -> bool
 }
 
 // A word's number. It stops where the number is too large, so that no word is too long to be read.
-fn word_number(word: &[u8]) -> Number
+fn word_number(word: &[u8]) -> Option<u32>
     ensures { result ≡ word_number word.now }
 {
-    if word.len() == 0 {
-        return Number::NoNumber;
+    if word.is_empty() {
+        return None;
     }
-    let mut value = 0;
-    for i in 0..word.len() {
-        if !is_digit(word[i]) {
-            return Number::NoNumber;
+    let mut value: u32 = 0;
+    for &b in word {
+        if !is_digit(b) {
+            return None;
         }
-        value = value * 10 + (wide(word[i]) - 48);
-        if NUMBER_END <= value {
-            return Number::NoNumber;
-        }
+        value = value.checked_mul(10)?.checked_add(u32::from(b - b'0'))?;
     }
-    Number::Value(value as u32)
+    Some(value)
 }
 
 // The form, shuffled from a word's number on.
-fn shuffled_by(form: Form, word: &[u8]) -> Request
+fn shuffled_by(form: Form, word: &[u8]) -> Option<Request>
     ensures { result ≡ shuffled_by form (word_number word.now) }
 {
-    let number = word_number(word);
-    match number {
-        Number::Value(x) => Request::Show(form, Choice::Picked(x)),
-        Number::NoNumber => Request::Usage,
-    }
+    let x = word_number(word)?;
+    Some(Request {
+        form,
+        choice: Choice::Picked(x),
+    })
 }
 
-// `--graph6`.
-fn one_word(first: &[u8]) -> Request
+// `--graph6`. A test and not a pattern of byte strings: that leaves a goal to prove for each byte.
+fn one_word(first: &[u8]) -> Option<Request>
     ensures { result ≡ one_word first.now }
 {
     if same_bytes(first, b"--graph6") {
-        return Request::Show(Form::Graph6, Choice::Lowest);
+        return Some(Request {
+            form: Form::Graph6,
+            choice: Choice::Lowest,
+        });
     }
-    Request::Usage
+    None
 }
 
 // `--shuffle X`.
-fn two_words(first: &[u8], second: &[u8]) -> Request
+fn two_words(first: &[u8], second: &[u8]) -> Option<Request>
     ensures { result ≡ two_words first.now second.now }
 {
     if same_bytes(first, b"--shuffle") {
         return shuffled_by(Form::Lines, second);
     }
-    Request::Usage
+    None
 }
 
 // Both, in either order.
-fn three_words(first: &[u8], second: &[u8], third: &[u8]) -> Request
+fn three_words(first: &[u8], second: &[u8], third: &[u8]) -> Option<Request>
     ensures { result ≡ three_words first.now second.now third.now }
 {
     if same_bytes(first, b"--graph6") & same_bytes(second, b"--shuffle") {
@@ -98,24 +88,21 @@ fn three_words(first: &[u8], second: &[u8], third: &[u8]) -> Request
     if same_bytes(first, b"--shuffle") & same_bytes(third, b"--graph6") {
         return shuffled_by(Form::Graph6, second);
     }
-    Request::Usage
+    None
 }
 
-// What so many arguments ask for, the program's name counted, of which these are the three behind the name.
-pub fn request_of(count: usize, first: &[u8], second: &[u8], third: &[u8]) -> Request
-    ensures { result ≡ request_of count first.now second.now third.now }
+// What the words behind the program's name ask for, if anything.
+pub fn request_of(words: &[&[u8]]) -> Option<Request>
+    ensures { result ≡ request_of (map (λ w. w.now) words.now) }
 {
-    if count <= 1 {
-        return Request::Show(Form::Lines, Choice::Lowest);
+    match words {
+        [] => Some(Request {
+            form: Form::Lines,
+            choice: Choice::Lowest,
+        }),
+        [first] => one_word(first),
+        [first, second] => two_words(first, second),
+        [first, second, third] => three_words(first, second, third),
+        _ => None,
     }
-    if count == 2 {
-        return one_word(first);
-    }
-    if count == 3 {
-        return two_words(first, second);
-    }
-    if count == 4 {
-        return three_words(first, second, third);
-    }
-    Request::Usage
 }

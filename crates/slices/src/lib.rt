@@ -51,9 +51,11 @@ pub fn ones(s: &[u8]) -> usize
 pub fn all_zero(s: &[u8]) -> bool
     ensures { result ≡ all_zero s.now }
 {
-    let mut most: u8 = 0;
-    for x in s {
-        most = most.max(*x);
+    let mut most = 0;
+    for &x in s {
+        if most < x {
+            most = x;
+        }
     }
     most == 0
 }

@@ -1,4 +1,5 @@
-// The program's lines, written into a lent output from a place on. Each answers the place behind what it wrote.
+// The program's lines, written into a lent output from a place on. Each answers the place behind what it wrote. They are no `Display`: with no heap
+// `write!` would need a writer with this same place, and would test for room that the contracts ask for.
 #![tactic(auto)]
 
 ghost use Rattle.std.specs.Prelude.{◌≡◌, ◌+◌, ◌≤◌, length};
@@ -6,6 +7,7 @@ ghost use Rattle.std.proofs.lemmas.List.Edits.{sets};
 ghost use Rattle.text.specs.Text.{decimal_most, decimal, field, refused_line, head_line, edge_line, edge_lines, head_most};
 
 use answer::{Refusal, number_of};
+use edge_lists::edge_pairs;
 use slices::copy_in;
 
 // The most digits of a number.
@@ -86,10 +88,9 @@ pub fn put_edges(out: &mut [u8], at: usize, edges: &[u8]) -> usize
     ensures value { result ≡ at + length (edge_lines edges.now) }
     ensures out_after { out.new ≡ sets out.old at (edge_lines edges.now) }
 {
-    let n = edges.len() / 2;
     let mut a = at;
-    for i in 0..n {
-        a = put_edge(out, a, edges[2 * i] as usize, edges[2 * i + 1] as usize);
+    for &[v, w] in edge_pairs(edges) {
+        a = put_edge(out, a, usize::from(v), usize::from(w));
     }
     a
 }

@@ -1,10 +1,9 @@
 -- What the code keeps while it goes through an edge list: the degrees that the edges so far make.
 -- Assumes nothing.
-use Rattle.std.specs.Prelude.{◌≡◌, List, ℕ, ◌+◌, ◌*◌, ◌≤◌, ◌<◌, ltb, get_or, set}
+use Rattle.std.specs.Prelude.{◌≡◌, List, ℕ, ◌+◌, ◌<◌, ltb, get_or, set}
 use Rattle.finite.specs.Range.{lowest}
 use Rattle.graph.specs.Graph.{Graph, degree, size}
 use Rattle.graph.specs.Tests.{most_degree}
-use Rattle.edge_lists.specs.EdgeList.{end_v, end_w}
 
 -- n more at place p
 abbrev pub add_at : List ℕ → ℕ → ℕ → List ℕ
@@ -17,10 +16,6 @@ count_edge x y d = add_at (add_at d x 1) y 1
 -- the degree of v as the array has it
 abbrev pub degree_in : List ℕ → ℕ → ℕ
 degree_in d v = get_or d v 0
-
--- the ends of edge i have at most 2 for each edge before it
-abbrev pub EndsFew : List ℕ → ℕ → List ℕ → Type 0
-EndsFew e i d = (degree_in d (end_v e i) ≤ 2 * i) × (degree_in d (end_w e i) ≤ 2 * i)
 
 -- the array holds the degrees of E, a graph on n vertices
 abbrev pub HasDegrees : List ℕ → ℕ → Graph → Type 0

@@ -10,24 +10,28 @@ use Rattle.text.specs.Text.{edge_line_at}
 use Rattle.text.proofs.Written.{written_next}
 use Rattle.text.proofs.put_edges.Goals as goal
 
-pub loop-i-init : goal.loop-i-init
-loop-i-init c = rw cat_to-none (omega arith, refl, omega arith, refl)
+pub loop-v-init : goal.loop-v-init
+loop-v-init c = rw cat_to-none (refl, omega arith, refl)
 
 pub put_edge-a-requires : goal.put_edge-a-requires
 put_edge-a-requires c =
     let e = c.args.edges.now in
-    omega (
+    let i = c.loop-v.v-index in
+    rw (c.from.ensures, c.from-in-loop-v.ensures, c.edge_pairs-v-items.ensures.ends i (omega arith)) (omega (
       arith,
       c.requires,
-      c.loop-i.invariant.1,
-      c.loop-i.invariant.2,
-      cat_to-part (edge_line_at e) (length e / 2) c.loop-i.i c.loop-i-test.true,
-    )
+      c.loop-v.invariant.0,
+      c.loop-v.invariant.1,
+      cat_to-part (edge_line_at e) (length e / 2) i (omega arith),
+    ))
 
-pub loop-i-preserved : goal.loop-i-preserved
-loop-i-preserved c =
+pub loop-v-preserved : goal.loop-v-preserved
+loop-v-preserved c =
     let a = c.args in
-    let e = a.edges.now in
-    let f = edge_line_at e in
-    let w = written_next a.out.now a.at (cat_to c.loop-i.i f) (f c.loop-i.i) _ _ (c.loop-i.invariant.2, c.loop-i.invariant.3) _ _ (c.put_edge-a.ensures.value, c.put_edge-a.ensures.out_after) in
-    (omega arith, search rules, rw (cat_to-more f c.loop-i.i) w.0, rw (cat_to-more f c.loop-i.i) w.1)
+    let i = c.loop-v.v-index in
+    let f = edge_line_at a.edges.now in
+    let pair = c.edge_pairs-v-items.ensures.ends i (omega arith) in
+    let value = rw (c.from.ensures, c.from-in-loop-v.ensures, pair) at c.put_edge-a.ensures.value in
+    let after = rw (c.from.ensures, c.from-in-loop-v.ensures, pair) at c.put_edge-a.ensures.out_after in
+    let w = written_next a.out.now a.at (cat_to i f) (f i) _ _ (c.loop-v.invariant.1, c.loop-v.invariant.2) _ _ (value, after) in
+    (search rules, rw (cat_to-more f i) w.0, rw (cat_to-more f i) w.1)

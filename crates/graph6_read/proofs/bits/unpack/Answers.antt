@@ -3,19 +3,16 @@ use mathlib.Core.Path.{refl}
 use mathlib.Core.List.{List}
 use Prim.Native.Nat.{ℕ, ◌-◌}
 use native.Mathlib.Nat.{zero-add}
-use native.Mathlib.Omega.{arith}
-use lib.ListN.{length, get_or}
-use lib.Seq.{sets}
-use Rattle.finite.specs.Range.{cat_to}
+use lib.ListN.{get_or}
 use Rattle.finite.proofs.Fold.{cat_to-none, cat_to-more, sets-append}
 use Rattle.graph6.specs.Format.{offset, bits_of}
 use Rattle.finite.proofs.Blocks.{sixes_length}
 use Rattle.graph6_read.proofs.bits.unpack.Goals as goal
 
 pub loop-p-init : goal.loop-p-init
-loop-p-init c = (omega arith, rw cat_to-none refl)
+loop-p-init c = rw cat_to-none refl
 
 pub loop-p-preserved : goal.loop-p-preserved
 loop-p-preserved c =
     let F : ℕ → List ℕ = λ i. bits_of (get_or c.args.body.now i 0 - offset) in
-    (omega arith, rw (cat_to-more F c.loop-p.p, sets-append, zero-add, sixes_length F (λ i. refl) c.loop-p.p, ← c.loop-p.invariant.1) (rw c.six_of.ensures at c.put_bits.ensures))
+    rw (cat_to-more F c.loop-p.p, sets-append, zero-add, sixes_length F (λ i. refl) c.loop-p.p, ← c.loop-p.invariant) (rw c.six_of.ensures at c.put_bits.ensures)

@@ -1,11 +1,10 @@
 -- `graph6_read::rows::put_rows` meets its contract: the rows up to v are written.
 use mathlib.Core.Path.{refl}
-use Prim.Native.Nat.{◌≤◌, ◌-◌}
+use Prim.Native.Nat.{◌≤◌}
 use native.Mathlib.Nat.{zero-add}
 use native.Mathlib.Omega.{arith}
 use lib.ListN.{length, length-append}
-use lib.Seq.{sets, length-sets}
-use Rattle.finite.specs.Range.{cat_to}
+use lib.Seq.{length-sets}
 use Rattle.finite.proofs.Fold.{cat_to-none, cat_to-more, cat_to-part, sets-append}
 use Rattle.edge_lists.specs.EdgeList.{row_bytes}
 use Rattle.graph6_read.specs.Inner.Bits.{rows_of}
