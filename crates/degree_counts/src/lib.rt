@@ -7,7 +7,7 @@ ghost use Rattle.edge_lists.specs.EdgeList.{listed, first_bad_edge, graph_of};
 ghost use Rattle.degree_counts.specs.Inner.Degrees.{count_edge, degree_in, first_above_in, isolated_in, HasDegrees};
 
 use edge_lists::edge_pairs;
-use finite::lowest_passing;
+use finite::first_passing;
 use layout::MAX_VERTICES;
 use table::degree::MAX_DEGREE;
 
@@ -32,12 +32,12 @@ pub fn degrees_of(edges: &[u8], total: usize) -> [usize; MAX_VERTICES]
     degrees
 }
 
-// The lowest vertex whose degree is over 40, or the total.
-pub fn first_above(degrees: &[usize; MAX_VERTICES], total: usize) -> usize
+// The lowest vertex whose degree is over 40.
+pub fn first_above(degrees: &[usize; MAX_VERTICES], total: usize) -> Option<usize>
     requires { total ≤ most_vertices }
-    ensures { result ≡ first_above_in degrees.now total }
+    ensures { IsFound total (first_above_in degrees.now total) result }
 {
-    lowest_passing(0, total, |v| MAX_DEGREE < degrees[v])
+    first_passing(0, total, |v| MAX_DEGREE < degrees[v])
 }
 
 // How many vertices below the total have no edge.

@@ -3,11 +3,12 @@
 
 ghost use Rattle.std.specs.Prelude.{◌≡◌, ℕ, [], ◌∷◌, ◌+◌, ◌*◌, ◌≤◌, ◌<◌, length, get_or};
 ghost use Rattle.std.proofs.lemmas.List.Edits.{sets};
+ghost use Rattle.finite.specs.Range.{IsFound};
 ghost use Rattle.layout.specs.Layout.{most_vertices};
 ghost use Rattle.edge_lists.specs.EdgeList.{listed, end_v, end_w, rises, good_edge, first_bad_edge, list_verdict, edge_bytes, row_bytes};
 
 use answer::{Cause, Refusal, refuse};
-use finite::lowest_passing;
+use finite::first_passing;
 use layout::MAX_VERTICES;
 
 // The edges of a list, its two ends each.
@@ -44,11 +45,11 @@ fn good_edge(edges: &[u8], total: usize, i: usize) -> bool
     (v < w) & (usize::from(w) < total) & rises(edges, i)
 }
 
-// The first edge that is not good, or the number of edges.
-fn first_bad_edge(edges: &[u8], total: usize) -> usize
-    ensures { result ≡ first_bad_edge edges.now total }
+// The first edge that is not good.
+fn first_bad_edge(edges: &[u8], total: usize) -> Option<usize>
+    ensures { IsFound (listed edges.now) (first_bad_edge edges.now total) result }
 {
-    lowest_passing(0, edges.len() / 2, |i| !good_edge(edges, total, i))
+    first_passing(0, edges.len() / 2, |i| !good_edge(edges, total, i))
 }
 
 // The checks 19: the total, the length, the edges.
@@ -58,12 +59,10 @@ pub fn list_check(edges: &[u8], total: usize) -> Result<(), Refusal>
     if MAX_VERTICES < total {
         return Err(refuse(Cause::BadEdgeList, 0, 0));
     }
-    let n = edges.len() / 2;
     if edges.len() % 2 != 0 {
-        return Err(refuse(Cause::BadEdgeList, n, 0));
+        return Err(refuse(Cause::BadEdgeList, edges.len() / 2, 0));
     }
-    let bad = first_bad_edge(edges, total);
-    if bad != n {
+    if let Some(bad) = first_bad_edge(edges, total) {
         return Err(refuse(Cause::BadEdgeList, bad, 0));
     }
     Ok(())

@@ -46,8 +46,7 @@ fn survey_listed(edges: &[u8], total: usize, output: &mut [u8]) -> WrittenAnswer
     ensures output_after { output.new ≡ survey_output (survey_listed edges.now total (length output.old)) edges.now total output.old }
 {
     let degrees = degrees_of(edges, total);
-    let above = first_above(&degrees, total);
-    if above != total {
+    if let Some(above) = first_above(&degrees, total) {
         return WrittenAnswer::Refused(refuse(Cause::DegreeTooHigh, above, 0));
     }
     let mut records = [0u8; MAX_RECORDS_BYTES];

@@ -1,27 +1,10 @@
 // Byte slices: their sum, their ones, all zero, equal, one byte stored, copied into another.
 #![tactic(auto)]
 
-ghost use Rattle.std.specs.Prelude.{◌≡◌, ℕ, ◌+◌, ◌≤◌, ◌<◌, min, length, get_or, replicate, set};
+ghost use Rattle.std.specs.Prelude.{◌≡◌, ℕ, ◌+◌, ◌≤◌, ◌<◌, length, get_or, replicate, set};
 ghost use Rattle.std.proofs.lemmas.List.Edits.{sets};
 ghost use Rattle.finite.specs.Range.{sum_to};
 ghost use Rattle.slices.specs.Slices.{all_zero, equal_bytes};
-
-// A byte as a number.
-pub fn wide(x: u8) -> usize
-    ensures { (result ≡ x) × (result < 256) }
-{
-    x as usize
-}
-
-// The smaller of two numbers.
-pub fn least(a: usize, b: usize) -> usize
-    ensures { result ≡ min a b }
-{
-    if a < b {
-        return a;
-    }
-    b
-}
 
 // The sum of the bytes, where it is below 65,536: sums of 16 bits are vector sums of 8 at a time.
 pub fn byte_sum(s: &[u8]) -> usize

@@ -9,13 +9,6 @@ use crate::class::MAX_CLASSES;
 
 pub const CELLS: usize = MAX_CLASSES * MAX_CLASSES;
 
-// A count as a number.
-pub fn wide32(x: u32) -> usize
-    ensures { (result ≡ x) × (result < 4294967296) }
-{
-    x as usize
-}
-
 pub fn place_of(k: usize, l: usize) -> usize
     requires { (k < most_classes) × (l < most_classes) }
     ensures { (result ≡ place k l) × (result < cells_size) }
