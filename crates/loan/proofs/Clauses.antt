@@ -3,15 +3,19 @@
 use mathlib.Core.Path.{◌≡◌}
 use mathlib.Core.Bool.{true}
 use mathlib.Core.Logic.{⊎_elim}
+use Prim.Native.Nat.{ℕ, ◌<◌}
+use native.Mathlib.Decide.{dec_lt}
 use native.Mathlib.Omega.{arith}
+use lib.ListN.{length, get_or, get_or-eq_default}
 use borrow.Author.Tests.{eq-eqb}
 use Rattle.slices.proofs.Zero.{all_zero-at, zeros-all_zero}
 use Rattle.journal.specs.Journal.{phase_taking, phase}
 use Rattle.state.specs.Laid.{vertex_count, class_at}
 use Rattle.state.proofs.Clauses.{valid_by_clauses}
+use Rattle.swap_log.specs.Log.{log_size}
 use Rattle.swap_log.proofs.Clauses.{log_by_clauses}
 use Rattle.loan.specs.Loan.{Loan}
-use Rattle.loan.specs.Valid.{loan_valid}
+use Rattle.loan.specs.Valid.{log_valid, loan_valid}
 use Rattle.loan.specs.Clauses.{LoanLengths, LoanClauses, LoanByClauses}
 use Rattle.loan.proofs.Laid.{loan_lengths, lengths_loan, loan-valid, valid-loan}
 

@@ -1,9 +1,11 @@
 -- A swap on a loan, and its taking back (specs/Theorems.antt).
 -- Assumes nothing.
-use mathlib.Core.Path.{◌≡◌, ap, ap₂, ◌∙◌}
+use mathlib.Core.Path.{◌≡◌, sym, ap, ap₂, ◌∙◌}
+use mathlib.Core.Bool.{true}
 use mathlib.Core.List.{List}
-use Prim.Native.Nat.{ℕ, ◌<◌}
+use Prim.Native.Nat.{ℕ, ◌+◌, ◌<◌}
 use native.Mathlib.Omega.{arith}
+use lib.ListN.{length}
 use Rattle.graph.specs.Target.{Partial}
 use Rattle.graph.specs.Tests.{most_classes, class_degree}
 use Rattle.journal.specs.Journal.{jdm_of}
@@ -11,11 +13,11 @@ use Rattle.adjacency.specs.Adjacency.{edge}
 use Rattle.state.specs.State.{State, with_matrix}
 use Rattle.state.specs.Valid.{ValidLaid}
 use Rattle.state.specs.Laid.{vertex_count, class_at}
-use Rattle.state.proofs.Facts.{lengths_both}
+use Rattle.state.proofs.Facts.{StateFacts, Laid, valid-facts, lengths_both}
 use Rattle.state.proofs.Graph.{laid-valid}
 use Rattle.swapping.specs.declared.Swap.{Swap}
-use Rattle.swapping.specs.Swap.{swap_bytes, undoing}
-use Rattle.swapping.specs.Theorems.{SwapWorks}
+use Rattle.swapping.specs.Swap.{can_swap, swap_bytes, undoing}
+use Rattle.swapping.specs.Theorems.{Matrix, SwapWorks}
 use Rattle.swapping.proofs.Bytes.{swaps-work}
 use Rattle.swap_log.specs.Log.{most_swaps, swap_count, logged, last_swap, unlogged}
 use Rattle.swap_log.specs.Theorems.{ValidLog}
@@ -23,7 +25,7 @@ use Rattle.swap_log.proofs.Valid.{log_works}
 use Rattle.loan.specs.Loan.{Loan, swapped_loan, undone_loan}
 use Rattle.loan.specs.Valid.{LaidLoan}
 use Rattle.loan.specs.Theorems.{Preserves, allows, LoanWorks}
-use Rattle.loan.proofs.Laid.{laid-facts, laid-laid, laid-matrix, laid-log, laid_both, verdict_state, altered-laid}
+use Rattle.loan.proofs.Laid.{laid-state, laid-facts, laid-laid, laid-matrix, laid-log, laid_both, verdict_state, altered-laid}
 
 module _ (b : Loan) (v : LaidLoan b) where
   abbrev s : State

@@ -1,6 +1,6 @@
 -- What is proved of loans (proofs/Laid.antt, proofs/Swapped.antt).
 -- Assumes nothing.
-use Rattle.std.specs.Prelude.{◌≡◌, true, List, ℕ, ◌<◌}
+use Rattle.std.specs.Prelude.{◌≡◌, true, List, ℕ, ◌+◌, ◌<◌}
 use Rattle.answer.specs.Refusals.{Go}
 use Rattle.graph.specs.Graph.{degree, edges, jdm}
 use Rattle.journal.specs.Journal.{phase_laid}

@@ -5,6 +5,7 @@ use mathlib.Core.Bool.{Bool, true, false, ◌&&◌, cond}
 use Prim.Native.Nat.{◌≤◌}
 use native.Mathlib.Omega.{arith}
 use lib.Dec.{eqb, leb}
+use lib.ListN.{replicate}
 use borrow.Author.Tests.{eqb-true, eqb-false, eq-eqb, ne_eqb, leb-true}
 use Rattle.std.specs.Prelude.{Ok, Err}
 use Rattle.finite.proofs.All.{and_left}
@@ -12,8 +13,11 @@ use Rattle.answer.specs.Refusals.{Verdict, Go, Stop, refuse, stopped, unless, un
 use Rattle.answer.specs.declared.Cause.TheVariants.{WrongLength, InvalidState}
 use Rattle.answer.specs.declared.Refusal.{Refusal}
 use Rattle.answer.proofs.Checks.{unless_go, unless_stopped_go}
+use Rattle.graph.specs.Tests.{most_classes}
 use Rattle.slices.specs.Slices.{all_zero}
 use Rattle.table.specs.Block.{most_blocks}
+use Rattle.table.specs.Inner.Cells.{cells_size}
+use Rattle.layout.specs.Layout.{most_vertices}
 use Rattle.journal.specs.Journal.{phase_taking, phase_laid, phase, blocks, journal_ok, table_of}
 use Rattle.state.specs.State.{State}
 use Rattle.state.specs.Valid.{lengths_ok, laid_ok}

@@ -4,6 +4,7 @@ use native.Mathlib.Omega.{arith}
 use Rattle.graph.specs.Tests.{vertices}
 use Rattle.state.specs.State.{state_of}
 use Rattle.state.proofs.Facts.{laid-facts}
+use Rattle.swap_log.specs.Log.{log_ok}
 use Rattle.loan.proofs.open_loan.Goals as goal
 
 pub log_ok-requires : goal.log_ok-requires

@@ -1,14 +1,16 @@
 -- `state::open` meets its contract.
 use mathlib.Core.Path.{refl, sym, ◌∙◌, ap}
 use Prim.Native.Nat.{ℕ}
+use Rattle.graph.specs.Graph.{DegreeTable}
 use Rattle.graph.specs.Tests.{vertices}
 use Rattle.answer.proofs.Checks.{not_err-go}
 use Rattle.layout.specs.Layout.{layout_verdict}
-use Rattle.layout.specs.Inner.Arrays.{classes_of}
+use Rattle.layout.specs.Inner.Arrays.{classes_of, class_in}
 use Rattle.layout.proofs.Verdict.{layout_go}
-use Rattle.journal.specs.Journal.{table_of}
+use Rattle.journal.specs.Journal.{jdm_of, table_of}
+use Rattle.adjacency.specs.Adjacency.{adjacency_ok}
 use Rattle.adjacency.specs.Inner.Degrees.{degrees_of}
-use Rattle.adjacency.proofs.Classes.{class_below, class_rises}
+use Rattle.adjacency.proofs.Classes.{adjacency_ok-table, class_below, class_rises}
 use Rattle.state.proofs.Laid.{laid-counted}
 use Rattle.state.proofs.open.Goals as goal
 

@@ -1,10 +1,12 @@
 -- A state is checked once: what the check goes by before it looks at a laid matrix, and what it hands on where that passes.
 -- Assumes nothing.
-use Rattle.std.specs.Prelude.{◌≡◌, true, ◌&&◌, cond, List, ℕ, eqb, length}
+use Rattle.std.specs.Prelude.{◌≡◌, true, ◌&&◌, cond, List, ℕ, eqb, length, replicate}
 use Rattle.answer.specs.Refusals.{Verdict, Go, Stop, stopped, unless, unless_stopped}
 use Rattle.answer.specs.declared.Cause.TheVariants.{WrongLength, InvalidState, WrongPhase}
+use Rattle.graph.specs.Tests.{most_classes}
 use Rattle.slices.specs.Slices.{all_zero}
-use Rattle.table.specs.Inner.Cells.{AtMost, cell_sum_most}
+use Rattle.table.specs.Inner.Cells.{cells_size, AtMost, cell_sum_most}
+use Rattle.layout.specs.Layout.{most_vertices}
 use Rattle.layout.specs.Inner.Arrays.{count_in, table_in, Counts}
 use Rattle.journal.specs.Journal.{journal_size, phase_taking, phase_laid, phase, journal_ok, table_of}
 use Rattle.adjacency.specs.Adjacency.{adjacency_size}
