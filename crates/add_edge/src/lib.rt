@@ -22,12 +22,13 @@ use adjacency::edge_at;
 use answer::{AddAnswer, Cause, Refusal, refuse};
 use classes::{STARTS, block_sum, class_at, starts};
 use joining::{both_reliefs, join};
-use layout::vertex_count;
+use layout::{MAX_VERTICES, vertex_count};
 use loan::{loan_check, open_loan};
 use state::{Counted, pair_check};
 use swap_log::empty_log;
 use switching::End;
 use table::cells::{CELLS, cell};
+use table::class::MAX_CLASSES;
 
 // Cell (k, l) of the edges so far is below the table.
 fn is_short(
@@ -72,22 +73,24 @@ fn end_at(starts: &[usize; STARTS], v: usize) -> End
 // On two unlinked vertices, among n: the check 16, then the switches and the edge.
 fn add_unlinked(
     adjacency: &mut [u8],
-    counted: &mut Counted,
+    degrees: &mut [usize; MAX_VERTICES],
+    cells: &[u32; CELLS],
+    counts: &[usize; MAX_CLASSES],
     n: usize,
     v: usize,
     w: usize,
 ) -> AddAnswer
-    requires { Unlinked (table_in counted.old.cells (count_in counted.old.counts 0)) adjacency.old counted.old.degrees v w × AtMost cell_sum_most counted.old.cells × Counts counted.old.cells counted.old.counts × (n ≡ vertices (table_in counted.old.cells (count_in counted.old.counts 0))) }
-    ensures value { result ≡ add_unlinked (table_in counted.old.cells (count_in counted.old.counts 0)) adjacency.old v w }
-    ensures adjacency_after { adjacency.new ≡ (let t = table_in counted.old.cells (count_in counted.old.counts 0) in added_adjacency (add_unlinked t adjacency.old v w) t adjacency.old v w) }
+    requires { Unlinked (table_in cells.now (count_in counts.now 0)) adjacency.old degrees.old v w × AtMost cell_sum_most cells.now × Counts cells.now counts.now × (n ≡ vertices (table_in cells.now (count_in counts.now 0))) }
+    ensures value { result ≡ add_unlinked (table_in cells.now (count_in counts.now 0)) adjacency.old v w }
+    ensures adjacency_after { adjacency.new ≡ (let t = table_in cells.now (count_in counts.now 0) in added_adjacency (add_unlinked t adjacency.old v w) t adjacency.old v w) }
 {
-    let s = starts(&counted.counts);
+    let s = starts(counts);
     let x = end_at(&s, v);
     let y = end_at(&s, w);
-    if !is_short(adjacency, &counted.cells, &s, x.class, y.class) {
+    if !is_short(adjacency, cells, &s, x.class, y.class) {
         return AddAnswer::Refused(full_cell(x.class, y.class));
     }
-    let made = join(adjacency, &mut counted.degrees, &s, n, x, y);
+    let made = join(adjacency, degrees, &s, n, x, y);
     AddAnswer::Added(both_reliefs(made))
 }
 
@@ -110,7 +113,15 @@ fn add_laid(
     if edge_at(adjacency, v, w) != 0 {
         return AddAnswer::Refused(refuse(Cause::EdgePresent, 0, 0));
     }
-    add_unlinked(adjacency, counted, n, v, w)
+    add_unlinked(
+        adjacency,
+        &mut counted.degrees,
+        &counted.cells,
+        &counted.counts,
+        n,
+        v,
+        w,
+    )
 }
 
 // Behind the front: the laid matrix and its log, then the pair. A join empties the log.
