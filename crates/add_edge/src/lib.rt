@@ -24,7 +24,7 @@ use classes::{STARTS, block_sum, class_at, starts};
 use joining::{both_reliefs, join};
 use layout::{MAX_VERTICES, vertex_count};
 use loan::{loan_check, open_loan};
-use state::{Counted, pair_check};
+use state::pair_check;
 use swap_log::empty_log;
 use switching::End;
 use table::cells::{CELLS, cell};
@@ -98,30 +98,24 @@ fn add_unlinked(
 fn add_laid(
     journal: &[u8],
     adjacency: &mut [u8],
-    counted: &mut Counted,
+    cells: &[u32; CELLS],
+    counts: &[usize; MAX_CLASSES],
+    degrees: &mut [usize; MAX_VERTICES],
     v: usize,
     w: usize,
 ) -> AddAnswer
-    requires { (phase_verdict phase_laid (state_of journal.now adjacency.old) ≡ Go) × Opened (state_of journal.now adjacency.old) counted.old.cells counted.old.counts counted.old.degrees }
+    requires { (phase_verdict phase_laid (state_of journal.now adjacency.old) ≡ Go) × Opened (state_of journal.now adjacency.old) cells.now counts.now degrees.old }
     ensures value { result ≡ add_laid (state_of journal.now adjacency.old) v w }
     ensures adjacency_after { adjacency.new ≡ added_adjacency (add_laid (state_of journal.now adjacency.old) v w) (table_of journal.now) adjacency.old v w }
 {
-    let n = vertex_count(&counted.cells, &counted.counts);
+    let n = vertex_count(cells, counts);
     if let Err(r) = pair_check(n, v, w) {
         return AddAnswer::Refused(r);
     }
     if edge_at(adjacency, v, w) != 0 {
         return AddAnswer::Refused(refuse(Cause::EdgePresent, 0, 0));
     }
-    add_unlinked(
-        adjacency,
-        &mut counted.degrees,
-        &counted.cells,
-        &counted.counts,
-        n,
-        v,
-        w,
-    )
+    add_unlinked(adjacency, degrees, cells, counts, n, v, w)
 }
 
 // Behind the front: the laid matrix and its log, then the pair. A join empties the log.
@@ -137,10 +131,20 @@ fn add_checked(
     ensures adjacency_after { adjacency.new ≡ (add_after (loan_of journal.now adjacency.old log.old) v w).state.adjacency }
     ensures log_after { log.new ≡ (add_after (loan_of journal.now adjacency.old log.old) v w).log }
 {
-    let Some(mut counted) = open_loan(journal, adjacency, log) else {
+    let mut cells = [0u32; CELLS];
+    let mut counts = [0usize; MAX_CLASSES];
+    let mut degrees = [0usize; MAX_VERTICES];
+    if !open_loan(
+        journal,
+        adjacency,
+        log,
+        &mut cells,
+        &mut counts,
+        &mut degrees,
+    ) {
         return AddAnswer::Refused(refuse(Cause::InvalidState, 0, 0));
-    };
-    let answer = add_laid(journal, adjacency, &mut counted, v, w);
+    }
+    let answer = add_laid(journal, adjacency, &cells, &counts, &mut degrees, v, w);
     if let AddAnswer::Added(_) = answer {
         empty_log(log);
     }

@@ -18,40 +18,36 @@ mod fill;
 use crate::fill::fill_all;
 use answer::{Cause, CompleteAnswer, refuse};
 use join_records::JOIN_RECORD_BYTES;
+use layout::MAX_VERTICES;
 use loan::{loan_check, open_loan};
 use progress::{Totals, begin, log_after};
-use state::Counted;
+use table::cells::CELLS;
+use table::class::MAX_CLASSES;
 
 // On a valid laid state: the check 18, then the joins that are missing.
 fn complete_laid(
     journal: &[u8],
     adjacency: &mut [u8],
-    counted: &mut Counted,
+    cells: &[u32; CELLS],
+    counts: &[usize; MAX_CLASSES],
+    degrees: &mut [usize; MAX_VERTICES],
     output: &mut [u8],
 ) -> CompleteAnswer
-    requires { (phase_verdict phase_laid (state_of journal.now adjacency.old) ≡ Go) × Opened (state_of journal.now adjacency.old) counted.old.cells counted.old.counts counted.old.degrees }
+    requires { (phase_verdict phase_laid (state_of journal.now adjacency.old) ≡ Go) × Opened (state_of journal.now adjacency.old) cells.now counts.now degrees.old }
     ensures value { result ≡ (let s = state_of journal.now adjacency.old in ran_laid (completed s) s (length output.old)) }
     ensures adjacency_after { adjacency.new ≡ (let s = state_of journal.now adjacency.old in adjacency_ran (ran_laid (completed s) s (length output.old)) (completed s) adjacency.old) }
     ensures output_after { output.new ≡ (let s = state_of journal.now adjacency.old in output_ran (ran_laid (completed s) s (length output.old)) (completed s) output.old) }
 {
-    let begun = begin(&counted.cells, &counted.counts, &counted.degrees);
+    let begun = begin(cells, counts, degrees);
     if output.len() < JOIN_RECORD_BYTES * begun.missing {
         return CompleteAnswer::Refused(refuse(Cause::OutputTooShort, 0, 0));
     }
-    let starts = classes::starts(&counted.counts);
+    let starts = classes::starts(counts);
     let none = Totals {
         joins: 0,
         switches: 0,
     };
-    let done = fill_all(
-        adjacency,
-        output,
-        &mut counted.degrees,
-        &counted.cells,
-        &starts,
-        begun.n,
-        none,
-    );
+    let done = fill_all(adjacency, output, degrees, cells, &starts, begun.n, none);
     CompleteAnswer::Completed(done.joins, done.switches, JOIN_RECORD_BYTES * done.joins)
 }
 
@@ -68,10 +64,20 @@ fn complete_checked(
     ensures log_after { log.new ≡ (complete_after (loan_of journal.now adjacency.old log.old) (length output.old)).log }
     ensures output_after { output.new ≡ complete_output (loan_of journal.now adjacency.old log.old) output.old }
 {
-    let Some(mut counted) = open_loan(journal, adjacency, log) else {
+    let mut cells = [0u32; CELLS];
+    let mut counts = [0usize; MAX_CLASSES];
+    let mut degrees = [0usize; MAX_VERTICES];
+    if !open_loan(
+        journal,
+        adjacency,
+        log,
+        &mut cells,
+        &mut counts,
+        &mut degrees,
+    ) {
         return CompleteAnswer::Refused(refuse(Cause::InvalidState, 0, 0));
-    };
-    let answer = complete_laid(journal, adjacency, &mut counted, output);
+    }
+    let answer = complete_laid(journal, adjacency, &cells, &counts, &mut degrees, output);
     if let CompleteAnswer::Completed(joins, _, _) = answer {
         log_after(log, joins);
     }

@@ -20,35 +20,39 @@ mod step;
 use crate::fill::shuffle_cells;
 use answer::{Cause, ShuffleAnswer, refuse};
 use join_records::JOIN_RECORD_BYTES;
+use layout::MAX_VERTICES;
 use loan::{loan_check, open_loan};
 use progress::{begin, log_after};
-use state::Counted;
+use table::cells::CELLS;
+use table::class::MAX_CLASSES;
 
 // On a valid laid state: the check 18, then the joins that are missing.
 fn shuffle_laid(
     journal: &[u8],
     adjacency: &mut [u8],
-    counted: &mut Counted,
+    cells: &[u32; CELLS],
+    counts: &[usize; MAX_CLASSES],
+    degrees: &mut [usize; MAX_VERTICES],
     x: u32,
     output: &mut [u8],
 ) -> ShuffleAnswer
-    requires { (phase_verdict phase_laid (state_of journal.now adjacency.old) ≡ Go) × Opened (state_of journal.now adjacency.old) counted.old.cells counted.old.counts counted.old.degrees }
+    requires { (phase_verdict phase_laid (state_of journal.now adjacency.old) ≡ Go) × Opened (state_of journal.now adjacency.old) cells.now counts.now degrees.old }
     ensures value { result ≡ (let s = state_of journal.now adjacency.old in with_x (shuffled s x).x (ran_laid (shuffled s x).ran s (length output.old))) }
     ensures adjacency_after { adjacency.new ≡ (let s = state_of journal.now adjacency.old in adjacency_ran (ran_laid (shuffled s x).ran s (length output.old)) (shuffled s x).ran adjacency.old) }
     ensures output_after { output.new ≡ (let s = state_of journal.now adjacency.old in output_ran (ran_laid (shuffled s x).ran s (length output.old)) (shuffled s x).ran output.old) }
 {
-    let begun = begin(&counted.cells, &counted.counts, &counted.degrees);
+    let begun = begin(cells, counts, degrees);
     let missing = begun.missing;
     if output.len() < JOIN_RECORD_BYTES * missing {
         return ShuffleAnswer::Refused(refuse(Cause::OutputTooShort, 0, 0));
     }
-    let starts = classes::starts(&counted.counts);
-    let vertex_classes = layout::classes(&counted.cells, &counted.counts);
+    let starts = classes::starts(counts);
+    let vertex_classes = layout::classes(cells, counts);
     let done = shuffle_cells(
         adjacency,
         output,
-        &mut counted.degrees,
-        &counted.cells,
+        degrees,
+        cells,
         &starts,
         &vertex_classes,
         begun.n,
@@ -78,10 +82,20 @@ fn shuffle_checked(
     ensures log_after { log.new ≡ (shuffle_after (loan_of journal.now adjacency.old log.old) x (length output.old)).log }
     ensures output_after { output.new ≡ shuffle_output (loan_of journal.now adjacency.old log.old) x output.old }
 {
-    let Some(mut counted) = open_loan(journal, adjacency, log) else {
+    let mut cells = [0u32; CELLS];
+    let mut counts = [0usize; MAX_CLASSES];
+    let mut degrees = [0usize; MAX_VERTICES];
+    if !open_loan(
+        journal,
+        adjacency,
+        log,
+        &mut cells,
+        &mut counts,
+        &mut degrees,
+    ) {
         return ShuffleAnswer::Refused(refuse(Cause::InvalidState, 0, 0));
-    };
-    let answer = shuffle_laid(journal, adjacency, &mut counted, x, output);
+    }
+    let answer = shuffle_laid(journal, adjacency, &cells, &counts, &mut degrees, x, output);
     if let ShuffleAnswer::Completed(joins, _, _, _) = answer {
         log_after(log, joins);
     }

@@ -2,6 +2,7 @@
 #![tactic(auto)]
 
 ghost use Rattle.std.specs.Prelude.{◌≡◌, ◌^◌, ◌≤◌, ◌<◌};
+ghost use Rattle.finite.specs.Range.{IsFound};
 ghost use Rattle.layout.specs.Layout.{most_vertices};
 ghost use Rattle.edge_lists.specs.EdgeList.{listed, first_bad_edge, graph_of};
 ghost use Rattle.degree_counts.specs.Inner.Degrees.{count_edge, degree_in, first_above_in, isolated_in, HasDegrees};

@@ -14,8 +14,10 @@ ghost use Rattle.edge_list.specs.List.{list_bytes, list_answer, list_output};
 use adjacency::{SIDE, edge_total};
 use answer::{Cause, WrittenAnswer, refuse};
 use edge_lists::put_row;
-use layout::vertex_count;
-use state::{Counted, laid_check, open};
+use layout::{MAX_VERTICES, vertex_count};
+use state::{laid_check, open};
+use table::cells::CELLS;
+use table::class::MAX_CLASSES;
 
 // All edges, row by row.
 fn put_list(adjacency: &[u8], n: usize, output: &mut [u8]) -> usize
@@ -34,15 +36,17 @@ fn put_list(adjacency: &[u8], n: usize, output: &mut [u8]) -> usize
 fn list_laid(
     journal: &[u8],
     adjacency: &[u8],
-    counted: &Counted,
+    cells: &[u32; CELLS],
+    counts: &[usize; MAX_CLASSES],
+    degrees: &[usize; MAX_VERTICES],
     output: &mut [u8],
 ) -> WrittenAnswer
-    requires { (phase_verdict phase_laid (state_of journal.now adjacency.now) ≡ Go) × Opened (state_of journal.now adjacency.now) counted.now.cells counted.now.counts counted.now.degrees }
+    requires { (phase_verdict phase_laid (state_of journal.now adjacency.now) ≡ Go) × Opened (state_of journal.now adjacency.now) cells.now counts.now degrees.now }
     ensures value { result ≡ list_answer (state_of journal.now adjacency.now) (length output.old) }
     ensures output_after { output.new ≡ list_output (state_of journal.now adjacency.now) output.old }
 {
-    let n = vertex_count(&counted.cells, &counted.counts);
-    let bytes = 2 * edge_total(&counted.degrees, n);
+    let n = vertex_count(cells, counts);
+    let bytes = 2 * edge_total(degrees, n);
     if output.len() < bytes {
         return WrittenAnswer::Refused(refuse(Cause::OutputTooShort, 0, 0));
     }
@@ -55,10 +59,13 @@ fn list_checked(journal: &[u8], adjacency: &[u8], output: &mut [u8]) -> WrittenA
     ensures value { result ≡ list_answer (state_of journal.now adjacency.now) (length output.old) }
     ensures output_after { output.new ≡ list_output (state_of journal.now adjacency.now) output.old }
 {
-    let Some(counted) = open(journal, adjacency) else {
+    let mut cells = [0u32; CELLS];
+    let mut counts = [0usize; MAX_CLASSES];
+    let mut degrees = [0usize; MAX_VERTICES];
+    if !open(journal, adjacency, &mut cells, &mut counts, &mut degrees) {
         return WrittenAnswer::Refused(refuse(Cause::InvalidState, 0, 0));
-    };
-    list_laid(journal, adjacency, &counted, output)
+    }
+    list_laid(journal, adjacency, &cells, &counts, &degrees, output)
 }
 
 pub fn edge_list(journal: &[u8], adjacency: &[u8], output: &mut [u8]) -> WrittenAnswer

@@ -14,10 +14,12 @@ ghost use Rattle.remove_edge.specs.Inner.Work.{removed_adjacency};
 
 use adjacency::{edge_at, set_edge};
 use answer::{Cause, RemoveAnswer, refuse};
-use layout::vertex_count;
+use layout::{MAX_VERTICES, vertex_count};
 use loan::{loan_check, open_loan};
 use state::pair_check;
 use swap_log::empty_log;
+use table::cells::CELLS;
+use table::class::MAX_CLASSES;
 
 // On a valid laid state of n vertices: the checks 13, 14 and 17, then the edge.
 fn remove_laid(journal: &[u8], adjacency: &mut [u8], n: usize, v: usize, w: usize) -> RemoveAnswer
@@ -48,10 +50,20 @@ fn remove_checked(
     ensures adjacency_after { adjacency.new ≡ (remove_after (loan_of journal.now adjacency.old log.old) v w).state.adjacency }
     ensures log_after { log.new ≡ (remove_after (loan_of journal.now adjacency.old log.old) v w).log }
 {
-    let Some(counted) = open_loan(journal, adjacency, log) else {
+    let mut cells = [0u32; CELLS];
+    let mut counts = [0usize; MAX_CLASSES];
+    let mut degrees = [0usize; MAX_VERTICES];
+    if !open_loan(
+        journal,
+        adjacency,
+        log,
+        &mut cells,
+        &mut counts,
+        &mut degrees,
+    ) {
         return RemoveAnswer::Refused(refuse(Cause::InvalidState, 0, 0));
-    };
-    let n = vertex_count(&counted.cells, &counted.counts);
+    }
+    let n = vertex_count(&cells, &counts);
     let answer = remove_laid(journal, adjacency, n, v, w);
     if let RemoveAnswer::Removed = answer {
         empty_log(log);

@@ -59,13 +59,16 @@ module _ (s : State) where
       (l.0, and_left (journal_ok s.journal) (cond empty (all_zero s.adjacency) true) v.0)
 
   -- what the front has seen is what a laid matrix is looked at with
-  pub openable : front_verdict s ≡ Go → Openable s
+  pub openable : front_verdict s ≡ Go → Openable s (replicate cells_size 0) (replicate most_classes 0) (replicate most_vertices 0)
   openable e =
       let f = front-passed e in
       record {
         journal_length = lengths_journal s f.0;
         adjacency_length = lengths_adjacency s f.0;
         journal-ok = f.1;
+        no_cells = refl;
+        no_counts = refl;
+        no_degrees = refl;
       }
 
   -- a journal that passes is taking or laid
@@ -93,7 +96,7 @@ module _ (s : State) where
       let f = unless_stopped_go (front_verdict s) _ e in
       (f.0, eqb-true (phase s.journal) phase_laid (unless_go (eqb (phase s.journal) phase_laid) _ _ f.1).0)
 
-  pub laid-openable : laid_front s ≡ Go → Openable s
+  pub laid-openable : laid_front s ≡ Go → Openable s (replicate cells_size 0) (replicate most_classes 0) (replicate most_vertices 0)
   laid-openable e = openable (laid_front-passed e).0
 
   pub laid_front-stop : (r : Refusal) → laid_front s ≡ Stop r → phase_verdict phase_laid s ≡ Stop r

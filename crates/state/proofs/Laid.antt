@@ -1,6 +1,6 @@
 -- The verdict on a table, and the check of a laid state.
 -- Assumes nothing.
-use mathlib.Core.Path.{◌≡◌, refl, sym, subst, ap, ◌∙◌}
+use mathlib.Core.Path.{◌≡◌, refl, sym, subst, ◌∙◌}
 use mathlib.Core.Bool.{Bool, true, false}
 use mathlib.Core.List.{List}
 use Prim.Native.Nat.{ℕ}
@@ -13,10 +13,7 @@ use Rattle.answer.specs.declared.Refusal.{Refusal}
 use Rattle.answer.specs.Refusals.{Verdict, Go, Stop}
 use Rattle.layout.specs.Layout.{most_vertices, layout_verdict}
 use Rattle.layout.proofs.Verdict.{layout_go, go_layout}
-use Rattle.layout.specs.Inner.Arrays.{classes_of, class_in}
-use Rattle.journal.specs.Journal.{jdm_of, table_of}
 use Rattle.adjacency.specs.Adjacency.{adjacency_ok}
-use Rattle.adjacency.proofs.Classes.{adjacency_ok-table}
 use Rattle.state.specs.Valid.{laid_ok}
 
 abbrev IsGo : Verdict → Type 0
@@ -35,12 +32,3 @@ module _ (t : DegreeTable) (g : List ℕ) where
       go true a true b = absurd (subst IsGo (sym (go_layout t a (leb-true (vertices t) most_vertices b)) ∙ e) tt)
       go true a false b = rw (a, b)
       go false a q b = rw a
-
--- the check of the matrix goes by the counted cells, the counted number of vertices and the classes in an array: that is the check of the table itself
-module _ (j g : List ℕ) {u : DegreeTable} (said : u ≡ table_of j) (e : layout_verdict (table_of j) ≡ Go) {n : ℕ} {classes : List ℕ}
-    (en : n ≡ vertices u) (ec : classes ≡ classes_of u) where
-  pub laid-counted : adjacency_ok n (class_in classes) u.cells g ≡ laid_ok (table_of j) g
-  laid-counted =
-      ap (λ (u : DegreeTable). adjacency_ok n (class_in classes) u.cells g) said
-      ∙ adjacency_ok-table (table_of j) (layout_go (table_of j) e).1 (en ∙ ap vertices said) (ec ∙ ap classes_of said) (jdm_of j) g
-      ∙ sym (laid-go (table_of j) g e)

@@ -1,8 +1,8 @@
 // The state: journal and adjacency together, and the checks of both, with which every entry that reads a state begins. A laid state is checked
-// once: what its check has counted goes to the entry, which goes on with it.
+// once: the arrays that its check counts in are lent by the entry, which goes on with them.
 #![tactic(auto)]
 
-ghost use Rattle.std.specs.Prelude.{◌≡◌, true, length, replicate, is_some, IfSome};
+ghost use Rattle.std.specs.Prelude.{◌≡◌, true, length, replicate};
 ghost use Rattle.graph.specs.Tests.{most_classes};
 ghost use Rattle.table.specs.Inner.Cells.{cells_size, AtMost, cell_sum_most};
 ghost use Rattle.layout.specs.Inner.Arrays.{count_in, table_in, Counts};
@@ -37,37 +37,37 @@ pub fn sum_table(journal: &[u8], cells: &mut [u32; CELLS], counts: &mut [usize; 
     count_classes(cells, isolated, counts);
 }
 
-// What the check of a laid matrix has counted: the cells of the table, how many vertices each class has, and the degrees of the vertices so far.
-#[derive(Drop)]
-pub struct Counted {
-    pub cells: [u32; CELLS],
-    pub counts: [usize; MAX_CLASSES],
-    pub degrees: [usize; MAX_VERTICES],
+// The check 2 of a laid matrix: the table passes its tests, and the matrix is one of its partial graphs. Where it passes, the arrays, which are zeros
+// before it, are what it has counted.
+pub fn open(
+    journal: &[u8],
+    adjacency: &[u8],
+    cells: &mut [u32; CELLS],
+    counts: &mut [usize; MAX_CLASSES],
+    degrees: &mut [usize; MAX_VERTICES],
+) -> bool
+    requires { Openable (state_of journal.now adjacency.now) cells.old counts.old degrees.old }
+    ensures value { result ≡ laid_ok (table_of journal.now) adjacency.now }
+    ensures opened { result ≡ true → Opened (state_of journal.now adjacency.now) cells.new counts.new degrees.new }
+{
+    sum_table(journal, cells, counts);
+    if layout_check(cells, counts).is_err() {
+        return false;
+    }
+    let n = vertex_count(cells, counts);
+    let c = classes(cells, counts);
+    adjacency_ok(adjacency, n, &c, cells, degrees)
 }
 
-// The check 2 of a laid matrix: the table passes its tests, and the matrix is one of its partial graphs. Where it passes, what it has counted.
-pub fn open(journal: &[u8], adjacency: &[u8]) -> Option<Counted>
-    requires { Openable (state_of journal.now adjacency.now) }
-    ensures value { is_some result ≡ laid_ok (table_of journal.now) adjacency.now }
-    ensures opened { IfSome result (λ x. Opened (state_of journal.now adjacency.now) x.cells x.counts x.degrees) }
+// The same for a call that goes on with nothing.
+fn is_laid_ok(journal: &[u8], adjacency: &[u8]) -> bool
+    requires { (length journal.now ≡ journal_size) × (length adjacency.now ≡ adjacency_size) × (journal_ok journal.now ≡ true) }
+    ensures { result ≡ laid_ok (table_of journal.now) adjacency.now }
 {
     let mut cells = [0u32; CELLS];
     let mut counts = [0usize; MAX_CLASSES];
     let mut degrees = [0usize; MAX_VERTICES];
-    sum_table(journal, &mut cells, &mut counts);
-    if layout_check(&cells, &counts).is_err() {
-        return None;
-    }
-    let n = vertex_count(&cells, &counts);
-    let c = classes(&cells, &counts);
-    if !adjacency_ok(adjacency, n, &c, &cells, &mut degrees) {
-        return None;
-    }
-    Some(Counted {
-        cells,
-        counts,
-        degrees,
-    })
+    open(journal, adjacency, &mut cells, &mut counts, &mut degrees)
 }
 
 // The check 1 and, of 2, all but a laid matrix.
@@ -111,7 +111,7 @@ fn is_valid(journal: &[u8], adjacency: &[u8]) -> bool
     if is_in(journal, Phase::Taking) {
         return slices::all_zero(adjacency);
     }
-    open(journal, adjacency).is_some()
+    is_laid_ok(journal, adjacency)
 }
 
 // The checks 1 and 2.

@@ -18,6 +18,8 @@ use layout::{MAX_VERTICES, classes, vertex_count};
 use loan::{loan_check, open_loan};
 use swap_log::{MAX_SWAPS, swap_count, write_swap};
 use swapping::{Swap, are_vertices, is_allowed, swap_bytes};
+use table::cells::CELLS;
+use table::class::MAX_CLASSES;
 
 // On a valid laid loan: the checks 13, 23 and 24, then the swap and its record.
 fn swap_laid(
@@ -55,11 +57,21 @@ fn swap_checked(journal: &[u8], adjacency: &mut [u8], log: &mut [u8], x: Swap) -
     ensures adjacency_after { adjacency.new ≡ (swap_after (loan_of journal.now adjacency.old log.old) x).state.adjacency }
     ensures log_after { log.new ≡ (swap_after (loan_of journal.now adjacency.old log.old) x).log }
 {
-    let Some(counted) = open_loan(journal, adjacency, log) else {
+    let mut cells = [0u32; CELLS];
+    let mut counts = [0usize; MAX_CLASSES];
+    let mut degrees = [0usize; MAX_VERTICES];
+    if !open_loan(
+        journal,
+        adjacency,
+        log,
+        &mut cells,
+        &mut counts,
+        &mut degrees,
+    ) {
         return SwapAnswer::Refused(refuse(Cause::InvalidState, 0, 0));
-    };
-    let n = vertex_count(&counted.cells, &counted.counts);
-    let c = classes(&counted.cells, &counted.counts);
+    }
+    let n = vertex_count(&cells, &counts);
+    let c = classes(&cells, &counts);
     swap_laid(journal, adjacency, log, &c, n, x)
 }
 

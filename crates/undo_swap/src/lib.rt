@@ -9,9 +9,12 @@ ghost use Rattle.loan.specs.Inner.Opened.{loan_front};
 ghost use Rattle.undo_swap.specs.Undo.{undo_answer, undo_after};
 
 use answer::{Cause, UndoAnswer, refuse};
+use layout::MAX_VERTICES;
 use loan::{loan_check, open_loan};
 use swap_log::{swap_at, swap_count, undoing, write_swap};
 use swapping::{Swap, swap_bytes};
+use table::cells::CELLS;
+use table::class::MAX_CLASSES;
 
 // On a valid laid loan: the check 25, then the last swap taken back, and its record with it.
 fn undo_laid(journal: &[u8], adjacency: &mut [u8], log: &mut [u8]) -> UndoAnswer
@@ -43,7 +46,17 @@ fn undo_checked(journal: &[u8], adjacency: &mut [u8], log: &mut [u8]) -> UndoAns
     ensures adjacency_after { adjacency.new ≡ (undo_after (loan_of journal.now adjacency.old log.old)).state.adjacency }
     ensures log_after { log.new ≡ (undo_after (loan_of journal.now adjacency.old log.old)).log }
 {
-    if open_loan(journal, adjacency, log).is_none() {
+    let mut cells = [0u32; CELLS];
+    let mut counts = [0usize; MAX_CLASSES];
+    let mut degrees = [0usize; MAX_VERTICES];
+    if !open_loan(
+        journal,
+        adjacency,
+        log,
+        &mut cells,
+        &mut counts,
+        &mut degrees,
+    ) {
         return UndoAnswer::Refused(refuse(Cause::InvalidState, 0, 0));
     }
     undo_laid(journal, adjacency, log)

@@ -20,7 +20,7 @@ add_unlinked-requires c =
     let laid = f.0.laid f.1 in
     let n = opened_vertices st c.requires.1 laid c.vertex_count-n.ensures in
     let d = pair-passed c.vertex_count-n.result a.v a.w (sym c.pair_check.ensures ∙ c.in_default.is) in (
-      subst (λ (t : DegreeTable). Unlinked t a.adjacency.now a.counted.now.degrees a.v a.w) (sym c.requires.1.said)
+      subst (λ (t : DegreeTable). Unlinked t a.adjacency.now a.degrees.now a.v a.w) (sym c.requires.1.said)
           (record {
             sized = f.0.adjacency_length;
             few = laid.vertices-le;

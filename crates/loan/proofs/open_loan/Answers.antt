@@ -9,8 +9,9 @@ use Rattle.loan.proofs.open_loan.Goals as goal
 
 pub log_ok-requires : goal.log_ok-requires
 log_ok-requires c =
-    let o = c.in_ok-counted.ensures.opened in
-    let l = laid-facts (state_of c.args.journal.now c.args.adjacency.now) c.requires.0.journal-ok (sym c.in_ok-counted.ensures.value) in
+    let e = c.if-not-open.false in
+    let o = c.«open».ensures.opened e in
+    let l = laid-facts (state_of c.args.journal.now c.args.adjacency.now) c.requires.0.journal-ok (sym c.«open».ensures.value ∙ e) in
     let same = c.vertex_count-n.ensures ∙ ap vertices o.said in (
       rw same (record { sized = c.requires.0.adjacency_length; few = l.vertices-le; simple = l.partial.simple; outside = l.outside }),
       c.requires.1,

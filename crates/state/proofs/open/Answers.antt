@@ -1,5 +1,5 @@
 -- `state::open` meets its contract.
-use mathlib.Core.Path.{refl, sym, ◌∙◌, ap}
+use mathlib.Core.Path.{sym, ◌∙◌, ap}
 use Prim.Native.Nat.{ℕ}
 use Rattle.graph.specs.Graph.{DegreeTable}
 use Rattle.graph.specs.Tests.{vertices}
@@ -11,7 +11,7 @@ use Rattle.journal.specs.Journal.{jdm_of, table_of}
 use Rattle.adjacency.specs.Adjacency.{adjacency_ok}
 use Rattle.adjacency.specs.Inner.Degrees.{degrees_of}
 use Rattle.adjacency.proofs.Classes.{adjacency_ok-table, class_below, class_rises}
-use Rattle.state.proofs.Laid.{laid-counted}
+use Rattle.state.proofs.Laid.{laid-go}
 use Rattle.state.proofs.open.Goals as goal
 
 pub adjacency_ok-requires : goal.adjacency_ok-requires
@@ -25,30 +25,26 @@ adjacency_ok-requires c =
       rw en go.1,
       class_below (table_of j) go.1 en ec,
       class_rises (table_of j) go.1 en ec,
-      refl,
+      c.requires.no_degrees,
     )
-
-pub returns-then-not-adjacency_ok : goal.returns-then-not-adjacency_ok
-returns-then-not-adjacency_ok c =
-    let j = c.args.journal.now in
-    let said = c.sum_table.ensures.0 in
-    let e = ap layout_verdict (sym said) ∙ sym c.layout_check.ensures ∙ not_err-go _ (sym c.is_err.ensures.value ∙ c.if-is_err.false) in
-    let right = laid-counted j c.args.adjacency.now said e c.vertex_count-n.ensures c.classes-c.ensures in
-    record { value = sym c.if-not-adjacency_ok.true ∙ c.adjacency_ok.ensures.value ∙ right; opened = tt }
 
 pub returns : goal.returns
 returns c =
-    let j = c.args.journal.now in
-    let g = c.args.adjacency.now in
+    let a = c.args in
+    let j = a.journal.now in
+    let g = a.adjacency.now in
     let said = c.sum_table.ensures in
     let e = ap layout_verdict (sym said.0) ∙ sym c.layout_check.ensures ∙ not_err-go _ (sym c.is_err.ensures.value ∙ c.if-is_err.false) in
-    let right = laid-counted j g said.0 e c.vertex_count-n.ensures c.classes-c.ensures in
+    let en = c.vertex_count-n.ensures ∙ ap vertices said.0 in
     record {
-      value = sym c.if-not-adjacency_ok.false ∙ c.adjacency_ok.ensures.value ∙ right;
-      opened = record {
+      value = c.adjacency_ok.ensures.value
+          ∙ ap (λ (u : DegreeTable). adjacency_ok c.vertex_count-n.result (class_in c.classes-c.result) u.cells g) said.0
+          ∙ adjacency_ok-table (table_of j) (layout_go (table_of j) e).1 en (c.classes-c.ensures ∙ ap classes_of said.0) (jdm_of j) g
+          ∙ sym (laid-go (table_of j) g e);
+      opened = λ h. record {
         said = said.0;
         most = said.1;
         counted = said.2;
-        degrees_right = c.adjacency_ok.ensures.degrees_after c.if-not-adjacency_ok.false ∙ ap (λ (n : ℕ). degrees_of n g) (c.vertex_count-n.ensures ∙ ap vertices said.0);
+        degrees_right = c.adjacency_ok.ensures.degrees_after h ∙ ap (λ (n : ℕ). degrees_of n g) en;
       };
     }

@@ -25,11 +25,14 @@ front_verdict s =
 abbrev pub laid_front : State → Verdict
 laid_front s = unless_stopped (front_verdict s) Stop (unless (eqb (phase s.journal) phase_laid) (stopped WrongPhase) Go)
 
--- What a laid matrix is looked at with: both lengths, and a journal that is as it should be.
-pub record Openable (s : State) : Type 0 where
+-- What a laid matrix is looked at with: a journal that is as it should be, and arrays of zeros to count in.
+pub record Openable (s : State) (cells counts degrees : List ℕ) : Type 0 where
   pub journal_length : length s.journal ≡ journal_size
   pub adjacency_length : length s.adjacency ≡ adjacency_size
   pub journal-ok : journal_ok s.journal ≡ true
+  pub no_cells : cells ≡ replicate cells_size 0
+  pub no_counts : counts ≡ replicate most_classes 0
+  pub no_degrees : degrees ≡ replicate most_vertices 0
 
 -- The cells of the journal's table, how many vertices each class has, and the degrees that the vertices have so far.
 pub record Opened (s : State) (cells counts degrees : List ℕ) : Type 0 where
