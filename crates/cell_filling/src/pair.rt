@@ -6,7 +6,6 @@ ghost use Rattle.cell_filling.specs.Inner.Cursor.{free_column};
 ghost use Rattle.cell_filling.specs.Inner.Search.{first_column, lowest_column, has_column, Searchable};
 
 use adjacency::SIDE;
-use finite::lowest_passing;
 use progress::Pair;
 
 // The vertices from, .., to - 1.
@@ -37,7 +36,12 @@ fn free_column(adjacency: &[u8], v: usize, from: usize, to: usize) -> usize
     requires { (length adjacency.now ≡ adjacency_size) × (v < side) × (to ≤ side) }
     ensures { result ≡ lowest from to (free_column adjacency.now v) }
 {
-    lowest_passing(from, to, |w| is_free(adjacency, v, w))
+    for w in from..to {
+        if is_free(adjacency, v, w) {
+            return w;
+        }
+    }
+    from.max(to)
 }
 
 // Where the columns of row v begin: on the diagonal above v.

@@ -13,7 +13,6 @@ ghost use Rattle.progress.specs.Inner.Work.{OpenArrays, Started, WroteRecords, R
 
 use adjacency::edge_total;
 use answer::switches::{Switches, switch_count};
-use finite::lowest_passing;
 use join_records::{JOIN_RECORD_BYTES, put_record};
 use layout::{MAX_VERTICES, edges_wanted, vertex_count};
 use swap_log::empty_log;
@@ -60,7 +59,12 @@ pub fn advance(degrees: &[usize; MAX_VERTICES], from: usize, to: usize, k: usize
     requires { to ≤ side }
     ensures { result ≡ lowest from to (λ i. ltb (get_or degrees.now i 0) k) }
 {
-    lowest_passing(from, to, |i| degrees[i] < k)
+    for i in from..to {
+        if degrees[i] < k {
+            return i;
+        }
+    }
+    from.max(to)
 }
 
 // The record of a join written behind those of the joins before it, and one join more.

@@ -11,7 +11,7 @@ use lib.ListN.{get_or}
 use borrow.Author.Tests.{eq-eqb, ne_eqb, lt-ltb, le-ltb}
 use Rattle.finite.specs.Range.{lowest}
 use Rattle.finite.proofs.All.{and-false}
-use Rattle.finite.proofs.Lowest.{lowest-skip, lowest-cong, lowest-ge, lowest-holds, lowest-before, lowest-only, lowest-none}
+use Rattle.finite.proofs.Lowest.{lowest-skip, lowest-cong, lowest-ge, lowest-holds, lowest-before, lowest-only, lowest-none, lowest-here, lowest-end}
 use Rattle.graph.specs.Switch.{unsaturated, can_substitute, or_else}
 use Rattle.graph.specs.Tests.{most_classes, class_degree}
 use Rattle.adjacency.specs.Adjacency.{edge}
@@ -23,6 +23,15 @@ use Rattle.join_bytes.specs.Inner.Joinable.{Joinable}
 use Rattle.switching.specs.Inner.Work.{Placed, can_stand_in, substitute_in}
 use Rattle.switching.specs.declared.End.{End}
 use Rattle.classes.proofs.Blocks.{start_most, class_inside, class_only}
+
+-- how a search ends that has passed over the numbers before b
+pub else_found : (from to b other : ℕ) (p : ℕ → Bool) → lowest from to p ≡ lowest b to p → b < to → p b ≡ true
+    → b ≡ or_else to other (lowest from to p)
+else_found from to b other p e l t = rw (e ∙ lowest-here b to p l t, lt-ltb b to l)
+
+pub else_none : (from to b other : ℕ) (p : ℕ → Bool) → lowest from to p ≡ lowest b to p → to ≤ b
+    → other ≡ or_else to other (lowest from to p)
+else_none from to b other p e l = rw (e ∙ lowest-end b to p l, le-ltb b to l)
 
 -- a search may stop where no number passes any more
 else_cut : (a c b other : ℕ) (p : ℕ → Bool) → a ≤ c → c ≤ b → ((i : ℕ) → c ≤ i → i < b → p i ≡ false)

@@ -16,7 +16,6 @@ ghost use Rattle.graph.specs.Tests.{most_classes, class_degree};
 use adjacency::{SIDE, set_edge};
 use answer::switches::Switch;
 use classes::STARTS;
-use finite::lowest_passing;
 use layout::MAX_VERTICES;
 use table::class::class_degree;
 
@@ -59,7 +58,8 @@ fn can_stand_in(degrees: &[usize; MAX_VERTICES], class: usize, other: usize, b: 
     (degrees[b] < class_degree(class)) & (b != other)
 }
 
-// Document 01's b: the lowest vertex that can stand in for a; else the other named one.
+// Document 01's b: the lowest vertex that can stand in for a; else the other named one. A loop of its own, as the next: by `lowest_passing`
+// completing took more instructions than its bar.
 fn choose_substitute(
     degrees: &[usize; MAX_VERTICES],
     starts: &[usize; STARTS],
@@ -71,8 +71,12 @@ fn choose_substitute(
 {
     let class = a.class;
     let to = starts[class + 1];
-    let b = lowest_passing(a.low, to, |b| can_stand_in(degrees, class, other, b));
-    if b < to { b } else { other }
+    for b in a.low..to {
+        if can_stand_in(degrees, class, other, b) {
+            return b;
+        }
+    }
+    other
 }
 
 fn can_transfer(adjacency: &[u8], a: usize, b: usize, t: usize) -> bool
@@ -82,7 +86,8 @@ fn can_transfer(adjacency: &[u8], a: usize, b: usize, t: usize) -> bool
     (t != b) & (adjacency[a * SIDE + t] == 1) & (adjacency[b * SIDE + t] == 0)
 }
 
-// None of the next vertices from t on is linked to a and not to b. A flag and no early exit: one test of vectors.
+// None of the next vertices from t on is linked to a and not to b. A flag and no early exit: one test of vectors. By index: a `zip` of
+// the two parts takes more instructions.
 fn none_transfers(adjacency: &[u8], a: usize, b: usize, t: usize) -> bool
     requires { (length adjacency.now ≡ adjacency_size) × (a < side) × (b < side) × (t + lanes ≤ side) }
     ensures { result ≡ all_to lanes (λ i. leb (edge adjacency.now a (t + i)) (edge adjacency.now b (t + i))) }
@@ -90,8 +95,8 @@ fn none_transfers(adjacency: &[u8], a: usize, b: usize, t: usize) -> bool
     let x = a * SIDE + t;
     let y = b * SIDE + t;
     let mut none = true;
-    for (p, q) in adjacency[x..x + LANES].iter().zip(&adjacency[y..y + LANES]) {
-        none = none & (*p <= *q);
+    for i in 0..LANES {
+        none = none & (adjacency[x + i] <= adjacency[y + i]);
     }
     none
 }
@@ -116,8 +121,12 @@ fn choose_transfer(adjacency: &[u8], n: usize, a: usize, b: usize) -> usize
     requires { (length adjacency.now ≡ adjacency_size) × (n ≤ side) × (a < side) × (b < side) }
     ensures { result ≡ transfer n (edge adjacency.now) a b }
 {
-    let from = skip_transfers(adjacency, n, a, b);
-    lowest_passing(from, n, |t| can_transfer(adjacency, a, b, t))
+    for t in skip_transfers(adjacency, n, a, b)..n {
+        if can_transfer(adjacency, a, b, t) {
+            return t;
+        }
+    }
+    n
 }
 
 // The edge v – w removed.

@@ -1,16 +1,21 @@
 -- `switching::choose_transfer` meets its contract: what is left to search has the answer of the whole.
 use mathlib.Core.Path.{◌≡◌, sym, ◌∙◌}
 use native.Mathlib.Omega.{arith}
-use Rattle.std.proofs.Common.{rules}
-use Rattle.finite.specs.Range.{lowest}
-use Rattle.finite.proofs.Lowest.{lowest-skip}
-use Rattle.graph.specs.Switch.{can_transfer}
-use Rattle.adjacency.specs.Adjacency.{edge}
+use Rattle.finite.proofs.Lowest.{lowest-end, lowest-here, lowest-next, lowest-skip}
 use Rattle.switching.proofs.choose_transfer.Goals as goal
+
+pub loop-t-init : goal.loop-t-init
+loop-t-init c =
+    let s = c.skip_transfers-t.ensures in
+    lowest-skip _ _ _ _ (omega arith) s.0 (λ i _ l. s.1 i l)
+
+pub returns-then-can_transfer : goal.returns-then-can_transfer
+returns-then-can_transfer c = sym (c.loop-t.invariant ∙ lowest-here _ _ _ (omega arith) (sym c.can_transfer.ensures ∙ c.if-can_transfer.true))
+
+pub loop-t-preserved : goal.loop-t-preserved
+loop-t-preserved c = c.loop-t.invariant ∙ lowest-next _ _ _ (omega arith) (sym c.can_transfer.ensures ∙ c.if-can_transfer.false)
 
 pub returns : goal.returns
 returns c =
-    let x = c.args in
-    let s = c.skip_transfers-from.ensures in
-    let e : c.lowest_passing.result ≡ lowest c.skip_transfers-from.result x.n (can_transfer (edge x.adjacency.now) x.a x.b) = search rules in
-    e ∙ sym (lowest-skip _ _ _ _ (omega arith) s.0 (λ i _ l. s.1 i l))
+    let e : c.loop-t.t ≡ c.args.n = omega arith in
+    sym (c.loop-t.invariant ∙ lowest-end _ _ _ c.loop-t-test.false ∙ e)
