@@ -1,6 +1,6 @@
 -- `layout::classes` meets its contract: after v turns the classes of the first v vertices are filled in,
 use mathlib.Core.Path.{◌≡◌}
-use Prim.Native.Nat.{◌-◌, ◌≤◌}
+use Prim.Native.Nat.{◌≤◌}
 use lib.ListN.{replicate}
 use Rattle.finite.specs.Inner.Fill.{fill_to}
 use Rattle.graph.specs.Numbering.{class_of}
@@ -12,6 +12,3 @@ use Rattle.layout.proofs.classes.Given as goal
 abbrev pub invariant-loop-v : goal.invariant-loop-v
 invariant-loop-v l = (l.v ≤ l.n) × (l.t ≡ fill_to l.v (class_of most_classes (count_in l.counts)) (replicate most_vertices 0))
     × Reaches (count_in l.counts) l.run.class l.run.end l.v
-
-abbrev pub decreases-loop-v : goal.decreases-loop-v
-decreases-loop-v l = l.n - l.v

@@ -1,6 +1,6 @@
 -- `layout::edges_wanted` meets its contract: after k turns sum is that of the first k classes.
 use mathlib.Core.Path.{◌≡◌}
-use Prim.Native.Nat.{◌≤◌, ◌-◌, ◌*◌}
+use Prim.Native.Nat.{◌≤◌, ◌*◌}
 use Rattle.finite.specs.Range.{sum_to}
 use Rattle.graph.specs.Tests.{most_classes, class_degree}
 use Rattle.layout.specs.Layout.{most_vertices}
@@ -9,6 +9,3 @@ use Rattle.layout.proofs.edges_wanted.Given as goal
 
 abbrev pub invariant-loop-k : goal.invariant-loop-k
 invariant-loop-k l = (l.k ≤ most_classes) × (l.sum ≡ sum_to l.k (λ k. count_in l.counts k * class_degree k)) × (l.sum ≤ l.k * (most_vertices * most_classes))
-
-abbrev pub decreases-loop-k : goal.decreases-loop-k
-decreases-loop-k l = most_classes - l.k

@@ -1,10 +1,9 @@
 -- `table_records::put_cells` meets its contract: after the turn for k the records of the rows up to k are written.
 use mathlib.Core.Path.{refl}
 use mathlib.Core.List.{List}
-use Prim.Native.Nat.{ℕ, ◌-◌}
+use Prim.Native.Nat.{ℕ}
 use native.Mathlib.Omega.{arith}
-use lib.ListN.{length, length-append}
-use lib.Seq.{sets}
+use lib.ListN.{length-append}
 use Rattle.finite.specs.Range.{cat_to}
 use Rattle.finite.proofs.Fold.{cat_to-none, cat_to-more, sets-append}
 use Rattle.graph.specs.Tests.{most_classes}

@@ -1,6 +1,6 @@
 -- `table_records::put_cells` meets its contract: after the turn for k the records of the rows up to k are written.
 use mathlib.Core.Path.{◌≡◌}
-use Prim.Native.Nat.{◌+◌, ◌*◌, ◌-◌, ◌≤◌}
+use Prim.Native.Nat.{◌+◌, ◌*◌, ◌≤◌}
 use lib.ListN.{length}
 use lib.Seq.{sets}
 use Rattle.finite.specs.Range.{cat_to}
@@ -15,6 +15,3 @@ invariant-loop-k l = (l.k ≤ most_classes)
     × (l.a ≡ l.at + length (cat_to l.k (λ k. cat_to most_classes (cell_record (matrix_of l.cells) k))))
     × (l.a ≤ l.at + record_size * most_classes * l.k)
     × (l.out ≡ sets l.initial.out l.at (cat_to l.k (λ k. cat_to most_classes (cell_record (matrix_of l.cells) k))))
-
-abbrev pub decreases-loop-k : goal.decreases-loop-k
-decreases-loop-k l = most_classes - l.k

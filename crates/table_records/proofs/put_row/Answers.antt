@@ -1,10 +1,7 @@
 -- `table_records::put_row` meets its contract: after the turn for l the records up to cell (k, l) are written.
 use mathlib.Core.Path.{◌≡◌, refl}
-use Prim.Native.Nat.{◌-◌}
-use lib.ListN.{length, length-append}
-use lib.Seq.{sets}
+use lib.ListN.{length-append}
 use borrow.Author.Tests.{le-leb}
-use Rattle.finite.specs.Range.{cat_to}
 use Rattle.finite.proofs.Fold.{cat_to-more, sets-append}
 use Rattle.table.specs.Inner.Cells.{matrix_of}
 use Rattle.table_records.specs.Records.{count_record, cell_record}

@@ -1,6 +1,6 @@
 -- `table_records::put_row` meets its contract: after the turn for l the records up to cell (k, l) are written.
 use mathlib.Core.Path.{◌≡◌}
-use Prim.Native.Nat.{◌+◌, ◌*◌, ◌-◌, ◌≤◌}
+use Prim.Native.Nat.{◌+◌, ◌*◌, ◌≤◌}
 use lib.ListN.{length}
 use lib.Seq.{sets}
 use Rattle.finite.specs.Range.{cat_to}
@@ -15,6 +15,3 @@ invariant-loop-l l = (l.k ≤ l.l) × (l.l ≤ most_classes)
     × (l.a ≡ l.at + length (cat_to l.l (cell_record (matrix_of l.cells) l.k)))
     × (l.a ≤ l.at + record_size * l.l)
     × (l.out ≡ sets l.initial.out l.at (cat_to l.l (cell_record (matrix_of l.cells) l.k)))
-
-abbrev pub decreases-loop-l : goal.decreases-loop-l
-decreases-loop-l l = most_classes - l.l
