@@ -47,6 +47,8 @@ pub struct Refusal {
     pub second: usize,
 }
 
+// The answers, one enum for each entry. None is a Result: document 01's form of an answer is an enum whose case Refused holds the refusal, and the
+// theorems name the cases.
 #[derive(Clone, Copy)]
 pub enum ClearAnswer {
     Cleared,
@@ -117,7 +119,7 @@ pub enum UndoAnswer {
 }
 
 // Which open pair completing joins next (document 01: finish): the lowest one of the lowest short cell, or the one that x picks, from this x on
-// (document 02, P7).
+// (document 02, P7). No Option<u32>: the theorems name the two ways, and none of them is nothing.
 #[derive(Clone, Copy)]
 pub enum Choice {
     Lowest,
@@ -170,7 +172,7 @@ pub fn stopped(cause: Cause) -> Result<(), Refusal>
     Err(refuse(cause, 0, 0))
 }
 
-// Document 01's number of a cause.
+// Document 01's number of a cause: a match, which reads as the document's table does, and no cast of the cases' order.
 pub fn number_of(cause: Cause) -> usize
     ensures { result ≡ number_of cause }
 {

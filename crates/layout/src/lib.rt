@@ -141,7 +141,7 @@ struct Run {
     end: usize,
 }
 
-// The class of vertex v, from that of an earlier vertex.
+// The class of vertex v, from that of an earlier vertex. A `while`: class and end go on together, as far as the ends ask.
 fn run_at(counts: &[usize; MAX_CLASSES], v: usize, run: Run) -> Run
     requires { let D = count_in counts.now in Reaches D run.class run.end v × (v < total most_classes D) × (total most_classes D ≤ most_vertices) }
     ensures { let D = count_in counts.now in Reaches D result.class result.end v × (result.class ≡ class_of most_classes D v) }
