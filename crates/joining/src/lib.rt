@@ -44,15 +44,19 @@ fn relieve(
     Some(neighbor_switch(adjacency, degrees, starts, n, a, other))
 }
 
-// The switches of both ends, in the order made.
+// The switches of both ends, in the order made. No match of a pair: it copies both, and completing takes more instructions.
 pub fn both_reliefs(made: Reliefs) -> Switches
     ensures { result ≡ both_reliefs made.v made.w }
 {
-    match (made.v, made.w) {
-        (None, None) => Switches::None,
-        (None, Some(y)) => Switches::One(y),
-        (Some(x), None) => Switches::One(x),
-        (Some(x), Some(y)) => Switches::Two(x, y),
+    match made.v {
+        None => match made.w {
+            None => Switches::None,
+            Some(y) => Switches::One(y),
+        },
+        Some(x) => match made.w {
+            None => Switches::One(x),
+            Some(y) => Switches::Two(x, y),
+        },
     }
 }
 
@@ -60,7 +64,10 @@ pub fn both_reliefs(made: Reliefs) -> Switches
 pub fn cut_off(n: usize, made: Reliefs) -> usize
     ensures { result ≡ cut_off n made.v }
 {
-    made.v.map_or(n, |s| s.t)
+    match made.v {
+        None => n,
+        Some(s) => s.t,
+    }
 }
 
 // Joins v and w: room at v, then at w, then the edge. Callers make of the reliefs what they need, so that this stays small enough to be

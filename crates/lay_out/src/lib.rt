@@ -31,7 +31,8 @@ fn lay_out_table(journal: &[u8]) -> LayOutAnswer
 fn lay_out_check(journal: &[u8], adjacency: &[u8]) -> LayOutAnswer
     ensures { result ≡ lay_out_answer (state_of journal.now adjacency.now) }
 {
-    match phase_check(journal, adjacency, Phase::Taking) {
+    let taking = usize::from(Phase::Taking.byte());
+    match phase_check(journal, adjacency, taking) {
         Err(r) => LayOutAnswer::Refused(r),
         Ok(()) => lay_out_table(journal),
     }

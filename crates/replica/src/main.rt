@@ -59,7 +59,7 @@ fn word_count(rt: &impl Env) -> usize
     TOO_MANY_WORDS
 }
 
-// Reads the records and prints the replica. What is said where it does not.
+// Reads the arguments and the records, and prints the replica. What is said where it does not.
 fn print_replica(rt: &HostRuntime) -> Result<(), &'static str> {
     let mut first = [0u8; MAX_WORD_BYTES];
     let mut second = [0u8; MAX_WORD_BYTES];

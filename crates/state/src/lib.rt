@@ -6,7 +6,7 @@ ghost use Rattle.std.specs.Prelude.{◌≡◌, true, length, replicate};
 ghost use Rattle.graph.specs.Tests.{most_classes};
 ghost use Rattle.table.specs.Inner.Cells.{cells_size, AtMost, cell_sum_most};
 ghost use Rattle.layout.specs.Inner.Arrays.{count_in, table_in, Counts};
-ghost use Rattle.journal.specs.Journal.{journal_size, phase_byte, journal_ok, table_of};
+ghost use Rattle.journal.specs.Journal.{journal_size, journal_ok, table_of};
 ghost use Rattle.adjacency.specs.Adjacency.{adjacency_size};
 ghost use Rattle.state.specs.State.{state_of};
 ghost use Rattle.state.specs.Valid.{lengths_ok, laid_ok, valid};
@@ -127,12 +127,12 @@ pub fn state_check(journal: &[u8], adjacency: &[u8]) -> Result<(), Refusal>
     Ok(())
 }
 
-// And 3, for a call that needs this phase.
-pub fn phase_check(journal: &[u8], adjacency: &[u8], phase: Phase) -> Result<(), Refusal>
-    ensures { result ≡ phase_verdict (phase_byte phase) (state_of journal.now adjacency.now) }
+// And 3, for a call that needs this phase, by its number.
+pub fn phase_check(journal: &[u8], adjacency: &[u8], phase: usize) -> Result<(), Refusal>
+    ensures { result ≡ phase_verdict phase (state_of journal.now adjacency.now) }
 {
     state_check(journal, adjacency)?;
-    if !is_in(journal, phase) {
+    if usize::from(journal[0]) != phase {
         return stopped(Cause::WrongPhase);
     }
     Ok(())

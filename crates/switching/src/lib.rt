@@ -58,8 +58,8 @@ fn can_stand_in(degrees: &[usize; MAX_VERTICES], class: usize, other: usize, b: 
     (degrees[b] < class_degree(class)) & (b != other)
 }
 
-// Document 01's b: the lowest vertex that can stand in for a; else the other named one. A loop of its own, as the next: by `lowest_passing`
-// completing took more instructions than its bar.
+// Document 01's b: the lowest vertex that can stand in for a; else the other named one. The loops of both searches are `while`, and that of a row's part
+// goes by index: with `lowest_passing`, ranges and a `zip` completing took up to 10 percent more instructions than its bar allows.
 fn choose_substitute(
     degrees: &[usize; MAX_VERTICES],
     starts: &[usize; STARTS],
@@ -71,10 +71,12 @@ fn choose_substitute(
 {
     let class = a.class;
     let to = starts[class + 1];
-    for b in a.low..to {
+    let mut b = a.low;
+    while b < to {
         if can_stand_in(degrees, class, other, b) {
             return b;
         }
+        b += 1;
     }
     other
 }
@@ -86,8 +88,7 @@ fn can_transfer(adjacency: &[u8], a: usize, b: usize, t: usize) -> bool
     (t != b) & (adjacency[a * SIDE + t] == 1) & (adjacency[b * SIDE + t] == 0)
 }
 
-// None of the next vertices from t on is linked to a and not to b. A flag and no early exit: one test of vectors. By index: a `zip` of
-// the two parts takes more instructions.
+// None of the next vertices from t on is linked to a and not to b. A flag and no early exit: one test of vectors.
 fn none_transfers(adjacency: &[u8], a: usize, b: usize, t: usize) -> bool
     requires { (length adjacency.now ≡ adjacency_size) × (a < side) × (b < side) × (t + lanes ≤ side) }
     ensures { result ≡ all_to lanes (λ i. leb (edge adjacency.now a (t + i)) (edge adjacency.now b (t + i))) }
@@ -106,14 +107,14 @@ fn skip_transfers(adjacency: &[u8], n: usize, a: usize, b: usize) -> usize
     requires { (length adjacency.now ≡ adjacency_size) × (n ≤ side) × (a < side) × (b < side) }
     ensures { (result ≤ n) × ((i : ℕ) → i < result → can_transfer (edge adjacency.now) a b i ≡ false) }
 {
-    let blocks = n / LANES;
-    for block in 0..blocks {
-        let t = LANES * block;
+    let mut t = 0;
+    while t + LANES <= n {
         if !none_transfers(adjacency, a, b, t) {
             return t;
         }
+        t += LANES;
     }
-    LANES * blocks
+    t
 }
 
 // Document 01's t: the lowest vertex, not b, linked to a and not to b.
@@ -121,12 +122,14 @@ fn choose_transfer(adjacency: &[u8], n: usize, a: usize, b: usize) -> usize
     requires { (length adjacency.now ≡ adjacency_size) × (n ≤ side) × (a < side) × (b < side) }
     ensures { result ≡ transfer n (edge adjacency.now) a b }
 {
-    for t in skip_transfers(adjacency, n, a, b)..n {
+    let mut t = skip_transfers(adjacency, n, a, b);
+    while t < n {
         if can_transfer(adjacency, a, b, t) {
             return t;
         }
+        t += 1;
     }
-    n
+    t
 }
 
 // The edge v – w removed.
