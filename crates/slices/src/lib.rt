@@ -59,12 +59,14 @@ pub fn put(out: &mut [u8], at: usize, b: u8)
     }
 }
 
-// The bytes of src in dst, from place at on.
+// The bytes of src in dst, from place at on. Byte by byte: with `copy_from_slice` an archive for C needs `memmove` from outside.
 pub fn copy_in(dst: &mut [u8], at: usize, src: &[u8])
     requires { at + length src.now ≤ length dst.old }
     ensures { dst.new ≡ sets dst.old at src.now }
 {
-    dst[at..at + src.len()].copy_from_slice(src);
+    for (i, &x) in src.iter().enumerate() {
+        dst[at + i] = x;
+    }
 }
 
 // Every byte becomes 0.

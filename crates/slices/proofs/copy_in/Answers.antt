@@ -1,14 +1,21 @@
--- `slices::copy_in` meets its contract: what is written to a part is what the bytes one by one are.
-use mathlib.Core.Path.{◌∙◌, refl, sym}
-use Prim.Native.Nat.{◌+◌, ◌-◌}
-use lib.ListN.{length}
-use lib.Seq.{sets-eq, take-length}
+-- `slices::copy_in` meets its contract: after i turns the first i bytes are pasted.
+use mathlib.Core.Path.{◌≡◌, sym}
+use lib.ListN.{length, length-set}
+use lib.Seq.{paste-suc, sets-eq, take-length}
+use native.Mathlib.Numerals.{add-one}
 use native.Mathlib.Omega.{arith}
-use Rattle.std.proofs.lemmas.Slice.{put_mid-paste}
 use Rattle.slices.proofs.copy_in.Goals as goal
+
+pub loop-i-preserved : goal.loop-i-preserved
+loop-i-preserved c =
+    let a = c.args in (
+      omega arith,
+      rw length-set c.loop-i.invariant.1,
+      rw (c.loop-i.invariant.2, add-one) (paste-suc a.dst.now a.at a.src.now c.loop-i.i 0 (omega arith) (omega arith)),
+    )
 
 pub returns : goal.returns
 returns c =
     let a = c.args in
-    let e = put_mid-paste a.at (a.at + length a.src.now - a.at) a.dst.now _ a.src.now (length a.src.now) c.copy_from_slice.ensures.after (omega arith) refl in
-    e ∙ rw take-length (sym (sets-eq a.src.now a.dst.now a.at c.requires))
+    let e : c.loop-i.i ≡ length a.src.now = omega arith in
+    rw (c.loop-i.invariant.2, e, take-length) (sym (sets-eq a.src.now a.dst.now a.at c.requires))
