@@ -36,6 +36,14 @@ pub const SLOT_BYTES: usize = 1 + MAX_BLOCK_BYTES;
 
 pub const JOURNAL_BYTES: usize = 2 + SLOT_BYTES * MAX_BLOCKS;
 
+// The phase as a number; of a journal that is not valid, any byte.
+pub fn phase_of(journal: &[u8]) -> usize
+    requires { length journal.now ≡ journal_size }
+    ensures { (result ≡ phase journal.now) × (result < 256) }
+{
+    usize::from(journal[0])
+}
+
 // The journal is in this phase.
 pub fn is_in(journal: &[u8], expected: Phase) -> bool
     requires { length journal.now ≡ journal_size }

@@ -15,7 +15,7 @@ ghost use Rattle.state.specs.Inner.Opened.{front_verdict, laid_front, Openable, 
 
 use adjacency::ADJACENCY_BYTES;
 use answer::{Cause, Refusal, stopped};
-use journal::{JOURNAL_BYTES, Phase, is_in, journal_ok, sum_blocks};
+use journal::{JOURNAL_BYTES, Phase, is_in, journal_ok, phase_of, sum_blocks};
 use layout::{MAX_VERTICES, classes, count_classes, layout_check, vertex_count};
 use matrix_check::adjacency_ok;
 use table::cells::CELLS;
@@ -132,7 +132,7 @@ pub fn phase_check(journal: &[u8], adjacency: &[u8], phase: usize) -> Result<(),
     ensures { result ≡ phase_verdict phase (state_of journal.now adjacency.now) }
 {
     state_check(journal, adjacency)?;
-    if usize::from(journal[0]) != phase {
+    if phase_of(journal) != phase {
         return stopped(Cause::WrongPhase);
     }
     Ok(())
