@@ -41,7 +41,9 @@ fn was_read<R: Read>(reader: &mut R, n: usize) -> io::Result<()> {
 }
 
 // Puts word i at the start of buf: no byte where it is missing or longer than buf.
-fn word<'a>(rt: &impl Env, i: usize, buf: &'a mut [u8]) -> &'a [u8] {
+fn word<'a>(rt: &impl Env, i: usize, buf: &'a mut [u8]) -> &'a [u8]
+    ensures { length result.now ≤ length buf.old }
+{
     let len = rt.arg(i, buf).unwrap_or(0);
     &buf[..len]
 }
