@@ -10,7 +10,7 @@ use std::marker::Model;
 // The rows of one sum, and how many sums there are.
 const ROWS: usize = 8;
 
-const SUMS: usize = MAX_VERTICES / ROWS;
+pub const SUMS: usize = MAX_VERTICES / ROWS;
 
 // An entry of an array of counts, and how many of what it counts are still to pass from it on.
 #[derive(Clone, Copy)]

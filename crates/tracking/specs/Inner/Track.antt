@@ -1,4 +1,4 @@
--- What is kept beside the matrix from join to join: how much each cell has, flags of the full cells, and the open pairs of each row with their sums.
+-- What is kept beside the matrix from join to join: how much each cell has, flags of the full cells, and the open pairs of each row.
 -- Assumes nothing.
 use Rattle.std.specs.Prelude.{◌≡◌, Bool, ◌&&◌, cond, List, ℕ, ◌+◌, ◌*◌, ◌≤◌, ◌<◌, eqb, ltb, length, get_or, set}
 use Rattle.finite.specs.Range.{bit}

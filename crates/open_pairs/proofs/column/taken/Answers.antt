@@ -1,5 +1,6 @@
 -- `open_pairs::column::taken` meets its contract: of the places passed, those that are not free are counted.
-use mathlib.Core.Path.{◌≡◌}
+use mathlib.Core.Path.{◌≡◌, ◌∙◌, ap₂}
+use Prim.Native.Nat.{max}
 use native.Mathlib.Omega.{arith}
 use lib.ListN.{length, length-append}
 use Rattle.std.proofs.lemmas.Slice.Zip.{zip_turn, zip_end}
@@ -20,7 +21,7 @@ loop-x-preserved c =
     (rw c.into_iter-x-iterator.ensures.into_iter_gives c.zip-x-items.ensures.second.0)
     c.loop-x.yielded_by (c.in-Some.field-0-0, c.in-Some.field-0-1) c.in-Some.is c.next.ensures.steps in
     let p = c.requires.2 i turn.0 in
-    let m = rw (turn.2 0, turn.3 0) at c.max-sum.ensures in
+    let m = c.max-sum.ensures ∙ ap₂ max (turn.2 0) (turn.3 0) in
     rw (length-append, sum_to-more) (omega (arith, m, taken-or_free _ _ p.0 p.1))
 
 pub returns : goal.returns
